@@ -1,0 +1,6 @@
+pub mod Bytes
+pub mod Rows
+pub mod Code
+pub mod Tables
+pub mod Limits
+pub mod Laws

@@ -1,0 +1,32 @@
+-- The limits of an image, which its file format can hold.
+use Rattle.std.specs.Prelude.{◌≢◌, ◌≤◌, ◌<◌, ◌^◌, Some, length, All}
+use Rattle.bim_code.specs.declared.image.Image.{Image}
+use Rattle.bim_code.specs.declared.image.ImageType.{ImageType}
+use Rattle.bim_code.specs.declared.image.ImageType.TheVariants.{Array, Record}
+use Rattle.bim_code.specs.declared.image.Routine.{Routine}
+
+-- an array has 1 to 8 indexes, and a record at most 65,535 fields
+abbrev pub TypeWithin : ImageType → Type 0
+TypeWithin (Array dynamic indexes cell) = (1 ≤ length indexes) × (length indexes ≤ 8)
+TypeWithin (Record fields) = length fields < 2 ^ 16
+TypeWithin _ = Unit {0}
+
+-- a routine has at most 65,535 slots, and its result is not the number that says that there is none
+pub record RoutineWithin (routine : Routine) : Type 0 where
+  pub slots : length routine.slots < 2 ^ 16
+  pub result : routine.result ≢ Some 65535
+
+-- counts fit their fields: up to 65,536 constants of up to 1,048,576 bytes, 65,535 types, parameters and routines,
+-- 65,536 globals, points of at most 65,535 entries, 262,144 instructions
+pub record WithinLimits (image : Image) : Type 0 where
+  pub constants : length image.constants ≤ 65536
+  pub texts : All (λ text. length text ≤ 1048576) image.constants
+  pub types : length image.types < 2 ^ 16
+  pub parts : All TypeWithin image.types
+  pub params : length image.params < 2 ^ 16
+  pub globals : length image.globals ≤ 65536
+  pub routines : length image.routines < 2 ^ 16
+  pub slots : All RoutineWithin image.routines
+  pub points : length image.points < 2 ^ 32
+  pub stacks : All (λ point. length point.stack < 2 ^ 16) image.points
+  pub code : length image.code ≤ 262144

@@ -1,0 +1,33 @@
+use mos_text::FaultKind;
+
+/// One instruction of the abstract machine, with its operands. What each does is the machine's
+/// matter; `rows` has its code and its place in the file.
+#[derive(Clone, Copy, PartialEq, Debug, Drop)]
+pub enum Instruction {
+    /// Takes a tick, or ends the run as spent.
+    Tick,
+    /// Puts an integer on the stack.
+    PushInt(i32),
+    /// Puts a boolean on the stack.
+    PushBool(bool),
+    /// Puts the constant of this number on the stack; one above 1,000,000 bytes is the fault TOOBIG.
+    PushText(u32),
+    /// Puts the value of this global slot on the stack.
+    LoadGlobal(u32),
+    /// Takes the top of the stack into this global slot.
+    StoreGlobal(u32),
+    /// The sum of the two integers on top.
+    Add,
+    /// The integer on top taken from the one below it.
+    Subtract,
+    /// The printed form of the value on top.
+    Show,
+    /// Takes the text on top and holds it for the next `Line`.
+    Write,
+    /// Writes all that is held, and a newline if the boolean on top, which it takes, is true.
+    Line,
+    /// Ends the run with the integer on top as its code.
+    End,
+    /// Ends the run with this fault.
+    Fault(FaultKind),
+}

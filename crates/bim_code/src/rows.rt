@@ -1,0 +1,61 @@
+ghost use Rattle.std.specs.Prelude.{◌≡◌, option_to_list};
+ghost use Rattle.bim_code.specs.Rows.{row_of, width};
+
+use crate::instruction::Instruction;
+
+/// The table of instructions: the code of each, those without an operand first.
+macro_rules! with_rows {
+    ($what:ident, $x:expr) => {
+        $what!(
+            $x;
+            0x01 => Tick, 0x13 => Add, 0x14 => Subtract, 0x1A => Show, 0x43 => Write,
+            0x44 => Line, 0x45 => End;
+            0x03 => PushInt, 0x04 => PushBool, 0x05 => PushText, 0x08 => LoadGlobal,
+            0x09 => StoreGlobal, 0x46 => Fault
+        )
+    };
+}
+
+macro_rules! code_in {
+    ($x:expr; $($alone:literal => $name:ident),*; $($code:literal => $with:ident),*) => {
+        match $x {
+            $(Instruction::$name => $alone,)*
+            $(Instruction::$with(_) => $code,)*
+        }
+    };
+}
+
+impl Instruction {
+    /// The byte that stands first in the instruction's bytes.
+    pub fn code(&self) -> u8
+        ensures { result ≡ (row_of self.now).code }
+    {
+        with_rows!(code_in, *self)
+    }
+
+    /// The operand, as the number that the file has in 4 bytes: an integer in two's complement,
+    /// 0 or 1 for a boolean, a fault's number.
+    pub fn operand(&self) -> Option<u32>
+        ensures { option_to_list result ≡ (row_of self.now).operands }
+    {
+        match *self {
+            Instruction::PushInt(number) => Some(number.cast_unsigned()),
+            Instruction::PushBool(flag) => Some(flag as u32),
+            Instruction::PushText(number)
+            | Instruction::LoadGlobal(number)
+            | Instruction::StoreGlobal(number) => Some(number),
+            Instruction::Fault(kind) => Some(kind.number() as u32),
+            _ => None,
+        }
+    }
+
+    /// How many bytes the instruction takes: 1, and 4 for an operand.
+    pub fn width(&self) -> u32
+        ensures { result ≡ width self.now }
+    {
+        match self.operand() {
+            Some(_) => 5,
+            None => 1,
+        }
+    }
+}

@@ -1,0 +1,112 @@
+-- The value of an expression and the effect of a statement, by the tree. Operands are evaluated from
+-- left to right. Variables go by their names: `names` has, at each place of the store, the name of
+-- the variable whose value stands there.
+
+use Rattle.std.specs.Prelude.{ℕ, ◌+◌, zero, suc, ℤ, Bool, true, false, List, [], ◌∷◌, ◌++◌, Option, Some, None, slice_get, slice_set, nat_lt, length, if◌then◌else◌}
+use Rattle.mos_text.specs.declared.fault_kind.FaultKind.{FaultKind}
+use Rattle.mos_text.specs.declared.fault_kind.FaultKind.TheVariants.{Overflow, TooBig, OutFull}
+use Rattle.mos_text.specs.declared.scalar.Scalar.{Scalar}
+use Rattle.mos_text.specs.declared.scalar.Scalar.TheVariants.{Int, Str}
+use Rattle.mos_meaning.specs.Texts.{is_text}
+use Rattle.mos_meaning.specs.State.{Memory, State, Stop, Failed, Spent, Stuck, Got, Gave, Halts, ticked}
+use Rattle.mos_meaning.specs.Syntax.{Expression, number, text, name, plus, minus, unbuilt, Arguments, nothing, one_more, Effect, assign, writeln, unbuilt_effect, Block, done, first}
+use Rattle.mos_meaning.specs.Values.{sum_of, difference_of, limited, shown, line_end, written}
+
+-- the place of a variable: that of its name; where there is none, one behind the last
+abbrev pub place_of : List ℕ → List (List ℕ) → ℕ
+place_of n [] = 0
+place_of n (m ∷ names) = if is_text n m then 0 else place_of n names + 1
+
+-- Values.
+
+-- a value, then what is done with it
+abbrev pub give : Got → (Scalar → State → Got) → Got
+give (Gave value s) go = go value s
+give (Halts stop s) go = Halts stop s
+
+-- a result, or the fault where there is none
+abbrev pub or_fault : {A : Type 0} → FaultKind → Option A → (A → Scalar) → State → Got
+or_fault kind None made s = Halts (Failed kind) s
+or_fault kind (Some x) made s = Gave (made x) s
+
+abbrev pub or_stuck : Option Scalar → State → Got
+or_stuck None s = Halts Stuck s
+or_stuck (Some value) s = Gave value s
+
+-- an operator on two integers
+abbrev pub combined : (ℤ → ℤ → Option ℤ) → Scalar → Scalar → State → Got
+combined operator (Int a) (Int b) s = or_fault Overflow (operator a b) Int s
+combined operator a b s = Halts Stuck s
+
+abbrev pub value_of : List (List ℕ) → Expression → State → Got
+value_of names (number n) s = Gave (Int n) s
+value_of names (text t) s = or_fault TooBig (limited t) Str s
+value_of names (name n) s = or_stuck (slice_get s.memory.store (place_of n names)) s
+value_of names (plus a b) s =
+    give (value_of names a s) (λ x s1. give (value_of names b s1) (λ y s2. combined sum_of x y s2))
+value_of names (minus a b) s =
+    give (value_of names a s) (λ x s1. give (value_of names b s1) (λ y s2. combined difference_of x y s2))
+value_of names unbuilt s = Halts Stuck s
+
+-- Effects.
+
+-- how statements end
+pub data Done : Type 0 where
+  Goes : (s : State) → Done                  -- on to the next one
+  Broke : (s : State) → Done                 -- out of the innermost loop
+  Continues : (s : State) → Done             -- to the next pass of the innermost loop
+  Ends : (stop : Stop) (s : State) → Done    -- the run
+
+abbrev pub do_with : Got → (Scalar → State → Done) → Done
+do_with (Gave value s) go = go value s
+do_with (Halts stop s) go = Ends stop s
+
+abbrev pub then_do : Done → (State → Done) → Done
+then_do (Goes s) go = go s
+then_do (Broke s) go = Broke s
+then_do (Continues s) go = Continues s
+then_do (Ends stop s) go = Ends stop s
+
+abbrev pub do_ticked : Option State → State → (State → Done) → Done
+do_ticked None s go = Ends Spent s
+do_ticked (Some after) s go = go after
+
+-- takes a tick first
+abbrev pub tick_do : State → (State → Done) → Done
+tick_do s go = do_ticked (ticked s s.ticks) s go
+
+-- the value goes to its variable
+abbrev pub put : ℕ → Scalar → State → Done
+put place value s =
+    if nat_lt place (length s.memory.store)
+    then Goes (record s { memory = record s.memory { store = slice_set s.memory.store place value } })
+    else Ends Stuck s
+
+-- all that was printed goes to the output, and a newline; or nothing does
+abbrev pub put_written : Option Memory → State → Done
+put_written None s = Ends (Failed OutFull) s
+put_written (Some m) s = Goes (record s { memory = m })
+
+abbrev pub put_line : Bool → List ℕ → State → Done
+put_line newline held s = put_written (written s.memory (held ++ line_end newline)) s
+
+-- a printed form, or the fault of one that is no text
+abbrev pub do_shown : Option (List ℕ) → State → (List ℕ → Done) → Done
+do_shown None s go = Ends (Failed TooBig) s
+do_shown (Some t) s go = go t
+
+-- the arguments are evaluated and printed in order before anything is written
+abbrev pub write_all : List (List ℕ) → Bool → Arguments → List ℕ → State → Done
+write_all names newline nothing held s = put_line newline held s
+write_all names newline (one_more e es) held s =
+    do_with (value_of names e s) (λ value s1. do_shown (shown value) s1 (λ t. write_all names newline es (held ++ t) s1))
+
+abbrev pub effect_of : List (List ℕ) → Effect → State → Done
+effect_of names (assign n e) s =
+    tick_do s (λ s1. do_with (value_of names e s1) (λ value s2. put (place_of n names) value s2))
+effect_of names (writeln all) s = tick_do s (λ s1. write_all names true all [] s1)
+effect_of names unbuilt_effect s = Ends Stuck s
+
+abbrev pub effects_of : List (List ℕ) → Block → State → Done
+effects_of names done s = Goes s
+effects_of names (first e rest) s = then_do (effect_of names e s) (λ s1. effects_of names rest s1)

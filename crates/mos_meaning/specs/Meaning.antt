@@ -1,0 +1,42 @@
+-- The meaning of a model: what it writes, which calls it makes, how many ticks it takes and how it
+-- ends, given its parameter text, the replies to its calls and its budget of ticks.
+
+use Rattle.std.specs.Prelude.{ℕ, ◌-◌, pos, List, [], ◌∷◌, length, replicate}
+use Rattle.mos_text.specs.declared.fault_kind.FaultKind.TheVariants.{BadParam}
+use Rattle.mos_text.specs.declared.scalar.Scalar.{Scalar}
+use Rattle.mos_text.specs.declared.scalar.Scalar.TheVariants.{Int}
+use Rattle.job_calls.specs.declared.reply.Reply.{Reply}
+use Rattle.mos_meaning.specs.State.{State, Stop, Exited, Failed, Stuck, Outcome, beginning}
+use Rattle.mos_meaning.specs.Syntax.{Block, variables_of}
+use Rattle.mos_meaning.specs.Effects.{Done, Goes, Broke, Continues, Ends, effects_of}
+
+-- what is told of a run that stopped in this state
+abbrev pub told : ℕ → Stop → State → Outcome
+told budget stop s = record {
+  output = s.memory.output;
+  calls = s.calls;
+  ticks = budget - s.ticks;
+  stop = stop
+}
+
+-- the end of the text ends a model with code 0; `break` and `next` stand in loops alone
+abbrev pub told_done : ℕ → Done → Outcome
+told_done budget (Goes s) = told budget (Exited (pos 0)) s
+told_done budget (Broke s) = told budget Stuck s
+told_done budget (Continues s) = told budget Stuck s
+told_done budget (Ends stop s) = told budget stop s
+
+-- a run whose parameter text is refused does nothing
+abbrev pub refused : Outcome
+refused = record { output = []; calls = []; ticks = 0; stop = Failed BadParam }
+
+-- before its first assignment a variable has the default
+abbrev pub defaults : ℕ → List Scalar
+defaults many = replicate many (Int (pos 0))
+
+-- a model has no parameters today, so that only the empty text is accepted
+abbrev pub meaning_of : Block → List ℕ → List Reply → ℕ → Outcome
+meaning_of model [] replies budget =
+    told_done budget
+      (effects_of (variables_of model) model (beginning (defaults (length (variables_of model))) replies budget))
+meaning_of model (byte ∷ params) replies budget = refused

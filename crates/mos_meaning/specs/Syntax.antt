@@ -1,0 +1,112 @@
+-- The forms of the language that a run can carry out today, read off the tree of a source. Every
+-- other form is `unbuilt`: it has no value and no effect.
+
+use Rattle.std.specs.Prelude.{ℕ, ℤ, Bool, List, [], ◌∷◌, ◌++◌, Option, Some, None, codes, map, if◌then◌else◌}
+use Rattle.std.specs.List.{list_any}
+use Rattle.mos_tree.specs.declared.expr.Expr.{Expr}
+use Rattle.mos_tree.specs.declared.expr.BinaryOperator.{BinaryOperator}
+use Rattle.mos_tree.specs.declared.expr.BinaryOperator.TheVariants.{Plus, Minus}
+use Rattle.mos_tree.specs.declared.expr.Expr.TheOpen.{Expr-F, Integer, Text, Name, Binary}
+use Rattle.mos_tree.specs.declared.expr.Expr.TheFolds.{fold-Expr}
+use Rattle.mos_tree.specs.declared.statement.Reference.{Reference}
+use Rattle.mos_tree.specs.declared.statement.Reference.TheVariants as target
+use Rattle.mos_tree.specs.declared.statement.Assignment.{Assignment}
+use Rattle.mos_tree.specs.declared.statement.Assignment.TheVariants as operator
+use Rattle.mos_tree.specs.declared.statement.Statement.{Statement}
+use Rattle.mos_tree.specs.declared.statement.Statement.TheOpen.{Statement-F, Assign, Call}
+use Rattle.mos_tree.specs.declared.statement.Statement.TheFolds.{fold-Statement}
+use Rattle.mos_tree.specs.declared.source.Top.{Top}
+use Rattle.mos_tree.specs.declared.source.Top.TheVariants as top
+use Rattle.mos_tree.specs.declared.source.Tree.{Tree}
+use Rattle.mos_meaning.specs.Texts.{is_text}
+
+-- an expression: a literal, a name, a sum or a difference
+pub data Expression : Type 0 where
+  number : ℤ → Expression
+  text : List ℕ → Expression
+  name : List ℕ → Expression
+  plus : Expression → Expression → Expression
+  minus : Expression → Expression → Expression
+  unbuilt : Expression
+
+-- expressions in their order, as the arguments of a statement
+pub data Arguments : Type 0 where
+  nothing : Arguments
+  one_more : Expression → Arguments → Arguments
+
+-- a statement, and statements one after the other
+pub data Effect : Type 0 where
+  assign : List ℕ → Expression → Effect
+  writeln : Arguments → Effect
+  unbuilt_effect : Effect
+
+pub data Block : Type 0 where
+  done : Block
+  first : Effect → Block → Block
+
+abbrev pub operation : BinaryOperator → Expression → Expression → Expression
+operation Plus a b = plus a b
+operation Minus a b = minus a b
+operation _ a b = unbuilt
+
+abbrev pub expression_step : Expr-F Expression → Expression
+expression_step (Integer n) = number n
+expression_step (Text t) = text t
+expression_step (Name n) = name n
+expression_step (Binary op a b) = operation op a b
+expression_step _ = unbuilt
+
+abbrev pub expression : Expr → Expression
+expression = fold-Expr Expression expression_step
+
+abbrev pub arguments : List Expression → Arguments
+arguments [] = nothing
+arguments (e ∷ es) = one_more e (arguments es)
+
+-- the library procedures that can be called
+abbrev pub procedure : List ℕ → Arguments → Effect
+procedure called all = if is_text (codes "writeln") called then writeln all else unbuilt_effect
+
+abbrev pub assignment : Reference → Assignment → Expression → Effect
+assignment (target.Name n) operator.Set e = assign n e
+assignment _ _ e = unbuilt_effect
+
+abbrev pub effect_step : Statement-F Effect → Effect
+effect_step (Assign line to op value) = assignment to op (expression value)
+effect_step (Call line called all) = procedure called (arguments (map expression all))
+effect_step _ = unbuilt_effect
+
+abbrev pub effect : Statement → Effect
+effect = fold-Statement Effect effect_step
+
+abbrev pub top_effect : Top → Effect
+top_effect (top.Statement s) = effect s
+top_effect _ = unbuilt_effect
+
+abbrev pub block : List Effect → Block
+block [] = done
+block (e ∷ es) = first e (block es)
+
+-- the statements of a model
+abbrev pub statements_of : Tree → Block
+statements_of tree = block (map top_effect tree.tops)
+
+-- the name is among these
+abbrev pub has_name : List ℕ → List (List ℕ) → Bool
+has_name n names = list_any (is_text n) names
+
+-- the names so far, and one more that is not among them
+abbrev pub with_name : List (List ℕ) → List ℕ → List (List ℕ)
+with_name names n = if has_name n names then names else names ++ n ∷ []
+
+abbrev pub names_after : List (List ℕ) → Effect → List (List ℕ)
+names_after names (assign n e) = with_name names n
+names_after names _ = names
+
+abbrev pub names_from : List (List ℕ) → Block → List (List ℕ)
+names_from names done = names
+names_from names (first e rest) = names_from (names_after names e) rest
+
+-- the variables of a model, in the order of their first assignments in the text
+abbrev pub variables_of : Block → List (List ℕ)
+variables_of all = names_from [] all
