@@ -1,0 +1,22 @@
+//! The tree of a source: what is written, form by form, without the brackets that only group.
+//!
+//! Each alternative of the grammar is a variant with its parts in order. Operators of one shape are
+//! one variant with an enum that names the operator. Each statement, heading and item has the line
+//! of the first token of the piece that it stands in; lines count from 1.
+#![tactic(auto)]
+
+mod declaration;
+mod expr;
+mod source;
+mod statement;
+mod verdict;
+
+pub use declaration::{
+    BaseType, Dimension, FieldGroup, FormalGroup, Heading, Item, Parameter, TypeForm,
+};
+pub use expr::{AggregateOperator, BinaryOperator, Conversion, Expr, Group, Index, UnaryOperator};
+pub use source::{Declared, Head, ModelName, Routine, RoutinePart, Top, Tree};
+pub use statement::{
+    Alternative, Arm, Assignment, Direction, Label, LabelGroup, Reference, Statement,
+};
+pub use verdict::Verdict;
