@@ -1,0 +1,2 @@
+//! The commands of the program, over any folder and any sink.
+#![tactic(auto)]
