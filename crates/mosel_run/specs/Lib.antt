@@ -1,3 +1,5 @@
 pub mod Compiled
 pub mod Built
 pub mod Closed
+pub mod Kept
+pub mod Stepping

@@ -1,2 +1,6 @@
 //! The commands of the program, over any folder and any sink.
 #![tactic(auto)]
+
+mod arithmetic;
+mod halt;
+mod machine;

@@ -1,0 +1,12 @@
+use mos_text::FaultKind;
+
+/// How the machine stops.
+#[derive(Clone, Copy, Debug)]
+pub(crate) enum Halt {
+    Exited(i32),
+    Failed(FaultKind),
+    /// A tick was needed and none was left.
+    Spent,
+    /// An instruction did not find what it wants; no image of an accepted model comes here.
+    Stuck,
+}
