@@ -5,21 +5,39 @@
 #![tactic(auto)]
 
 mod blob;
+mod dir_folder;
+mod entries;
 mod fault_kind;
+mod folder;
 mod kind;
+mod mem_folder;
+mod mem_sink;
 mod no_memory;
+mod numbered;
+mod out_sink;
 mod place;
 mod scalar;
 mod shared_blob;
+mod sink;
+mod sure_folder;
+mod sure_sink;
 mod text;
 mod typ;
 
 pub use blob::Blob;
+pub use dir_folder::DirFolder;
 pub use fault_kind::FaultKind;
+pub use folder::{Folder, Got, Stored};
 pub use kind::Kind;
+pub use mem_folder::MemFolder;
+pub use mem_sink::MemSink;
 pub use no_memory::NoMemory;
+pub use out_sink::OutSink;
 pub use place::Place;
 pub use scalar::Scalar;
 pub use shared_blob::SharedBlob;
+pub use sink::{Sink, Written, Wrote, write_whole};
+pub use sure_folder::SureFolder;
+pub use sure_sink::SureSink;
 pub use text::{Text, TextFault};
 pub use typ::Typ;

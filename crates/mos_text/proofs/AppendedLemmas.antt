@@ -1,0 +1,11 @@
+-- What two writes in a row append.
+
+use Rattle.std.proofs.Common.{◌≡◌, ℕ, ◌+◌, List, ◌++◌, Option, Some, None, take, drop, refl, ap, sym, ◌∙◌, append_assoc}
+use Rattle.std.proofs.Math.Seq.{take-add}
+use Rattle.mos_text.specs.SinkBytes.{appended}
+
+-- the first bytes of a text, then the next ones
+pub appended-take : (before : Option (List ℕ)) (text : List ℕ) (done n : ℕ) → appended (appended before (take done text)) (take n (drop done text)) ≡ appended before (take (done + n) text)
+appended-take None text done n = refl
+appended-take (Some bytes) text done n =
+    ap Some (append_assoc bytes (take done text) (take n (drop done text)) ∙ ap (λ more. bytes ++ more) (sym (take-add done n text)))

@@ -1,0 +1,3 @@
+mod AppendedLemmas
+mod EntryLemmas
+mod FilesLemmas

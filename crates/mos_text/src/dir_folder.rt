@@ -1,0 +1,67 @@
+ghost use Rattle.std.specs.Prelude.{None};
+
+use crate::{Blob, Folder, Got, Stored, Text};
+use std::alloc::Global;
+use std::io::{ErrorKind, Read};
+use std::rt::Files;
+use std::{fs, io};
+
+/// The files under the current folder of the process. Nothing is known of its content to a contract.
+///
+/// Only a name that is not there is missing; a folder in its place, or a file that may not be read,
+/// is a fault.
+#[derive(Drop)]
+pub struct DirFolder<'a, R: Files> {
+    rt: &'a R,
+    faults: u64,
+}
+
+impl<'a, R: Files> DirFolder<'a, R> {
+    pub fn new(rt: &'a R) -> DirFolder<'a, R> {
+        DirFolder { rt, faults: 0 }
+    }
+
+    /// How often the folder has failed.
+    pub fn faults(&self) -> u64 {
+        self.faults
+    }
+}
+
+/// The first bytes of the file, one more than the limit where there are so many.
+fn read_start<R: Files>(rt: &R, alloc: Global, name: &str, limit: u32) -> io::Result<Vec<u8>> {
+    let mut bytes = Vec::new(alloc);
+    let mut start = fs::open(rt, name)?.take(u64::from(limit) + 1);
+    start.read_to_end(&mut bytes)?;
+    Ok(bytes)
+}
+
+impl<R: Files> Folder for DirFolder<'_, R> {
+    ghost content = { λ _. None };
+
+    ghost faults = { λ f. f.faults };
+
+    fn get(&mut self, alloc: Global, name: &Text, limit: u32) -> Got {
+        match read_start(self.rt, alloc, name.as_str(), limit) {
+            Ok(bytes) if bytes.len() > limit as usize => Got::TooLarge,
+            Ok(bytes) => Got::Bytes(Blob::from_vec(bytes)),
+            Err(error) => match error.kind() {
+                ErrorKind::NotFound => Got::Missing,
+                ErrorKind::OutOfMemory => Got::NoMemory,
+                _ => {
+                    self.faults = self.faults.saturating_add(1);
+                    Got::Failed
+                }
+            },
+        }
+    }
+
+    fn put(&mut self, _alloc: Global, name: &Text, bytes: &[u8]) -> Stored {
+        match fs::write(self.rt, name.as_str(), bytes) {
+            Ok(()) => Stored::Done,
+            Err(_) => {
+                self.faults = self.faults.saturating_add(1);
+                Stored::Failed
+            }
+        }
+    }
+}
