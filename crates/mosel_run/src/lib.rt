@@ -1,2 +1,4 @@
 //! The commands of the program, over any folder and any sink.
 #![tactic(auto)]
+
+pub mod image_writer;
