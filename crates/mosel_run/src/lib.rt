@@ -2,3 +2,4 @@
 #![tactic(auto)]
 
 pub mod image_writer;
+pub mod report_writer;
