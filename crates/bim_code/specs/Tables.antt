@@ -1,5 +1,5 @@
 -- The bytes of an image: a heading, then seven parts. Numbers have their highest byte first.
-use Rattle.std.specs.Prelude.{ℕ, List, [], ◌∷◌, ◌++◌, Option, Some, None, length, flat_map, codes}
+use Rattle.std.specs.Prelude.{ℕ, List, [], ◌∷◌, ◌++◌, Option, Some, None, length, flat_map, codes, Bool}
 use Rattle.std.specs.Int.{from_bool}
 use Rattle.bim_code.specs.declared.image.Image.{Image}
 use Rattle.bim_code.specs.declared.image.ImageType.{ImageType}
@@ -25,7 +25,11 @@ constant_bytes text = u32_bytes (length text) ++ text
 unfoldable pub field_bytes : Field → List ℕ
 field_bytes field = u32_bytes field.name ++ u16_bytes field.typ
 
--- a type: its tag, then its parts. An array tells whether it is dynamic and, in one byte, how many indexes it has
+-- an array: whether it is dynamic, the number of its indexes in one byte, the type of each, the type of its cells
+unfoldable pub array_bytes : Bool → List ℕ → ℕ → List ℕ
+array_bytes dynamic indexes cell = from_bool dynamic ∷ length indexes ∷ flat_map u16_bytes indexes ++ u16_bytes cell
+
+-- a type: its tag, then its parts
 unfoldable pub type_bytes : ImageType → List ℕ
 type_bytes Integer = 1 ∷ []
 type_bytes Boolean = 2 ∷ []
@@ -35,7 +39,7 @@ type_bytes Event = 5 ∷ []
 type_bytes Range = 6 ∷ []
 type_bytes (Set member) = 7 ∷ u16_bytes member
 type_bytes (ListOf member) = 8 ∷ u16_bytes member
-type_bytes (Array dynamic indexes cell) = 9 ∷ from_bool dynamic ∷ length indexes ∷ flat_map u16_bytes indexes ++ u16_bytes cell
+type_bytes (Array dynamic indexes cell) = 9 ∷ array_bytes dynamic indexes cell
 type_bytes (Record fields) = 10 ∷ short_table field_bytes fields
 
 -- a default: its tag, then the integer, the boolean or the constant

@@ -4,3 +4,9 @@ pub mod Replies
 pub mod Answers
 pub mod Fitting
 pub mod Legal
+pub mod Quoting
+pub mod CallText
+pub mod ReplyText
+pub mod ReportText
+pub mod ErrorLines
+pub mod ReportExamples

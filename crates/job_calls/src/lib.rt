@@ -10,6 +10,7 @@ mod call;
 mod end;
 mod entry;
 mod reply;
+pub mod report;
 mod run_line;
 
 pub use call::{Call, Way};

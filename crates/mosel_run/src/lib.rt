@@ -4,3 +4,5 @@
 mod arithmetic;
 mod halt;
 mod machine;
+pub mod image_writer;
+pub mod report_writer;

@@ -1,0 +1,18 @@
+//! Worked examples of the text of a report: functions that do nothing, whose contracts are the
+//! examples.
+ghost use Rattle.job_calls.specs.ReportExamples.{CallTexts, HelloReport, ReplyTexts};
+
+/// The report of one run that writes hello, on one lane.
+pub fn hello_report()
+    ensures { HelloReport }
+{}
+
+/// Some calls with what is written of them.
+pub fn call_texts()
+    ensures { CallTexts }
+{}
+
+/// Some replies with what is written of them.
+pub fn reply_texts()
+    ensures { ReplyTexts }
+{}
