@@ -2,6 +2,7 @@ use Rattle.std.specs.Prelude.{ℕ, ◌+◌, List, sum, map, Option, None, Some}
 use Rattle.mos_tree.specs.declared.expr.Expr.{Expr}
 use Rattle.mos_tree.specs.declared.expr.Group.{Group}
 use Rattle.mos_tree.specs.declared.expr.Index.{Index}
+use Rattle.mos_tree.specs.Index.{in_group}
 use Rattle.mos_tree.specs.declared.expr.Expr.TheOpen.{Expr-F, Integer, Text, Truth, Name, Returned, Call, Field, CallField, Set, List as ListOf, If, Convert, Unary, Binary, Aggregate, Count}
 use Rattle.mos_tree.specs.declared.expr.Expr.TheFolds.{fold-Expr}
 
@@ -42,13 +43,5 @@ nodes = fold-Expr ℕ nodes_step
 abbrev pub nodes_in : List Expr → ℕ
 nodes_in all = sum (map nodes all)
 
-abbrev pub nodes_in_option : Option Expr → ℕ
-nodes_in_option None = 0
-nodes_in_option (Some e) = nodes e
-
 abbrev pub nodes_in_groups : List (Group Expr) → ℕ
-nodes_in_groups groups = sum (map (λ g. nodes g.set + 1) groups)
-
--- the nodes of an index, its sets and its condition among them
-abbrev pub nodes_in_index : Index Expr → ℕ
-nodes_in_index index = nodes_in_groups index.groups + nodes_in_option index.condition
+nodes_in_groups groups = nodes_of_groups (map (in_group nodes) groups)

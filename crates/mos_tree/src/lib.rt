@@ -5,12 +5,14 @@
 //! of the first token of the piece that it stands in; lines count from 1.
 #![tactic(auto)]
 
+mod count;
 mod declaration;
 mod expr;
 mod source;
 mod statement;
 mod verdict;
 
+pub use count::{nodes, statements};
 pub use declaration::{
     BaseType, Dimension, FieldGroup, FormalGroup, Heading, Item, Parameter, TypeForm,
 };
@@ -20,3 +22,6 @@ pub use statement::{
     Alternative, Arm, Assignment, Direction, Label, LabelGroup, Reference, Statement,
 };
 pub use verdict::Verdict;
+
+#[cfg(test)]
+mod tests;
