@@ -6,6 +6,7 @@
 
 mod blob;
 mod fault_kind;
+mod file_name;
 mod kind;
 mod no_memory;
 mod place;
@@ -16,6 +17,7 @@ mod typ;
 
 pub use blob::Blob;
 pub use fault_kind::FaultKind;
+pub use file_name::is_file_name;
 pub use kind::Kind;
 pub use no_memory::NoMemory;
 pub use place::Place;
