@@ -1,0 +1,5 @@
+//! What the program does: it reads its words and the source, and runs the model.
+#![tactic(auto)]
+
+mod bytes;
+pub mod words;
