@@ -3,3 +3,4 @@ pub mod Built
 pub mod Closed
 pub mod Kept
 pub mod Stepping
+pub mod Words
