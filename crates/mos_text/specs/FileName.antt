@@ -1,10 +1,6 @@
-<<<<<<< HEAD
 -- What a file name is: the names that the words of a command may list.
 
-use Rattle.std.specs.Prelude.{ℕ, ◌==◌, nat_le, Bool, true, false, not, ◌&&◌, ◌||◌, List, [], ◌∷◌, length}
-=======
 use Rattle.std.specs.Prelude.{ℕ, ◌==◌, nat_lt, nat_le, Bool, not, ◌&&◌, ◌||◌, List, length, slice_index}
->>>>>>> reader
 use Rattle.std.specs.List.{list_all, slice_split}
 
 -- a digit `0` to `9`
@@ -21,16 +17,8 @@ is_file_name_byte byte = is_letter byte || is_digit byte || (byte == 95) || (byt
 
 -- one or more of these bytes, the first of them neither `.` nor `-`
 abbrev pub is_file_name_part : List ℕ → Bool
-<<<<<<< HEAD
-is_file_name_part [] = false
-is_file_name_part (first ∷ rest) = not (first == 46) && not (first == 45) && list_all is_file_name_byte (first ∷ rest)
-
--- at most 255 bytes whose parts between slashes are all such parts, so at least one byte
-abbrev pub is_file_name : List ℕ → Bool
-=======
 is_file_name_part part = nat_lt 0 (length part) && not (slice_index part 0 == 46) && not (slice_index part 0 == 45) && list_all is_file_name_byte part
 
 -- at most 255 bytes, all of whose parts between slashes are such parts (so there is at least one byte)
 unfoldable pub is_file_name : List ℕ → Bool
->>>>>>> reader
 is_file_name name = nat_le (length name) 255 && list_all is_file_name_part (slice_split (λ byte. byte == 47) name)

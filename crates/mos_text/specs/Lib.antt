@@ -2,8 +2,8 @@ pub mod Calls
 pub mod Content
 pub mod FaultKinds
 pub mod Faults
+pub mod FileName
 pub mod Gets
 pub mod Kinds
-pub mod FileName
 pub mod Memory
 pub mod SinkBytes

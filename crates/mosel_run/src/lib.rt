@@ -1,13 +1,11 @@
-//! The commands of the program, over any folder and any sink.
+//! What the program does: it reads its words and the source, runs the model, and writes the report
+//! and the image, over any folder and any sink.
 #![tactic(auto)]
 
 mod arithmetic;
-mod halt;
-mod machine;
-pub mod image_writer;
-pub mod report_writer;
-//! What the program does: it reads its words and the source, and runs the model.
-#![tactic(auto)]
-
 mod bytes;
-pub mod words;
+mod halt;
+mod image_writer;
+mod machine;
+mod report_writer;
+mod words;
