@@ -4,3 +4,5 @@ pub mod Closed
 pub mod Kept
 pub mod Stepping
 pub mod Words
+pub mod Sizes
+pub mod Means

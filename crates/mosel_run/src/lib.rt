@@ -4,6 +4,7 @@
 
 mod arithmetic;
 mod bytes;
+mod compiler;
 mod halt;
 mod image_writer;
 mod machine;
