@@ -4,6 +4,7 @@
 
 mod arithmetic;
 mod bytes;
+mod error_lines;
 mod halt;
 mod image_writer;
 mod machine;
