@@ -4,7 +4,7 @@
 
 pub mod image;
 pub mod instruction;
-pub mod law;
+pub mod laws;
 pub mod rows;
 
 pub use image::{Default, Field, Form, Image, ImageType, Operand, Parameter, Point, Routine, Slot};

@@ -1,4 +1,4 @@
-ghost use Rattle.std.specs.Prelude.{◌≡◌, ◌≤◌, option_to_list};
+ghost use Rattle.std.specs.Prelude.{◌≡◌, option_to_list};
 ghost use Rattle.bim_code.specs.Rows.{row_of, width};
 
 use crate::instruction::Instruction;
@@ -51,8 +51,7 @@ impl Instruction {
 
     /// How many bytes the instruction takes: 1, and 4 for an operand.
     pub fn width(&self) -> u32
-        ensures value { result ≡ width self.now }
-        ensures most { result ≤ 5 }
+        ensures { result ≡ width self.now }
     {
         match self.operand() {
             Some(_) => 5,

@@ -2,7 +2,7 @@
 //! count and then its entries.
 ghost use Rattle.std.specs.Prelude.{◌≡◌, ◌++◌, IfOk, OnOk};
 ghost use Rattle.bim_code.specs.Tables.{heading_bytes, image_bytes};
-ghost use Rattle.bim_code.specs.Limits.{WithinLimits};
+ghost use Rattle.bim_code.specs.Limits.{FitsFields};
 
 use bim_code::Image;
 use mos_text::{Blob, NoMemory};
@@ -17,11 +17,11 @@ use code::put_code;
 use numbers::put_u16;
 use spelled::{put_long_table, put_short_table};
 
-/// The bytes of the image's file. The image keeps the limits of the format, so that each count fits
-/// its field.
+/// The bytes of the image's file. Each count fits its field, as in every image that keeps the
+/// limits of the format.
 #[tactic(auto, unfolding(bim_code::specs::Tables::image_bytes))]
 pub fn write_image(alloc: Global, image: &Image) -> Result<Blob, NoMemory>
-    requires { WithinLimits image.now }
+    requires { FitsFields image.now }
     ensures { IfOk result (λ bytes. bytes ≡ image_bytes image.now) }
 {
     let mut out = Vec::new(alloc);

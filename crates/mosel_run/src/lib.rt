@@ -5,6 +5,7 @@
 mod arithmetic;
 mod bytes;
 mod compiler;
+mod error_lines;
 mod halt;
 mod image_writer;
 mod machine;

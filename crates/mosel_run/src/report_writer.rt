@@ -13,7 +13,7 @@ mod words;
 
 use calls::{put_call, put_end};
 use replies::put_reply;
-use words::put_number;
+pub use words::put_number;
 
 /// The report of a journal and of its runs, run 0 first.
 #[tactic(auto, unfolding(job_calls::specs::ReportText::report_text))]

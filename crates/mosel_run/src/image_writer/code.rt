@@ -1,5 +1,5 @@
 //! The code's part of the file.
-ghost use Rattle.std.specs.Prelude.{◌≡◌, ◌≤◌, ◌++◌, length, OnOk};
+ghost use Rattle.std.specs.Prelude.{◌≡◌, ◌<◌, ◌^◌, ◌++◌, OnOk};
 ghost use Rattle.bim_code.specs.Code.{code_bytes, code_size};
 
 use super::numbers::put_u32;
@@ -12,7 +12,7 @@ impl Spelled for Instruction {
 
     ghost spelling = { instruction_bytes };
 
-    ghost Within = { λ _. Unit {0} };
+    ghost Fits = { λ _. Unit {0} };
 
     fn put(&self, out: &mut Vec<u8>) -> Result<(), AllocError> {
         out.push(self.code())?;
@@ -26,7 +26,7 @@ impl Spelled for Instruction {
 /// The number of bytes of the code, then each instruction.
 #[tactic(auto, unfolding(bim_code::specs::Code::code_bytes))]
 pub fn put_code(out: &mut Vec<u8>, code: &[Instruction]) -> Result<(), AllocError>
-    requires { length code.now ≤ 262144 }
+    requires { code_size code.now < 2 ^ 32 }
     ensures { OnOk result (out.new.items ≡ out.old.items ++ code_bytes code.now) }
 {
     put_u32(out, size_of(code))?;
@@ -35,7 +35,7 @@ pub fn put_code(out: &mut Vec<u8>, code: &[Instruction]) -> Result<(), AllocErro
 
 /// How many bytes the code takes.
 fn size_of(code: &[Instruction]) -> u32
-    requires { length code.now ≤ 262144 }
+    requires { code_size code.now < 2 ^ 32 }
     ensures { result ≡ code_size code.now }
 {
     let mut size = 0;

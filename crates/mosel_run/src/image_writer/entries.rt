@@ -1,5 +1,5 @@
 //! The bytes of each kind of entry.
-ghost use Rattle.std.specs.Prelude.{◌≡◌, ◌≤◌, ◌∷◌, ◌++◌, length, OnOk};
+ghost use Rattle.std.specs.Prelude.{◌≡◌, ◌<◌, ◌^◌, ◌∷◌, ◌++◌, length, OnOk};
 ghost use Rattle.bim_code.specs.Bytes.{u16_bytes};
 ghost use Rattle.bim_code.specs.Tables.{array_bytes, form_number, result_number};
 
@@ -14,7 +14,7 @@ impl Spelled for u16 {
 
     ghost spelling = { u16_bytes };
 
-    ghost Within = { λ _. Unit {0} };
+    ghost Fits = { λ _. Unit {0} };
 
     fn put(&self, out: &mut Vec<u8>) -> Result<(), AllocError> {
         put_u16(out, *self)
@@ -23,12 +23,12 @@ impl Spelled for u16 {
 
 #[tactic(auto, unfolding(bim_code::specs::Tables::constant_bytes))]
 impl Spelled for Text {
-    ghost use Rattle.std.specs.Prelude.{◌≤◌, length};
+    ghost use Rattle.std.specs.Prelude.{◌<◌, ◌^◌, length};
     ghost use Rattle.bim_code.specs.Tables.{constant_bytes};
 
     ghost spelling = { constant_bytes };
 
-    ghost Within = { λ text. length text ≤ 1048576 };
+    ghost Fits = { λ text. length text < 2 ^ 32 };
 
     fn put(&self, out: &mut Vec<u8>) -> Result<(), AllocError> {
         let bytes = self.as_bytes();
@@ -43,7 +43,7 @@ impl Spelled for Field {
 
     ghost spelling = { field_bytes };
 
-    ghost Within = { λ _. Unit {0} };
+    ghost Fits = { λ _. Unit {0} };
 
     fn put(&self, out: &mut Vec<u8>) -> Result<(), AllocError> {
         put_u32(out, self.name)?;
@@ -53,12 +53,12 @@ impl Spelled for Field {
 
 #[tactic(auto, unfolding(bim_code::specs::Tables::type_bytes))]
 impl Spelled for ImageType {
-    ghost use Rattle.bim_code.specs.Limits.{TypeWithin};
+    ghost use Rattle.bim_code.specs.Limits.{TypeFits};
     ghost use Rattle.bim_code.specs.Tables.{type_bytes};
 
     ghost spelling = { type_bytes };
 
-    ghost Within = { TypeWithin };
+    ghost Fits = { TypeFits };
 
     fn put(&self, out: &mut Vec<u8>) -> Result<(), AllocError> {
         match self {
@@ -98,7 +98,7 @@ fn put_tagged(out: &mut Vec<u8>, tag: u8, typ: u16) -> Result<(), AllocError>
 /// What stands behind the tag of an array.
 #[tactic(auto, unfolding(bim_code::specs::Tables::array_bytes))]
 fn put_array(out: &mut Vec<u8>, dynamic: bool, indexes: &[u16], cell: u16) -> Result<(), AllocError>
-    requires { length indexes.now ≤ 8 }
+    requires { length indexes.now < 2 ^ 8 }
     ensures { OnOk result (out.new.items ≡ out.old.items ++ array_bytes dynamic indexes.now cell) }
 {
     out.push(dynamic as u8)?;
@@ -113,7 +113,7 @@ impl Spelled for Default {
 
     ghost spelling = { default_bytes };
 
-    ghost Within = { λ _. Unit {0} };
+    ghost Fits = { λ _. Unit {0} };
 
     fn put(&self, out: &mut Vec<u8>) -> Result<(), AllocError> {
         match *self {
@@ -139,7 +139,7 @@ impl Spelled for Parameter {
 
     ghost spelling = { parameter_bytes };
 
-    ghost Within = { λ _. Unit {0} };
+    ghost Fits = { λ _. Unit {0} };
 
     fn put(&self, out: &mut Vec<u8>) -> Result<(), AllocError> {
         put_u32(out, self.name)?;
@@ -154,7 +154,7 @@ impl Spelled for Slot {
 
     ghost spelling = { slot_bytes };
 
-    ghost Within = { λ _. Unit {0} };
+    ghost Fits = { λ _. Unit {0} };
 
     fn put(&self, out: &mut Vec<u8>) -> Result<(), AllocError> {
         put_u16(out, self.typ)?;
@@ -164,12 +164,12 @@ impl Spelled for Slot {
 
 #[tactic(auto, unfolding(bim_code::specs::Tables::routine_bytes))]
 impl Spelled for Routine {
-    ghost use Rattle.bim_code.specs.Limits.{RoutineWithin};
+    ghost use Rattle.std.specs.Prelude.{◌<◌, ◌^◌, length};
     ghost use Rattle.bim_code.specs.Tables.{routine_bytes};
 
     ghost spelling = { routine_bytes };
 
-    ghost Within = { RoutineWithin };
+    ghost Fits = { λ routine. length routine.slots < 2 ^ 16 };
 
     fn put(&self, out: &mut Vec<u8>) -> Result<(), AllocError> {
         put_u32(out, self.address)?;
@@ -195,7 +195,7 @@ impl Spelled for Operand {
 
     ghost spelling = { operand_bytes };
 
-    ghost Within = { λ _. Unit {0} };
+    ghost Fits = { λ _. Unit {0} };
 
     fn put(&self, out: &mut Vec<u8>) -> Result<(), AllocError> {
         put_u16(out, self.typ)?;
@@ -221,7 +221,7 @@ impl Spelled for Point {
 
     ghost spelling = { point_bytes };
 
-    ghost Within = { λ point. length point.stack < 2 ^ 16 };
+    ghost Fits = { λ point. length point.stack < 2 ^ 16 };
 
     fn put(&self, out: &mut Vec<u8>) -> Result<(), AllocError> {
         put_u32(out, self.address)?;

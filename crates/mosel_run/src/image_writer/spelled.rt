@@ -9,17 +9,17 @@ use std::alloc::AllocError;
 pub trait Spelled {
     ghost spelling: { Self → List ℕ };
 
-    ghost Within: { Self → Type 0 };
+    ghost Fits: { Self → Type 0 };
 
     /// Writes the entry's bytes. Its own counts fit their fields.
     fn put(&self, out: &mut Vec<u8>) -> Result<(), AllocError>
-        requires { Within self.now }
+        requires { Fits self.now }
         ensures { OnOk result (out.new.items ≡ out.old.items ++ spelling self.now) };
 }
 
 /// Each entry, in order.
 pub fn put_all<T: Spelled>(out: &mut Vec<u8>, entries: &[T]) -> Result<(), AllocError>
-    requires { All T.Within entries.now }
+    requires { All T.Fits entries.now }
     ensures { OnOk result (out.new.items ≡ out.old.items ++ flat_map T.spelling entries.now) }
 {
     for entry in entries {
@@ -31,7 +31,7 @@ pub fn put_all<T: Spelled>(out: &mut Vec<u8>, entries: &[T]) -> Result<(), Alloc
 /// The number of entries in 16 bits, then each.
 pub fn put_short_table<T: Spelled>(out: &mut Vec<u8>, entries: &[T]) -> Result<(), AllocError>
     requires count { length entries.now < 2 ^ 16 }
-    requires each { All T.Within entries.now }
+    requires each { All T.Fits entries.now }
     ensures { OnOk result (out.new.items ≡ out.old.items ++ short_table T.spelling entries.now) }
 {
     put_u16(out, entries.len() as u16)?;
@@ -41,7 +41,7 @@ pub fn put_short_table<T: Spelled>(out: &mut Vec<u8>, entries: &[T]) -> Result<(
 /// The number of entries in 32 bits, then each.
 pub fn put_long_table<T: Spelled>(out: &mut Vec<u8>, entries: &[T]) -> Result<(), AllocError>
     requires count { length entries.now < 2 ^ 32 }
-    requires each { All T.Within entries.now }
+    requires each { All T.Fits entries.now }
     ensures { OnOk result (out.new.items ≡ out.old.items ++ long_table T.spelling entries.now) }
 {
     put_u32(out, entries.len() as u32)?;
