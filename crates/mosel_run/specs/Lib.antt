@@ -3,6 +3,9 @@ pub mod Built
 pub mod Closed
 pub mod Kept
 pub mod Stepping
-pub mod Words
 pub mod Sizes
 pub mod Means
+pub mod Schedule
+pub mod Puts
+pub mod Reported
+pub mod Running

@@ -1,0 +1,7 @@
+//! The command that the words of the command line mean.
+#![tactic(auto)]
+
+mod bytes;
+mod words;
+
+pub use words::{Command, WordFault, command};
