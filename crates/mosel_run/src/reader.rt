@@ -1,0 +1,6 @@
+mod body;
+mod fault;
+mod line;
+mod token;
+
+pub use fault::ReadFault;
