@@ -1,3 +1,5 @@
 pub mod Body
+pub mod BodyForms
+pub mod LineForms
 pub mod Lines
 pub mod Tokens

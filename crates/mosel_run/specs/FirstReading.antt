@@ -28,25 +28,43 @@ is_quote byte = byte == 34
 unfoldable pub is_string : Bytes → Bool
 is_string text = list_all (λ byte. not (byte == 92)) text && is_utf8 text
 
--- what stands between two quotes at the front
-unfoldable pub quoted_in : Bytes → Option (Bytes × Bytes)
-quoted_in bytes =
-    if (slice_index bytes 0 == 34) && nat_lt (position_or_len is_quote (drop 1 bytes)) (length (drop 1 bytes))
-    then Some (before_first is_quote (drop 1 bytes), skip_blanks (after_first is_quote (drop 1 bytes)))
+-- what stands before the first quote, and what stands behind it and its blanks
+unfoldable pub closed_in : Bytes → Option (Bytes × Bytes)
+closed_in inside =
+    if nat_lt (position_or_len is_quote inside) (length inside)
+    then Some (before_first is_quote inside, skip_blanks (after_first is_quote inside))
     else None
+
+-- what stands between two quotes at the front, and what stands behind them
+unfoldable pub quoted_in : Bytes → Option (Bytes × Bytes)
+quoted_in bytes = if slice_index bytes 0 == 34 then closed_in (drop 1 bytes) else None
 
 -- a value, where nothing is left behind it
 abbrev pub at_end : Bytes → Bytes → Option Bytes
 at_end text rest = if length rest == 0 then Some text else None
 
+abbrev pub after_text : Bytes × Bytes → Option Bytes
+after_text found = option_and_then (at_end found.0) (after_token (codes ")") found.1)
+
+abbrev pub after_open : Bytes → Option Bytes
+after_open bytes = option_and_then after_text (quoted_in bytes)
+
+abbrev pub after_writeln : Bytes → Option Bytes
+after_writeln bytes = option_and_then after_open (after_token (codes "(") bytes)
+
 -- the text of `writeln("text")`
 unfoldable pub writeln_in : Bytes → Option Bytes
-writeln_in line =
-    option_and_then (λ first. option_and_then (λ second. option_and_then (λ text. option_and_then (λ rest. at_end text.0 rest) (after_token (codes ")") text.1)) (quoted_in second)) (after_token (codes "(") first)) (after_token (codes "writeln") (skip_blanks line))
+writeln_in line = option_and_then after_writeln (after_token (codes "writeln") (skip_blanks line))
+
+abbrev pub after_name : Bytes × Bytes → Option Bytes
+after_name found = at_end found.0 found.1
+
+abbrev pub after_model : Bytes → Option Bytes
+after_model bytes = option_and_then after_name (quoted_in bytes)
 
 -- the name of `model "name"`
 unfoldable pub opening_in : Bytes → Option Bytes
-opening_in line = option_and_then (λ first. option_and_then (λ name. at_end name.0 name.1) (quoted_in first)) (after_token (codes "model") (skip_blanks line))
+opening_in line = option_and_then after_model (after_token (codes "model") (skip_blanks line))
 
 unfoldable pub is_end : Bytes → Bool
 is_end line = is_some (after_token (codes "end-model") (skip_blanks line))

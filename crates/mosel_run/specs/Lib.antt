@@ -1,3 +1,4 @@
 pub mod FirstForm
+pub mod FirstFormLaws
 pub mod FirstReading
 pub mod Words

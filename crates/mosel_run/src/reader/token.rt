@@ -1,7 +1,7 @@
 //! The tokens of a line and the blanks between them.
 ghost use Rattle.std.specs.Prelude.{◌≡◌, MatchOption, Some, None};
 ghost use Rattle.mosel_run.specs.FirstForm.{is_blank, skip_blanks};
-ghost use Rattle.mosel_run.specs.FirstReading.{after_token, quoted_in};
+ghost use Rattle.mosel_run.specs.FirstReading.{after_token, quoted_in, closed_in};
 
 use crate::bytes::place_of;
 
@@ -39,7 +39,13 @@ pub fn quoted(bytes: &[u8]) -> Option<(&[u8], &[u8])>
     if bytes.is_empty() || bytes[0] != b'"' {
         return None;
     }
-    let inside = &bytes[1..];
+    closed(&bytes[1..])
+}
+
+#[tactic(auto, unfolding(crate::specs::FirstReading::closed_in))]
+fn closed(inside: &[u8]) -> Option<(&[u8], &[u8])>
+    ensures { MatchOption result (closed_in inside.now ≡ None) (λ found. closed_in inside.now ≡ Some (found.0.now, found.1.now)) }
+{
     let place = place_of(b'"', inside);
     if place == inside.len() {
         return None;
