@@ -2,4 +2,5 @@ pub mod Body
 pub mod BodyForms
 pub mod LineForms
 pub mod Lines
+pub mod SourceForms
 pub mod Tokens
