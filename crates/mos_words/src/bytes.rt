@@ -7,5 +7,7 @@ pub fn place_of(wanted: u8, text: &[u8]) -> usize
     ensures place { result ≡ position_or_len (λ byte. byte == wanted) text.now }
     ensures within { result ≤ length text.now }
 {
-    text.iter().position(|byte| *byte == wanted).unwrap_or(text.len())
+    text.iter()
+        .position(|byte| *byte == wanted)
+        .unwrap_or(text.len())
 }

@@ -4,4 +4,5 @@
 mod bytes;
 mod words;
 
+pub use bytes::place_of;
 pub use words::{Command, WordFault, command};

@@ -14,7 +14,6 @@ ghost use Rattle.mos_words.specs.declared.words.options.OptionName.TheVariants.{
 ghost use Rattle.mos_words.specs.declared.words.commands.WordFault.TheVariants.{Usage};
 
 pub use commands::{Command, WordFault};
-
 use files::{files, lacks_value, only_source};
 use mos_text::Text;
 use options::{OptionName, has_wrong_value, is_given_twice, is_unknown, setting};
@@ -70,7 +69,9 @@ fn has_misshapen(arguments: &[Text]) -> bool
 fn has_empty_values(arguments: &[Text]) -> bool
     ensures { result ≡ list_any has_empty_value arguments.now }
 {
-    arguments.iter().any(|word| has_empty_value(word.as_bytes()))
+    arguments
+        .iter()
+        .any(|word| has_empty_value(word.as_bytes()))
 }
 
 #[tactic(auto, unfolding(crate::specs::Words::breaks_options))]
@@ -85,19 +86,25 @@ fn breaks_options(options: &[OptionName], arguments: &[Text]) -> bool
 fn has_unknown(options: &[OptionName], arguments: &[Text]) -> bool
     ensures { result ≡ list_any (is_unknown options.now) arguments.now }
 {
-    arguments.iter().any(|word| is_unknown(options, word.as_bytes()))
+    arguments
+        .iter()
+        .any(|word| is_unknown(options, word.as_bytes()))
 }
 
 fn has_one_twice(options: &[OptionName], arguments: &[Text]) -> bool
     ensures { result ≡ list_any (λ option. nat_lt 1 (length (values option arguments.now))) options.now }
 {
-    options.iter().any(|option| is_given_twice(*option, arguments))
+    options
+        .iter()
+        .any(|option| is_given_twice(*option, arguments))
 }
 
 fn has_one_wrong(options: &[OptionName], arguments: &[Text]) -> bool
     ensures { result ≡ list_any (λ option. not (list_all (is_value option) (values option arguments.now))) options.now }
 {
-    options.iter().any(|option| has_wrong_value(*option, arguments))
+    options
+        .iter()
+        .any(|option| has_wrong_value(*option, arguments))
 }
 
 #[tactic(auto, unfolding(crate::specs::Words::breaks_options))]
@@ -106,4 +113,99 @@ fn lanes(arguments: &[Text]) -> u32
     ensures { result ≡ setting_of Lanes (values Lanes arguments.now) }
 {
     setting(OptionName::Lanes, arguments)
+}
+
+#[cfg(test)]
+mod tests {
+    use super::*;
+    use std::process::Abort;
+    use std::test::Fail;
+
+    /// The command of a line whose words are what stands between single blanks.
+    fn command_of_line(alloc: Global, line: &str) -> Result<Command, WordFault> {
+        let mut words = Vec::new(alloc);
+        for word in line.split(' ') {
+            let Ok(word) = Text::new(alloc, word.as_bytes()) else {
+                return Err(WordFault::NoMemory);
+            };
+            let Ok(()) = words.push(word) else {
+                return Err(WordFault::NoMemory);
+            };
+        }
+        command(alloc, &words)
+    }
+
+    fn check_run(rt: &impl Abort, alloc: Global, line: &str, lanes: u32) {
+        match command_of_line(alloc, line) {
+            Ok(
+                Command::Run {
+                    source,
+                    lanes: found,
+                },
+            ) => {
+                assert_eq!(rt; source.as_str(), "a.mos", "{line}");
+                assert_eq!(rt; found, lanes, "{line}");
+            }
+            Err(_) => assert!(rt; false, "{line}"),
+        }
+    }
+
+    #[test]
+    fn commands(rt: HostRuntime) {
+        for (line, lanes) in [
+            ("mosel run a.mos", 16),
+            ("--x run a.mos", 16),
+            (" run a.mos", 16),
+            ("mosel run a.mos --lanes 1", 1),
+            ("mosel run --lanes 64 a.mos", 64),
+            ("mosel run --lanes=7 a.mos", 7),
+            ("mosel run a.mos --lanes=0000000064", 64),
+            ("mosel run a.mos --lanes 01", 1),
+        ] {
+            check_run(&rt, rt.alloc(), line, lanes);
+        }
+    }
+
+    #[test]
+    fn usages(rt: HostRuntime) {
+        for line in [
+            "",
+            "mosel",
+            "mosel run",
+            "mosel check a.mos",
+            "mosel Run a.mos",
+            "mosel run b.mos.x",
+            "mosel run a.bim",
+            "mosel run .mos",
+            "mosel run a.mos b.mos",
+            "mosel run a.mos a.mos",
+            "mosel run a.mos ",
+            "mosel run  a.mos",
+            "mosel run - a.mos",
+            "mosel run -- a.mos",
+            "mosel run -l a.mos",
+            "mosel run ../a.mos",
+            "mosel run a.mos --lanes",
+            "mosel run a.mos --lanes=",
+            "mosel run --lanes --lanes a.mos",
+            "mosel run a.mos --lanes -1",
+            "mosel run a.mos --lanes 0",
+            "mosel run a.mos --lanes 65",
+            "mosel run a.mos --lanes=00000000016",
+            "mosel run a.mos --lanes=4294967297",
+            "mosel run a.mos --lanes=+1",
+            "mosel run a.mos --lanes=1x",
+            "mosel run a.mos --lanes==1",
+            "mosel run a.mos --lanes 1 --lanes 1",
+            "mosel run a.mos --lanes=1 --lanes=1",
+            "mosel run a.mos --lane 1",
+            "mosel run a.mos --lanesx=1",
+            "mosel run a.mos --help",
+            "mosel run a.mos --budget 5",
+            "mosel run a.mos --=1",
+        ] {
+            let answer = command_of_line(rt.alloc(), line);
+            assert!(rt; matches!(answer, Err(WordFault::Usage)), "{line}");
+        }
+    }
 }

@@ -3,3 +3,9 @@ pub mod Standing
 pub mod Expressions
 pub mod Effects
 pub mod Course
+pub mod Body
+pub mod BodyForms
+pub mod LineForms
+pub mod Lines
+pub mod SourceForms
+pub mod Tokens

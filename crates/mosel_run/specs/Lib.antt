@@ -9,3 +9,6 @@ pub mod Schedule
 pub mod Puts
 pub mod Reported
 pub mod Running
+pub mod FirstForm
+pub mod FirstFormLaws
+pub mod FirstReading

@@ -6,4 +6,5 @@ mod arithmetic;
 mod compiler;
 mod halt;
 mod machine;
+mod reader;
 mod runner;

@@ -32,7 +32,8 @@ pub fn lacks_value(arguments: &[Text]) -> bool
 {
     for (place, word) in arguments.iter().enumerate() {
         let behind = &arguments[place + 1..];
-        if takes_next(word.as_bytes()) && (behind.is_empty() || begins_with_dash(first_of(behind)))
+        if takes_next(word.as_bytes())
+            && (behind.is_empty() || begins_with_dash(first_of(behind)))
         {
             return true;
         }

@@ -42,7 +42,11 @@ pub fn value_in(word: &[u8]) -> &[u8]
 {
     let text = behind_dashes(word);
     let place = place_of(b'=', text);
-    if place < text.len() { &text[place + 1..] } else { &[] }
+    if place < text.len() {
+        &text[place + 1..]
+    } else {
+        &[]
+    }
 }
 
 #[tactic(auto, unfolding(crate::specs::Words::is_misshapen))]

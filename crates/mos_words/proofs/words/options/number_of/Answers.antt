@@ -44,5 +44,5 @@ loop-digit-preserved c =
     let digit = digit_at c.args.digits.now c.loop-digit.digit-index c.requires c.loop-digit-test.true in
     record {
       written = grind (arith, common_steps);
-      small = (step c.loop-digit.number c.loop-digit.digit-index _ c.loop-digit.invariant.small digit.0 digit.1 digit.2).0
+      small = (step c.loop-digit.number c.loop-digit.digit-index _ c.loop-digit.invariant.small digit.0 digit.1 digit.2).0;
     }
