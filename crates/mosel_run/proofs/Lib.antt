@@ -9,3 +9,4 @@ pub mod LineForms
 pub mod Lines
 pub mod SourceForms
 pub mod Tokens
+pub mod Steps
