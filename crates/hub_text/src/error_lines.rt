@@ -85,3 +85,22 @@ fn put_kind(out: &mut Vec<u8>, kind: &Kind) -> Result<(), AllocError>
         }
     }
 }
+
+#[cfg(test)]
+mod tests {
+    use super::*;
+    use std::test::Fail;
+
+    #[test]
+    fn each_line(rt: HostRuntime) -> Result<(), Fail> {
+        let alloc = rt.alloc();
+        let name = Text::from_string(String::from_str(alloc, "a.mos")?);
+        assert_eq!(rt; write_usage(alloc)?.as_bytes(), b"mosel: usage\n".as_slice());
+        assert_eq!(rt; write_missing(alloc, &name)?.as_bytes(), b"mosel: a.mos: missing\n".as_slice());
+        assert_eq!(rt; write_too_large(alloc, &name)?.as_bytes(), b"mosel: a.mos: too large\n".as_slice());
+        assert_eq!(rt; write_read_fault(alloc, &name)?.as_bytes(), b"mosel: a.mos: read fault\n".as_slice());
+        let kind = Kind::Unknown(Text::from_string(String::from_str(alloc, "x")?));
+        assert_eq!(rt; write_verdict(alloc, &name, 2, &kind)?.as_bytes(), b"mosel: a.mos line 2: UNKNOWN x\n".as_slice());
+        Ok(())
+    }
+}

@@ -136,3 +136,6 @@ fn put_caller(out: &mut Vec<u8>, caller: Option<u32>) -> Result<(), AllocError>
         Some(run) => put_number(out, run),
     }
 }
+
+#[cfg(test)]
+mod tests;
