@@ -9,6 +9,7 @@ mod shape;
 
 ghost use Rattle.std.specs.Prelude.{◌≡◌, false, not, nat_lt, length, IfOk, IsErrOf};
 ghost use Rattle.std.specs.List.{list_any, list_all};
+ghost use Rattle.mos_words.specs.Fit.{IsFit};
 ghost use Rattle.mos_words.specs.Words.{command_of, run_command, is_misshapen, has_empty_value, is_unknown, is_value, breaks_words, breaks_options, run_options, values, setting_of};
 ghost use Rattle.mos_words.specs.declared.words.options.OptionName.TheVariants.{Lanes};
 ghost use Rattle.mos_words.specs.declared.words.commands.WordFault.TheVariants.{Usage};
@@ -28,6 +29,7 @@ const RUN_OPTIONS: [OptionName; 1] = [OptionName::Lanes];
 #[tactic(auto, unfolding(crate::specs::Words::command_of))]
 pub fn command(alloc: Global, words: &[Text]) -> Result<Command, WordFault>
     ensures value { IfOk result (λ command. command_of words.now ≡ Some command) }
+    ensures fit { IfOk result IsFit }
     ensures usage { IsErrOf result Usage → command_of words.now ≡ None }
 {
     match words {

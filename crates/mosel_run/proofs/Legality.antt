@@ -97,7 +97,7 @@ follow_dones o before lane (suc many) h some all none free =
 
 -- the entries up to the end of run 0
 abbrev head : Opening → End → List Entry
-head o end = opened o ∷ claimed o ∷ finished end ∷ []
+head o end = opened o ∷ claimed o.params ∷ finished end ∷ []
 
 head_ended : (o : Opening) (end : End) → IsEnded o (head o end)
 head_ended o end = record { opened_by = refl; no_quit = refl; claimed_0 = refl; finished_0 = refl; one_run = refl }
@@ -106,7 +106,7 @@ head_ended o end = record { opened_by = refl; no_quit = refl; claimed_0 = refl; 
 head_own : (o : Opening) (end : End) (lane : ℕ) → 1 ≤ lane → own_entries lane (head o end) ≡ []
 head_own o end lane some =
     let apart : nat_eq 0 lane ≡ false = ne_eqb 0 lane (λ e. absurd (omega arith)) in
-    ap (λ b. if b then opened o ∷ (if b then claimed o ∷ (if b then finished end ∷ [] else []) else (if b then finished end ∷ [] else [])) else (if b then claimed o ∷ (if b then finished end ∷ [] else []) else (if b then finished end ∷ [] else []))) apart
+    ap (λ b. if b then opened o ∷ (if b then claimed o.params ∷ (if b then finished end ∷ [] else []) else (if b then finished end ∷ [] else [])) else (if b then claimed o.params ∷ (if b then finished end ∷ [] else []) else (if b then finished end ∷ [] else []))) apart
 
 pub is_legal : (o : Opening) (end : End) → CanOpen o → IsLegal (schedule_of o end)
 is_legal o end can =

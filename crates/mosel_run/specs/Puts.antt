@@ -1,8 +1,8 @@
 -- The files that a journal puts, in order: the master's image first, then each name in order of the
 -- first entry that makes it, with what the last such entry gives it.
 
-use Rattle.std.specs.Prelude.{ℕ, ◌-◌, ◌++◌, Bool, List, [], ◌∷◌, Option, Some, None, nat_eq, length, take, codes, map, unwrap_or, if◌then◌else◌, slice_get, starts_with}
-use Rattle.std.specs.List.{list_any, filter_map}
+use Rattle.std.specs.Prelude.{ℕ, ◌-◌, ◌++◌, Bool, List, [], ◌∷◌, Option, Some, None, nat_eq, length, take, codes, map, unwrap_or, if◌then◌else◌, slice_get}
+use Rattle.std.specs.List.{list_any, filter_map, starts_with}
 use Rattle.std.specs.Str.{bytes_eq}
 use Rattle.mos_text.specs.Content.{Files, put_file}
 use Rattle.job_calls.specs.declared.call.Call.{Call}

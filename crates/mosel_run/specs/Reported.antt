@@ -21,6 +21,7 @@ use Rattle.bim_code.specs.declared.image.Image.{Image}
 use Rattle.mos_meaning.specs.Syntax.{statements_of}
 use Rattle.mos_meaning.specs.Follows.{Model, FollowsSources}
 use Rattle.mosel_run.specs.FirstForm.{IsSource}
+use Rattle.mosel_run.specs.Jobs.{opening_on}
 use Rattle.mosel_run.specs.Means.{Means}
 use Rattle.mosel_run.specs.Puts.{Put, puts_of, put_all}
 
@@ -38,20 +39,16 @@ pub record IsWhole (o : Opening) (journal : List Entry) : Type 0 where
   pub all_finished : (run : ℕ) → run < run_count journal → is_finished run journal ≡ true
   pub all_done : (lane : ℕ) → lane < o.lanes → EndsDone (own_entries lane journal)
 
--- the one listed file, accepted, and its tree
-abbrev pub listed : List ℕ → List ℕ → Listed
-listed name source = record { name = name; bytes = source; code = 0 }
-
--- a job over one source
-abbrev pub opening_on : List ℕ → List ℕ → ℕ → Opening
-opening_on name source lanes = record { lanes = lanes; budget = 10000000; params = []; files = listed name source ∷ [] }
+-- the accepted source as a model
+abbrev pub model_of : Tree → Image → Option Model
+model_of tree image = Some record { statements = statements_of tree; image = image }
 
 -- a whole job over one source: the journal follows it, and the image means it
 pub record IsJob (o : Opening) (source : List ℕ) (tree : Tree) (image : Image) (journal : List Entry) (lines : List RunLine) : Type 0 where
   pub accepted : IsSource source tree
   pub means : Means (statements_of tree) image
   pub whole : IsWhole o journal
-  pub follows : FollowsSources journal lines (Some record { statements = statements_of tree; image = image } ∷ [])
+  pub follows : FollowsSources journal lines (model_of tree image ∷ [])
 
 -- run 0 ended with code 0; by a fault or with another code; for want of ticks
 abbrev pub EndedWell : Option End → Type 0
@@ -95,4 +92,4 @@ pub record HasReported (name : List ℕ) (lanes : ℕ) (content : Option Files) 
   pub job : IsJob (opening_on name source lanes) source tree image journal lines
   pub ends : ended (finish_of 0 journal)
   pub reported : sink_after ≡ appended sink_before (report_text journal lines)
-  pub puts : stored (puts_of (opening_on name source lanes) journal (Some record { statements = statements_of tree; image = image } ∷ []))
+  pub puts : stored (puts_of (opening_on name source lanes) journal (model_of tree image ∷ []))

@@ -13,8 +13,8 @@ use Rattle.job_calls.specs.Runs.{Opening}
 abbrev pub opened : Opening → Entry
 opened o = record { lane = 0; run = None; call = Open o.lanes o.budget o.params o.files; reply = Opened }
 
-abbrev pub claimed : Opening → Entry
-claimed o = record { lane = 0; run = None; call = Claim; reply = Claimed 0 0 o.params }
+abbrev pub claimed : List ℕ → Entry
+claimed params = record { lane = 0; run = None; call = Claim; reply = Claimed 0 0 params }
 
 abbrev pub finished : End → Entry
 finished end = record { lane = 0; run = Some 0; call = Finish end; reply = Acknowledged }
@@ -28,4 +28,4 @@ dones lane zero = told_done 0 ∷ []
 dones lane (suc many) = told_done lane ∷ dones (lane + 1) many
 
 abbrev pub schedule_of : Opening → End → List Entry
-schedule_of o end = opened o ∷ claimed o ∷ finished end ∷ dones 1 (o.lanes - 1)
+schedule_of o end = opened o ∷ claimed o.params ∷ finished end ∷ dones 1 (o.lanes - 1)

@@ -5,6 +5,9 @@
 mod arithmetic;
 mod compiler;
 mod halt;
+mod jobs;
 mod machine;
 mod reader;
 mod runner;
+mod schedule;
+mod status;

@@ -3,5 +3,5 @@ use Rattle.std.proofs.Common.{◌≡◌, replicate, pos}
 use Rattle.mos_meaning.specs.Meaning.{defaults}
 use Rattle.mosel_run.proofs.machine.defaults.Given as goal
 
-abbrev pub invariant-loop-_place : goal.invariant-loop-_place
-invariant-loop-_place l = l.values.items ≡ defaults l._place
+abbrev pub invariant-loop-place : goal.invariant-loop-place
+invariant-loop-place l = l.values.items ≡ defaults l._place
