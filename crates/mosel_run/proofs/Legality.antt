@@ -6,6 +6,7 @@ use Rattle.std.specs.List.{list_any}
 use Rattle.std.proofs.lemmas.List.Folds.{list_any-append}
 use Rattle.std.proofs.lemmas.List.Elements.{filter-append}
 use Rattle.std.proofs.lemmas.Bool.{lt-ltb}
+use Rattle.std.proofs.lemmas.List.Sums.{fold-append}
 use Rattle.job_calls.specs.declared.end.End.{End}
 use Rattle.job_calls.specs.declared.entry.Entry.{Entry}
 use Rattle.job_calls.specs.declared.reply.Answer.TheVariants.{Ready, NotYet, Shut}
@@ -27,11 +28,10 @@ pub record IsEnded (o : Opening) (before : List Entry) : Type 0 where
   pub one_run : run_count before ≡ 1
 
 count_same : (lane : ℕ) (es : List Entry) → run_count (es ++ told_done lane ∷ []) ≡ run_count es
-count_same lane es = ap (λ n. n + 1) (same es)
-  where
-    same : (es : List Entry) → count_by (λ (e : Entry). is_started e.reply) (es ++ told_done lane ∷ []) ≡ count_by (λ (e : Entry). is_started e.reply) es
-    same [] = refl
-    same (e ∷ es) = ap (λ n. cond (is_started e.reply) (1 + n) n) (same es)
+count_same lane es =
+    let e : count_by (λ (e : Entry). is_started e.reply) (es ++ told_done lane ∷ []) ≡ count_by (λ (e : Entry). is_started e.reply) es + 0 =
+        fold-append _ 0 es (told_done lane ∷ []) in
+    omega (arith, e)
 
 opened_more : (o : Opening) (lane : ℕ) (es : List Entry) → opening es ≡ Some o → opening (es ++ told_done lane ∷ []) ≡ Some o
 opened_more o lane [] q = cc
@@ -67,7 +67,7 @@ told o before lane h free less =
     let none : unclaimed before ≡ None =
         ap (first_unclaimed before 0) h.one_run ∙ ap (λ b. if b then first_unclaimed before 1 0 else Some 0) h.claimed_0 in
     record {
-      fit = subst IsTrue (sym fit) tt;
+      fit = subst IsTrue (sym fit) refl;
       answered =
         ap (λ b. if b then Shut else claim_answer before lane) h.no_quit
         ∙ ap (λ b. if not b && not (nat_eq lane 0) then NotYet else next_run before (unclaimed before)) h.claimed_0
@@ -112,8 +112,8 @@ pub is_legal : (o : Opening) (end : End) → CanOpen o → IsLegal (schedule_of 
 is_legal o end can =
     let below : nat_lt 0 o.lanes ≡ true = lt-ltb 0 o.lanes (omega (arith, can.some_lane)) in
     (record { lane = refl; run = refl; opened = can; reply = refl },
-     (record { fit = subst IsTrue (sym (ap (λ b. b && true) below)) tt; answered = refl },
-      record { fit = subst IsTrue (sym (ap (λ b. b && true) below)) tt; answered = refl },
+     (record { fit = subst IsTrue (sym (ap (λ b. b && true) below)) refl; answered = refl },
+      (record { fit = subst IsTrue (sym (ap (λ b. b && true) below)) refl; answered = refl },
       follow_dones o (head o end) 1 (o.lanes - 1) (head_ended o end) (omega arith) (omega (arith, can.some_lane))
         (λ l less. head_own o end l less)
-        (record { holds_none = refl; not_done = refl })))
+        (record { holds_none = refl; not_done = refl }))))

@@ -10,6 +10,12 @@ pub mod Lines
 pub mod SourceForms
 pub mod Tokens
 pub mod Steps
+
+
+
 pub mod SizeLemmas
 pub mod Legality
 pub mod NeverStuck
+pub mod FirstModels
+pub mod Whole
+pub mod WholeJobs

@@ -1,6 +1,6 @@
 -- A model whose statements all write one text is never stuck.
 
-use Rattle.std.proofs.Common.{◌≡◌, ℕ, List, [], ◌∷◌, ◌++◌, Option, Some, None, refl, true}
+use Rattle.std.proofs.Common.{◌≡◌, ℕ, List, [], ◌∷◌, ◌++◌, Option, Some, None, refl, true, ◌≢◌}
 use Rattle.mos_text.specs.declared.scalar.Scalar.{Scalar}
 use Rattle.mos_text.specs.declared.scalar.Scalar.TheVariants.{Str}
 use Rattle.mos_text.specs.declared.fault_kind.FaultKind.{FaultKind}
@@ -45,9 +45,17 @@ fine_effect : (names : List (List ℕ)) (e : Effect) (s : State) → WritesText 
 fine_effect names (writeln (one_more (text t) nothing)) s h =
     fine_tick (ticked s s.ticks) s _ (λ s1. fine_text (limited t) s1 _ (λ u. fine_shown (limited u) s1 _ (λ v.
     fine_written (written s1.memory (([] ++ v) ++ line_end true)) s1)))
-fine_effect names e s h = ?
+fine_effect names e s h = absurd h
 
-fine_block : (names : List (List ℕ)) (all : Block) (s : State) → WriteTexts all → Fine (effects_of names all s)
+pub fine_block : (names : List (List ℕ)) (all : Block) (s : State) → WriteTexts all → Fine (effects_of names all s)
 fine_block names done s h = goes s
 fine_block names (first e rest) s h =
     fine_then (effect_of names e s) _ (fine_effect names e s h.0) (λ s1. fine_block names rest s1 h.1)
+
+-- what it means is not to be stuck
+pub never_stuck : (model : Block) (replies : List Reply) (budget : ℕ) → WriteTexts model → (meaning_of model [] replies budget).stop ≢ Stuck
+never_stuck model replies budget h = stopped (effects_of (variables_of model) model _) (fine_block (variables_of model) model _ h)
+  where
+    stopped : (d : Done) → Fine d → (told_done budget d).stop ≢ Stuck
+    stopped d (goes s) = λ e. cc
+    stopped d (ends stop s n) = n

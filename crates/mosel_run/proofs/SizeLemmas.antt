@@ -1,8 +1,10 @@
 -- Bounds on what is made of a model, by its size.
 
-use Rattle.std.proofs.Common.{◌≡◌, ◌≤◌, ◌<◌, ℕ, ◌+◌, ◌*◌, ◌^◌, zero, suc, pos, Bool, true, false, List, [], ◌∷◌, ◌++◌, length, refl, sym, ap, ◌∙◌, length-append, arith}
+use Rattle.std.proofs.Common.{◌≡◌, ◌≤◌, ◌<◌, ℕ, ◌+◌, ◌*◌, ◌^◌, zero, suc, pos, Bool, true, false, List, [], ◌∷◌, ◌++◌, length, refl, sym, ap, ◌∙◌, length-append, get_or, arith}
 use Rattle.std.specs.Prelude.{if◌then◌else◌, All, replicate}
 use Rattle.std.proofs.lemmas.List.{length-replicate}
+use Rattle.std.proofs.lemmas.List.Elements.{All-nil}
+use Rattle.bim_code.specs.declared.image.ImageType.{ImageType}
 use Rattle.bim_code.specs.declared.instruction.Instruction.{Instruction}
 use Rattle.bim_code.specs.declared.instruction.Instruction.TheVariants.{PushInt, PushBool, StoreGlobal, Line, Show, Write, Add, Subtract, End}
 use Rattle.bim_code.specs.declared.image.ImageType.TheVariants.{Integer}
@@ -103,8 +105,12 @@ types_few [] = omega arith
 types_few (n ∷ names) = omega arith
 
 types_fit : (names : List (List ℕ)) → All TypeFits (types_of names)
-types_fit [] = ?
-types_fit (n ∷ names) = ?
+types_fit [] = All-nil TypeFits
+types_fit (n ∷ names) = λ k d less. only k d less
+  where
+    only : (k : ℕ) (d : ImageType) → k < 1 → TypeFits (get_or (Integer ∷ []) k d)
+    only zero d less = tt
+    only (suc k) d less = absurd (omega arith)
 
 -- the image of a model of which no text is long fits the fields of its file
 pub fits_fields : (model : Block) → size_of_block model < 2 ^ 24 → All (λ t. length t < 2 ^ 32) (texts_in_block model)
@@ -115,10 +121,10 @@ fits_fields model small short = record {
   types = omega (arith, types_few (variables_of model));
   parts = types_fit (variables_of model);
   params = omega arith;
-  globals = omega (arith, length-replicate (length (variables_of model)) 0, variables_few model);
+  globals = omega (arith, length-replicate {A = ℕ} (length (variables_of model)) 0, variables_few model);
   routines = omega arith;
-  slots = ?;
+  slots = All-nil _;
   points = omega arith;
-  stacks = ?;
+  stacks = All-nil _;
   code = omega (arith, size-append (block_code (variables_of model) 0 model) (PushInt (pos 0) ∷ End ∷ []), code_few_block (variables_of model) 0 model)
 }

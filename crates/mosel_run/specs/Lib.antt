@@ -16,3 +16,6 @@ pub mod Jobs
 pub mod Texts
 pub mod Statuses
 pub mod Outputs
+pub mod Answered
+pub mod Preparing
+pub mod Storing

@@ -56,7 +56,7 @@ struct Finished {
 }
 
 /// Runs the source with the empty parameter text on so many lanes.
-pub(crate) fn output(
+pub(crate) fn make_output(
     alloc: Global,
     name: &Text,
     lanes: u32,
@@ -128,7 +128,7 @@ fn journal(
     ensures { IfOk result (λ journal. journal ≡ schedule_of (opening_on name.now source.now lanes) end) }
 {
     let name = name.copy(alloc)?;
-    let bytes = SharedBlob::new(alloc, source)?;
+    let bytes = SharedBlob::new(alloc, Blob::new(alloc, source)?)?;
     let file = Listed {
         name,
         bytes,

@@ -7,7 +7,12 @@ mod compiler;
 mod halt;
 mod jobs;
 mod machine;
+mod prepared;
 mod reader;
 mod runner;
 mod schedule;
 mod status;
+mod top;
+
+pub use status::Status;
+pub use top::tool;
