@@ -19,3 +19,4 @@ pub mod NeverStuck
 pub mod FirstModels
 pub mod Whole
 pub mod WholeJobs
+pub mod Answering
