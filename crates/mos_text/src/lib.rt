@@ -43,3 +43,6 @@ pub use sure_folder::SureFolder;
 pub use sure_sink::SureSink;
 pub use text::{Text, TextFault};
 pub use typ::Typ;
+
+#[cfg(test)]
+mod tests;
