@@ -1,4 +1,4 @@
-ghost use Rattle.std.specs.Prelude.{None};
+ghost use Rattle.std.specs.Prelude.{◌≡◌, None};
 
 use crate::{Blob, Folder, Got, Stored, Text};
 use std::alloc::Global;
@@ -17,12 +17,17 @@ pub struct DirFolder<'a, R: Files> {
 }
 
 impl<'a, R: Files> DirFolder<'a, R> {
-    pub fn new(rt: &'a R) -> DirFolder<'a, R> {
+    /// A folder that has not failed yet.
+    pub fn new(rt: &'a R) -> DirFolder<'a, R>
+        ensures { ⟦<DirFolder<'a, R> as Folder>⟧.faults result ≡ 0 }
+    {
         DirFolder { rt, faults: 0 }
     }
 
     /// How often the folder has failed.
-    pub fn faults(&self) -> u64 {
+    pub fn faults(&self) -> u64
+        ensures { result ≡ ⟦<DirFolder<'a, R> as Folder>⟧.faults self.now }
+    {
         self.faults
     }
 }

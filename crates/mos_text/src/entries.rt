@@ -37,7 +37,9 @@ pub(crate) fn find_latest<'a>(
     files: &'a [(Text, Blob)],
     name: &Text,
 ) -> Option<&'a [u8]>
-    ensures { option_copied result ≡ known_bytes (known_in_order (find (slice_cmp nat_cmp) name.now entries.now) (find (slice_cmp nat_cmp) name.now files.now)) }
+    ensures { option_copied result ≡ known_bytes (known_in_order
+        (find (slice_cmp nat_cmp) name.now entries.now)
+        (find (slice_cmp nat_cmp) name.now files.now)) }
 {
     match find_entry(entries, name) {
         Some(Some(blob)) => Some(blob.as_bytes()),

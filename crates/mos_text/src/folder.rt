@@ -49,8 +49,10 @@ pub trait Folder {
     /// Makes the bytes those of the name, whether or not there was such a file. After a failure the
     /// bytes of the name are not known; after want of memory nothing is claimed of that name.
     fn put(&mut self, alloc: Global, name: &Text, bytes: &[u8]) -> Stored
-        ensures done { result ≡ Stored.Done → content self.new ≡ put_file (content self.old) name.now bytes.now }
-        ensures lost { result ≡ Stored.Failed → content self.new ≡ lose_file (content self.old) name.now }
+        ensures done { result ≡ Stored.Done
+            → content self.new ≡ put_file (content self.old) name.now bytes.now }
+        ensures lost { result ≡ Stored.Failed
+            → content self.new ≡ lose_file (content self.old) name.now }
         ensures others { SameElsewhere name.now (content self.old) (content self.new) }
         ensures later { faults self.old ≤ faults self.new }
         ensures failed { result ≡ Stored.Failed → Rose (faults self.old) (faults self.new) };

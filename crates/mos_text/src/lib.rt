@@ -8,8 +8,8 @@ mod blob;
 mod dir_folder;
 mod entries;
 mod fault_kind;
-mod folder;
 mod file_name;
+mod folder;
 mod kind;
 mod mem_folder;
 mod mem_sink;
@@ -28,8 +28,8 @@ mod typ;
 pub use blob::Blob;
 pub use dir_folder::DirFolder;
 pub use fault_kind::FaultKind;
-pub use folder::{Folder, Got, Stored};
 pub use file_name::is_file_name;
+pub use folder::{Folder, Got, Stored};
 pub use kind::Kind;
 pub use mem_folder::MemFolder;
 pub use mem_sink::MemSink;
@@ -43,3 +43,6 @@ pub use sure_folder::SureFolder;
 pub use sure_sink::SureSink;
 pub use text::{Text, TextFault};
 pub use typ::Typ;
+
+#[cfg(test)]
+mod tests;

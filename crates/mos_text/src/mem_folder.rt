@@ -1,8 +1,7 @@
-ghost use Rattle.std.specs.Prelude.{◌≡◌, ◌≢◌, ◌↔◌, ◌≤◌, ◌+◌, Option, Some, None, OnOk, OnErr, option_copied};
+ghost use Rattle.std.specs.Prelude.{◌≡◌, ◌≢◌, ◌↔◌, ◌≤◌, Some, None, OnOk, OnErr, option_copied};
 ghost use Rattle.std.specs.FinMap.{insert};
-ghost use Rattle.mos_text.specs.Content.{known_of, known_bytes, put_file, lose_file, SameElsewhere, absent_if_unknown, files_of, held_of};
+ghost use Rattle.mos_text.specs.Content.{known_of, known_bytes, SameElsewhere, absent_if_unknown, files_of};
 ghost use Rattle.mos_text.specs.Gets.{Answers};
-ghost use Rattle.mos_text.specs.Faults.{Rose};
 ghost use Rattle.mos_text.specs.Calls.{FailsNext, after_one, calls_of, one_more};
 
 use crate::entries::{find_latest, give};
@@ -77,7 +76,8 @@ impl MemFolder {
 
     /// Puts one entry before all others; nothing changes where memory is wanting.
     fn add(&mut self, alloc: Global, name: &Text, blob: Option<Blob>) -> Result<(), NoMemory>
-        ensures ok { OnOk result (self.new ≡ record self.old { files = insert self.old.files name.now blob }) }
+        ensures ok { OnOk result (self.new
+            ≡ record self.old { files = insert self.old.files name.now blob }) }
         ensures err { OnErr result (self.new ≡ self.old) }
         ensures others { SameElsewhere name.now (Some self.old.files) (Some self.new.files) }
     {
@@ -117,8 +117,10 @@ impl Folder for MemFolder {
     }
 
     fn put(&mut self, alloc: Global, name: &Text, bytes: &[u8]) -> Stored
-        ensures done { result ≡ Stored.Done → self.new.files ≡ insert self.old.files name.now (Some bytes.now) }
-        ensures lost { result ≡ Stored.Failed → self.new.files ≡ insert self.old.files name.now None }
+        ensures done { result ≡ Stored.Done
+            → self.new.files ≡ insert self.old.files name.now (Some bytes.now) }
+        ensures lost { result ≡ Stored.Failed
+            → self.new.files ≡ insert self.old.files name.now None }
         ensures memory { result ≡ Stored.NoMemory → self.new.files ≡ self.old.files }
         ensures others { SameElsewhere name.now (Some self.old.files) (Some self.new.files) }
         ensures unlisted { result ≡ Stored.Done → ¬ (FailsNext self.old.puts) }

@@ -1,5 +1,6 @@
-ghost use Rattle.std.specs.Prelude.{◌≡◌, ◌<◌, [], Option, Some};
-ghost use Rattle.mos_text.specs.Calls.{calls_of};
+ghost use Rattle.std.specs.Prelude.{◌≡◌, ◌≢◌, ◌↔◌, ◌<◌, ◌≤◌, [], ◌++◌, Some, length};
+ghost use Rattle.mos_text.specs.Calls.{FailsNext, after_one, calls_of, one_more};
+ghost use Rattle.mos_text.specs.SinkBytes.{TakesSome, taken};
 
 use crate::numbered::Numbered;
 use crate::{Sink, Wrote};
@@ -24,7 +25,12 @@ impl Model for MemSink {
 
     ghost coded = { memory_bytes_code };
 
-    ghost view = { λ s. record { bytes = s.written.items; piece = s.piece; writes = s.writes; faults = s.faults } };
+    ghost view = { λ s. record {
+      bytes = s.written.items;
+      piece = s.piece;
+      writes = s.writes;
+      faults = s.faults;
+    } };
 
     ghost invariant = { λ s. 0 < s.piece };
 }
@@ -67,7 +73,17 @@ impl Sink for MemSink {
 
     ghost faults = { λ s. s.faults };
 
-    fn write(&mut self, piece: &[u8]) -> Wrote {
+    fn write(&mut self, piece: &[u8]) -> Wrote
+        ensures some { TakesSome result piece.now }
+        ensures most { length (taken result piece.now) ≤ self.old.piece }
+        ensures bytes { self.new.bytes ≡ self.old.bytes ++ taken result piece.now }
+        ensures piece { self.new.piece ≡ self.old.piece }
+        ensures listed { (result ≡ Wrote.Failed) ↔ FailsNext self.old.writes }
+        ensures counted { self.new.writes ≡ after_one self.old.writes }
+        ensures later { self.old.faults ≤ self.new.faults }
+        ensures faults { result ≢ Wrote.Failed → self.new.faults ≡ self.old.faults }
+        ensures failed { result ≡ Wrote.Failed → self.new.faults ≡ one_more self.old.faults }
+    {
         if self.writes.next_fails() {
             self.faults = self.faults.saturating_add(1);
             return Wrote::Failed;

@@ -12,12 +12,17 @@ pub struct OutSink<W: Write + Drop> {
 }
 
 impl<W: Write + Drop> OutSink<W> {
-    pub fn new(writer: W) -> OutSink<W> {
+    /// A sink that has not failed yet.
+    pub fn new(writer: W) -> OutSink<W>
+        ensures { ⟦<OutSink<W> as Sink>⟧.faults result ≡ 0 }
+    {
         OutSink { writer, faults: 0 }
     }
 
     /// How often the writer has failed.
-    pub fn faults(&self) -> u64 {
+    pub fn faults(&self) -> u64
+        ensures { result ≡ ⟦<OutSink<W> as Sink>⟧.faults self.now }
+    {
         self.faults
     }
 }

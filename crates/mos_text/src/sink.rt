@@ -1,4 +1,4 @@
-ghost use Rattle.std.specs.Prelude.{◌≡◌, ℕ, ◌≤◌, ◌<◌, ◌-◌, List, Option, length, take};
+ghost use Rattle.std.specs.Prelude.{◌≡◌, ℕ, ◌≤◌, List, Option};
 ghost use Rattle.mos_text.specs.SinkBytes.{appended, taken, TakesSome, AppendedPart};
 ghost use Rattle.mos_text.specs.Faults.{Rose};
 
@@ -42,7 +42,8 @@ pub enum Written {
 
 /// Appends all the bytes, write by write.
 pub fn write_whole<K: Sink>(sink: &mut K, text: &[u8]) -> Written
-    ensures whole { result ≡ Written.Whole → K.bytes sink.new ≡ appended (K.bytes sink.old) text.now }
+    ensures whole { result ≡ Written.Whole
+        → K.bytes sink.new ≡ appended (K.bytes sink.old) text.now }
     ensures part { AppendedPart (K.bytes sink.old) (K.bytes sink.new) text.now }
     ensures later { K.faults sink.old ≤ K.faults sink.new }
     ensures failed { result ≡ Written.Failed → Rose (K.faults sink.old) (K.faults sink.new) }

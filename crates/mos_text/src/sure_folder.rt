@@ -1,4 +1,4 @@
-ghost use Rattle.std.specs.Prelude.{◌≡◌, ℕ, ◌≤◌, List, Option, Some, OnOk, OnErr, option_copied};
+ghost use Rattle.std.specs.Prelude.{◌≡◌, Some, OnOk, OnErr, option_copied};
 ghost use Rattle.std.specs.FinMap.{insert};
 ghost use Rattle.mos_text.specs.Content.{known_of, known_bytes, held_of, files_of};
 

@@ -1,4 +1,4 @@
-ghost use Rattle.std.specs.Prelude.{◌≡◌, ℕ, ◌≤◌, List, [], Option, Some};
+ghost use Rattle.std.specs.Prelude.{◌≡◌, [], Some};
 
 use crate::{Sink, Wrote};
 use std::alloc::Global;
