@@ -3,10 +3,10 @@ use Rattle.std.proofs.Common.{◌≡◌, ℕ, ◌+◌, ◌-◌, ◌<◌, List, [
 use Rattle.mos_tree.specs.declared.statement.Statement.{Statement}
 use Rattle.mos_tree.specs.declared.source.Top.{Top}
 use Rattle.mos_tree.specs.declared.source.Top.TheVariants as top
-use Rattle.mosel_run.specs.declared.reader.body.Step.TheVariants.{Goes, Ends, Wrong}
+use Rattle.mosel_run.specs.declared.reader.body.Step.TheVariants.{Wrong}
 use Rattle.mosel_run.specs.FirstForm as form
 use Rattle.mosel_run.specs.FirstForm.{Bytes, IsEnd, IsBlankLine, IsStatement, IsBody, GoesOn, AllGoOn, IsMisplaced}
-use Rattle.mosel_run.specs.FirstReading.{step_of, tops_of, onto, next, body_in}
+use Rattle.mosel_run.specs.FirstReading.{step_of, onto, body_in}
 use Rattle.mosel_run.proofs.LineForms.{LineCase, ends, blank, says, wrong, line_case, step-end, step-blank, step-statement}
 
 -- lines of each form, read with those behind them
@@ -66,9 +66,9 @@ goes_on-says _ _ (form.says number line said later h) behind = inr (said, h)
 misplaced-is : (number : ℕ) (line : Bytes) → 1 < number → (IsEnd line → ⊥) → (IsBlankLine line → ⊥) → ((said : Statement) → IsStatement number line said → ⊥) → IsMisplaced number line
 misplaced-is number line behind not_end not_blank not_statement =
     (λ goes. neither (goes_on-says number line goes behind), λ later end. not_end end) where
-  neither : IsBlankLine line ⊎ ((said : Statement) × IsStatement number line said) → ⊥
-  neither (inl h) = not_blank h
-  neither (inr h) = not_statement h.0 h.1
+      neither : IsBlankLine line ⊎ ((said : Statement) × IsStatement number line said) → ⊥
+      neither (inl h) = not_blank h
+      neither (inr h) = not_statement h.0 h.1
 
 -- the faulty line that is read is the faulty line of the form
 

@@ -1,5 +1,5 @@
 -- Lines: what the reader finds of a line is what the form says of it.
-use Rattle.std.proofs.Common.{◌≡◌, ◌==◌, ◌≢◌, ◌≤◌, ℕ, ◌+◌, Bool, true, false, List, [], ◌∷◌, ◌++◌, length, drop, get_or, Option, Some, None, refl, sym, ap, subst, ◌∙◌, cond, nat_le, codes, arith}
+use Rattle.std.proofs.Common.{◌≡◌, ◌==◌, ◌≢◌, ◌≤◌, ℕ, Bool, true, false, [], ◌∷◌, ◌++◌, length, drop, get_or, Option, Some, None, refl, sym, ap, subst, ◌∙◌, cond, nat_le, codes, arith}
 use Rattle.std.specs.Prelude.{option_and_then, is_some, ◌&&◌}
 use Rattle.std.specs.List.{All}
 use Rattle.std.proofs.lemmas.Bool.{leb-true, le-leb, and_parts}
@@ -7,12 +7,10 @@ use Rattle.std.proofs.Math.Dec.{eqb-suc-zero}
 use Rattle.mos_tree.specs.declared.expr.Expr.TheVariants as expr
 use Rattle.mos_tree.specs.declared.statement.Statement.{Statement}
 use Rattle.mos_tree.specs.declared.statement.Statement.TheVariants as statement
-use Rattle.mos_tree.specs.declared.source.Top.{Top}
 use Rattle.mos_tree.specs.declared.source.Top.TheVariants as top
-use Rattle.mosel_run.specs.declared.reader.body.Step.{Step}
 use Rattle.mosel_run.specs.declared.reader.body.Step.TheVariants.{Goes, Ends, Wrong}
-use Rattle.mosel_run.specs.FirstForm.{Bytes, skip_blanks, quoted, Spells, IsString, IsOpening, IsBlankLine, IsEnd, IsWriteln, IsStatement, writeln}
-use Rattle.mosel_run.specs.FirstReading.{after_token, quoted_in, is_string, string_in, at_end, after_text, after_open, after_writeln, writeln_in, writeln_of, after_name, after_model, opening_in, name_in, is_end, is_blank_line, statement_in, step_of, tops_of, top_of}
+use Rattle.mosel_run.specs.FirstForm.{Bytes, skip_blanks, quoted, Spells, IsOpening, IsBlankLine, IsEnd, IsWriteln, IsStatement, writeln}
+use Rattle.mosel_run.specs.FirstReading.{after_token, quoted_in, is_string, string_in, at_end, after_text, after_open, after_writeln, writeln_in, writeln_of, after_name, after_model, opening_in, name_in, is_end, is_blank_line, statement_in, step_of, tops_of}
 use Rattle.mosel_run.proofs.Tokens.{and_then-Some, after_token-Some, after_token-is, quoted_in-Some, quoted_in-is, is_string-is, IsString-is}
 
 at_end-is : (text rest : Bytes) → rest ≡ [] → at_end text rest ≡ Some text

@@ -1,5 +1,5 @@
 -- Tokens: what the reader's parts find is what the form says.
-use Rattle.std.proofs.Common.{◌≡◌, ◌==◌, ◌≢◌, ℕ, ◌+◌, ◌-◌, ◌<◌, ◌≤◌, Bool, true, false, List, [], ◌∷◌, ◌++◌, length, take, drop, get_or, Option, Some, None, refl, sym, ap, subst, ◌∙◌, cond, nat_lt, append_assoc, length-append, arith}
+use Rattle.std.proofs.Common.{◌≡◌, ◌==◌, ◌≢◌, ℕ, ◌+◌, Bool, true, false, [], ◌∷◌, ◌++◌, length, take, drop, get_or, Option, Some, None, refl, sym, ap, subst, ◌∙◌, cond, nat_lt, append_assoc, length-append, arith}
 use Rattle.std.specs.Prelude.{not, option_and_then}
 use Rattle.std.specs.List.{All, position_or_len, before_first, after_first}
 use Rattle.std.specs.Str.{bytes_eq}
@@ -119,5 +119,5 @@ IsString-is text e free =
     record {
       no_quote = free;
       no_backslash = λ k d within same. not_equal (get_or text k d) (AllPass-from_list_all (λ byte. not (byte == 92)) text parts.0 k d within) same;
-      utf8 = IsUtf8-from_is_utf8 text parts.1
+      utf8 = IsUtf8-from_is_utf8 text parts.1;
     }

@@ -1,4 +1,4 @@
-use Rattle.std.specs.Prelude.{◌≡◌, ℕ, ◌+◌, ◌<◌, ◌≤◌, ◌==◌, Bool, ◌||◌, if◌then◌else◌, IsTrue, All, ◌≢◌, ◌⊎◌, List, [], ◌∷◌, ◌++◌, length, codes, count_by, IsUtf8}
+use Rattle.std.specs.Prelude.{◌≡◌, ℕ, ◌+◌, ◌<◌, ◌≤◌, ◌==◌, Bool, ◌||◌, if◌then◌else◌, All, ◌≢◌, List, [], ◌∷◌, ◌++◌, length, codes, count_by, IsUtf8}
 use Rattle.std.specs.List.{slice_split}
 use Rattle.mos_tree.specs.declared.expr.Expr.TheVariants as expr
 use Rattle.mos_tree.specs.declared.statement.Statement.{Statement}

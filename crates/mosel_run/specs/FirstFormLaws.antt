@@ -1,9 +1,12 @@
-use Rattle.std.specs.Prelude.{◌≡◌, ℕ, ◌⊎◌}
+use Rattle.std.specs.Prelude.{◌≡◌, ℕ, ◌⊎◌, [], ◌∷◌, codes}
 use Rattle.mos_text.specs.declared.kind.Kind.TheVariants.{Syntax}
 use Rattle.mos_tree.specs.declared.source.Tree.{Tree}
 use Rattle.mosel_run.specs.declared.reader.fault.ReadFault.{ReadFault}
 use Rattle.mosel_run.specs.declared.reader.fault.ReadFault.TheVariants.{At, NoMemory}
-use Rattle.mosel_run.specs.FirstForm.{Bytes, IsSource, IsFaultyLine}
+use Rattle.mos_tree.specs.declared.expr.Expr.TheVariants as expr
+use Rattle.mos_tree.specs.declared.statement.Statement.TheVariants as statement
+use Rattle.mos_tree.specs.declared.source.Top.TheVariants as top
+use Rattle.mosel_run.specs.FirstForm.{Bytes, IsSource, IsFaultyLine, tree_of}
 
 -- a source has at most one tree
 abbrev pub OneTree : Type 0
@@ -25,3 +28,10 @@ NeverBoth = (source : Bytes) (tree : Tree) (line : ℕ) → IsSource source tree
 abbrev pub IsRefusal : Bytes → ReadFault → Type 0
 IsRefusal source (At line kind) = (kind ≡ Syntax) × IsFaultyLine source line × ((tree : Tree) → IsSource source tree → ⊥)
 IsRefusal source NoMemory = Unit {0}
+
+-- an example: the source that prints `hello`, and its tree
+abbrev pub hello_source : Bytes
+hello_source = codes "model \"hello\"\nwriteln(\"hello\")\nend-model\n"
+
+abbrev pub hello_tree : Tree
+hello_tree = tree_of (codes "hello") (top.Statement (statement.Call 2 (codes "writeln") (expr.Text (codes "hello") ∷ [])) ∷ [])

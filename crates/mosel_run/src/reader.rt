@@ -10,12 +10,11 @@ mod token;
 
 ghost use Rattle.std.specs.Prelude.{◌≤◌, length, IfOk, IfErr};
 ghost use Rattle.mosel_run.specs.FirstForm.{IsSource};
-ghost use Rattle.mosel_run.specs.FirstFormLaws.{OneTree, OneFaultyLine, TreeOrFaultyLine, NeverBoth, IsRefusal};
+ghost use Rattle.mosel_run.specs.FirstFormLaws.{OneTree, OneFaultyLine, TreeOrFaultyLine, NeverBoth, IsRefusal, hello_source, hello_tree};
 ghost use Rattle.mosel_run.specs.FirstReading.{reading_of, Reads};
 
-pub use fault::ReadFault;
-
 use body::{first_line, read_body, syntax_at};
+pub use fault::ReadFault;
 use line::model_name;
 use mos_tree::{ModelName, Tree};
 use sqlite_items::Items;
@@ -60,5 +59,8 @@ pub fn first_form_laws()
     ensures one_line { OneFaultyLine }
     ensures either { TreeOrFaultyLine }
     ensures never_both { NeverBoth }
-{
-}
+    ensures example { IsSource hello_source hello_tree }
+{}
+
+#[cfg(test)]
+mod tests;

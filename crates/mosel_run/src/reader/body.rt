@@ -61,7 +61,12 @@ pub fn first_line(lines: &[u8]) -> (&[u8], Option<&[u8]>)
 
 /// Says what the line with this number does, and puts its statement behind the others.
 #[tactic(auto, unfolding(crate::specs::FirstReading::step_of, crate::specs::FirstReading::tops_of))]
-fn take_line(alloc: Global, number: u32, line: &[u8], tops: &mut Items<Top>) -> Result<Step, NoMemory>
+fn take_line(
+    alloc: Global,
+    number: u32,
+    line: &[u8],
+    tops: &mut Items<Top>,
+) -> Result<Step, NoMemory>
     ensures step { IfOk result (λ step. step ≡ step_of number line.now) }
     ensures tops { IfOk result (λ _. tops.new ≡ tops.old ++ tops_of number line.now) }
 {

@@ -1,5 +1,5 @@
 use Rattle.std.proofs.Common.{ap, Ok, sym, refl, ◌∙◌}
-use Rattle.mosel_run.proofs.Body.{read-ends, read-wrong, read-goes, read-last}
+use Rattle.mosel_run.proofs.Body.{read-ends, read-wrong}
 use Rattle.mosel_run.proofs.reader.body.read_body.Goals as goal
 
 pub returns-in-Ends : goal.returns-in-Ends
