@@ -97,7 +97,7 @@ class Case:
 
 
 def lines_of(path):
-    return path.read_text().splitlines() if path.is_file() else []
+    return [os.fsdecode(line) for line in path.read_bytes().split(b"\n")[:-1]] if path.is_file() else []
 
 
 def cases_in(folder):
@@ -110,7 +110,7 @@ def cases_in(folder):
         yield Case(folder.name, lines_of(folder / "words"), stdout, status, **rest)
     for line in lines_of(folder / "table"):
         command, has_line, printed = line.partition(" => ")
-        said = printed.encode() + b"\n" if has_line else stdout
+        said = os.fsencode(printed) + b"\n" if has_line else stdout
         yield Case(f"{folder.name}: {command}", command.split(" "), said, status, **rest)
 
 
@@ -135,7 +135,7 @@ def main(words):
         faults = case.faults(program)
         failed += bool(faults)
         for fault in faults:
-            print(f"{case.name}: {fault}")
+            print(ascii(case.name)[1:-1] + f": {fault}")
     print(f"{len(cases) - failed} passed, {failed} failed")
     return 1 if failed else 0
 
