@@ -3,10 +3,9 @@ ghost use Rattle.std.specs.Prelude.{◌≡◌, ◌++◌, IfOk, OnOk};
 ghost use Rattle.job_calls.specs.ErrorLines.{about, missing_line, read_fault_line, too_large_line, usage_line, verdict_line};
 ghost use Rattle.mos_text.specs.Kinds.{kind_text};
 
+use crate::report_writer::put_number;
 use mos_text::{Blob, Kind, NoMemory, Text};
 use std::alloc::{AllocError, Global};
-
-use crate::report_writer::put_number;
 
 /// The words are no command.
 #[tactic(auto, unfolding(job_calls::specs::ErrorLines::usage_line))]
@@ -18,12 +17,7 @@ pub fn write_usage(alloc: Global) -> Result<Blob, NoMemory>
 
 /// A source is not accepted: the line at fault, from 1, and the kind of the fault.
 #[tactic(auto, unfolding(job_calls::specs::ErrorLines::verdict_line))]
-pub fn write_verdict(
-    alloc: Global,
-    name: &Text,
-    line: u32,
-    kind: &Kind,
-) -> Result<Blob, NoMemory>
+pub fn write_verdict(alloc: Global, name: &Text, line: u32, kind: &Kind) -> Result<Blob, NoMemory>
     ensures { IfOk result (λ text. text ≡ verdict_line name.now line kind.now) }
 {
     let mut out = Vec::new(alloc);
@@ -95,12 +89,27 @@ mod tests {
     fn each_line(rt: HostRuntime) -> Result<(), Fail> {
         let alloc = rt.alloc();
         let name = Text::from_string(String::from_str(alloc, "a.mos")?);
-        assert_eq!(rt; write_usage(alloc)?.as_bytes(), b"mosel: usage\n".as_slice());
-        assert_eq!(rt; write_missing(alloc, &name)?.as_bytes(), b"mosel: a.mos: missing\n".as_slice());
-        assert_eq!(rt; write_too_large(alloc, &name)?.as_bytes(), b"mosel: a.mos: too large\n".as_slice());
-        assert_eq!(rt; write_read_fault(alloc, &name)?.as_bytes(), b"mosel: a.mos: read fault\n".as_slice());
+        assert_eq!(rt;
+            write_usage(alloc)?.as_bytes(),
+            b"mosel: usage\n".as_slice()
+        );
+        assert_eq!(rt;
+            write_missing(alloc, &name)?.as_bytes(),
+            b"mosel: a.mos: missing\n".as_slice()
+        );
+        assert_eq!(rt;
+            write_too_large(alloc, &name)?.as_bytes(),
+            b"mosel: a.mos: too large\n".as_slice()
+        );
+        assert_eq!(rt;
+            write_read_fault(alloc, &name)?.as_bytes(),
+            b"mosel: a.mos: read fault\n".as_slice()
+        );
         let kind = Kind::Unknown(Text::from_string(String::from_str(alloc, "x")?));
-        assert_eq!(rt; write_verdict(alloc, &name, 2, &kind)?.as_bytes(), b"mosel: a.mos line 2: UNKNOWN x\n".as_slice());
+        assert_eq!(rt;
+            write_verdict(alloc, &name, 2, &kind)?.as_bytes(),
+            b"mosel: a.mos line 2: UNKNOWN x\n".as_slice()
+        );
         Ok(())
     }
 }

@@ -4,5 +4,7 @@
 mod error_lines;
 mod report_writer;
 
-pub use error_lines::{write_missing, write_read_fault, write_too_large, write_usage, write_verdict};
+pub use error_lines::{
+    write_missing, write_read_fault, write_too_large, write_usage, write_verdict,
+};
 pub use report_writer::write_report;

@@ -91,15 +91,15 @@ ReplyTexts = map reply_text (
 -- error lines
 abbrev pub ErrorLineTexts : Type 0
 ErrorLineTexts =
-  usage_line
-  ∷ verdict_line (codes "empty.mos") 1 Syntax
-  ∷ verdict_line (codes "a.mos") 2 (Module (codes "mmxprs"))
-  ∷ missing_line (codes "no.mos")
-  ∷ too_large_line (codes "a.mos")
-  ∷ read_fault_line (codes "a.mos")
-  ∷ bad_input_line (codes "tiny.bim") 33 3
-  ∷ []
-  ≡ codes "mosel: usage\n"
+    usage_line
+    ∷ verdict_line (codes "empty.mos") 1 Syntax
+    ∷ verdict_line (codes "a.mos") 2 (Module (codes "mmxprs"))
+    ∷ missing_line (codes "no.mos")
+    ∷ too_large_line (codes "a.mos")
+    ∷ read_fault_line (codes "a.mos")
+    ∷ bad_input_line (codes "tiny.bim") 33 3
+    ∷ []
+    ≡ codes "mosel: usage\n"
     ∷ codes "mosel: empty.mos line 1: SYNTAX\n"
     ∷ codes "mosel: a.mos line 2: MODULE mmxprs\n"
     ∷ codes "mosel: no.mos: missing\n"

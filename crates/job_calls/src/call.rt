@@ -1,11 +1,10 @@
 ghost use Rattle.std.specs.Prelude.{◌≡◌, IfOk};
 
+use crate::end::End;
+use crate::entry::Listed;
 use mos_text::{Blob, NoMemory, SharedBlob, Text};
 use sqlite_items::Items;
 use std::alloc::Global;
-
-use crate::end::End;
-use crate::entry::Listed;
 
 /// Which end of a pipe is opened.
 #[derive(Clone, Copy, Debug)]
@@ -32,11 +31,19 @@ pub enum Call {
     /// The run has ended so.
     Finish(End),
     /// Makes the image `dst` of the listed source `src`.
-    Compile { src: Text, dst: Text },
+    Compile {
+        src: Text,
+        dst: Text,
+    },
     /// Loads an image that was compiled.
-    Load { file: Text },
+    Load {
+        file: Text,
+    },
     /// Starts a loaded model with a parameter text.
-    Run { model: u32, params: Text },
+    Run {
+        model: u32,
+        params: Text,
+    },
     /// Waits until an event stands in the run's queue.
     Wait,
     /// Takes the first event.
@@ -52,17 +59,40 @@ pub enum Call {
         class: i32,
         value: i32,
     },
-    Status { model: u32 },
-    ExitCode { model: u32 },
-    Stop { model: u32 },
-    Unload { model: u32 },
+    Status {
+        model: u32,
+    },
+    ExitCode {
+        model: u32,
+    },
+    Stop {
+        model: u32,
+    },
+    Unload {
+        model: u32,
+    },
     /// Reads a whole data file or block of memory; a block's name begins with `shmem:`.
-    Read { name: Text },
-    Write { name: Text, bytes: SharedBlob },
-    PipeOpen { name: Text, way: Way },
-    PipePut { name: Text, bytes: Blob },
-    PipeTake { name: Text },
-    PipeClose { name: Text },
+    Read {
+        name: Text,
+    },
+    Write {
+        name: Text,
+        bytes: SharedBlob,
+    },
+    PipeOpen {
+        name: Text,
+        way: Way,
+    },
+    PipePut {
+        name: Text,
+        bytes: Blob,
+    },
+    PipeTake {
+        name: Text,
+    },
+    PipeClose {
+        name: Text,
+    },
 }
 
 impl Call {

@@ -1,10 +1,9 @@
 ghost use Rattle.std.specs.Prelude.{◌≡◌, IfOk};
 
-use mos_text::{NoMemory, SharedBlob, Text};
-use std::alloc::Global;
-
 use crate::call::Call;
 use crate::reply::Reply;
+use mos_text::{NoMemory, SharedBlob, Text};
+use std::alloc::Global;
 
 /// A file that the words of the command list: a source or a data file.
 #[derive(Debug, Drop)]

@@ -17,8 +17,13 @@ pub enum Reply {
     Done,
     /// The verdict's code of the source that was to be compiled.
     Code(u8),
-    Loaded { model: u32, source: u32 },
-    Started { run: u32 },
+    Loaded {
+        model: u32,
+        source: u32,
+    },
+    Started {
+        run: u32,
+    },
     Unit,
     /// An event, with the place of the entry that sent it.
     Took {
@@ -33,13 +38,20 @@ pub enum Reply {
     },
     Nothing,
     Flag(bool),
-    Queued { run: u32 },
+    Queued {
+        run: u32,
+    },
     Lost,
     Number(i32),
     /// What was read, with the place of the entry that wrote it, 0 for a listed file.
-    Found { place: Place, bytes: SharedBlob },
+    Found {
+        place: Place,
+        bytes: SharedBlob,
+    },
     /// A pipe was opened: the place of the entry that opened it to read.
-    Session { place: Place },
+    Session {
+        place: Place,
+    },
     Bytes(Blob),
     PipeEnd,
     /// The run was asked to stop.

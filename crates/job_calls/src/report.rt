@@ -20,5 +20,4 @@ pub fn reply_texts()
 /// The lines that stand in place of a report.
 pub fn error_lines()
     ensures { ErrorLineTexts }
-{
-}
+{}

@@ -1,7 +1,6 @@
-use mos_text::{Blob, Text};
-
 use crate::call::Call;
 use crate::end::End;
+use mos_text::{Blob, Text};
 
 /// How a run stands in a report: it ended, or it still waits on a call that was not ready.
 #[derive(Debug, Drop)]

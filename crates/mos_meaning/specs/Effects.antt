@@ -52,10 +52,10 @@ value_of names unbuilt s = Halts Stuck s
 
 -- how statements end
 pub data Done : Type 0 where
-  Goes : (s : State) → Done                  -- on to the next one
-  Broke : (s : State) → Done                 -- out of the innermost loop
-  Continues : (s : State) → Done             -- to the next pass of the innermost loop
-  Ends : (stop : Stop) (s : State) → Done    -- the run
+  Goes : (s : State) → Done  -- on to the next one
+  Broke : (s : State) → Done  -- out of the innermost loop
+  Continues : (s : State) → Done  -- to the next pass of the innermost loop
+  Ends : (stop : Stop) (s : State) → Done  -- the run
 
 abbrev pub do_with : Got → (Scalar → State → Done) → Done
 do_with (Gave value s) go = go value s

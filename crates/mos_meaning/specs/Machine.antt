@@ -29,8 +29,8 @@ pub data Machine : Type 0 where
 
 -- what an instruction asks of the machine
 pub data Act : Type 0 where
-  On : (f : Frame) (m : Memory) → Act        -- go on behind it
-  Ticks : (f : Frame) → Act                  -- take a tick, then go on behind it
+  On : (f : Frame) (m : Memory) → Act  -- go on behind it
+  Ticks : (f : Frame) → Act  -- take a tick, then go on behind it
   Stops : (stop : Stop) → Act
 
 abbrev pub pushed : Scalar → Frame → Frame
@@ -145,6 +145,6 @@ pub record Course : Type 0 where
 abbrev pub course_of : Image → List ℕ → List Reply → ℕ → Course
 course_of image [] replies budget = record {
   outcome = told_machine budget (run image (most_steps image budget) (start image replies budget));
-  steps = steps_taken image (most_steps image budget) (start image replies budget)
+  steps = steps_taken image (most_steps image budget) (start image replies budget);
 }
 course_of image (byte ∷ params) replies budget = record { outcome = refused; steps = 0 }

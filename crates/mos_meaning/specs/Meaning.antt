@@ -16,7 +16,7 @@ told budget stop s = record {
   output = s.memory.output;
   calls = s.calls;
   ticks = budget - s.ticks;
-  stop = stop
+  stop = stop;
 }
 
 -- the end of the text ends a model with code 0; `break` and `next` stand in loops alone
@@ -38,5 +38,5 @@ defaults many = replicate many (Int (pos 0))
 abbrev pub meaning_of : Block → List ℕ → List Reply → ℕ → Outcome
 meaning_of model [] replies budget =
     told_done budget
-      (effects_of (variables_of model) model (beginning (defaults (length (variables_of model))) replies budget))
+    (effects_of (variables_of model) model (beginning (defaults (length (variables_of model))) replies budget))
 meaning_of model (byte ∷ params) replies budget = refused

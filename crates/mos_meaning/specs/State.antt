@@ -8,23 +8,23 @@ use Rattle.job_calls.specs.declared.reply.Reply.{Reply}
 
 -- what one instruction, or one operator, can read and change
 pub record Memory : Type 0 where
-  pub store : List Scalar    -- the values of the variables, by place
-  pub output : List ℕ        -- what was written so far
+  pub store : List Scalar  -- the values of the variables, by place
+  pub output : List ℕ  -- what was written so far
 
 pub record State : Type 0 where
   pub memory : Memory
-  pub calls : List Call      -- the calls that were answered, in order
-  pub replies : List Reply   -- the replies that are left
-  pub ticks : ℕ              -- the ticks that are left
+  pub calls : List Call  -- the calls that were answered, in order
+  pub replies : List Reply  -- the replies that are left
+  pub ticks : ℕ  -- the ticks that are left
 
 -- how a run stops
 pub data Stop : Type 0 where
   Exited : (code : ℤ) → Stop
   Failed : (kind : FaultKind) → Stop
-  Spent : Stop                 -- a tick was needed and none was left
-  Stopped : Stop               -- it was asked to
+  Spent : Stop  -- a tick was needed and none was left
+  Stopped : Stop  -- it was asked to
   Asking : (call : Call) → Stop  -- no reply was left for this call
-  Stuck : Stop                 -- something that has no meaning: no accepted model does it
+  Stuck : Stop  -- something that has no meaning: no accepted model does it
 
 -- a value with the state after it, or a stop
 pub data Got : Type 0 where
@@ -42,12 +42,12 @@ beginning store replies budget = record {
   memory = record { store = store; output = [] };
   calls = [];
   replies = replies;
-  ticks = budget
+  ticks = budget;
 }
 
 -- what can be told of a run from outside
 pub record Outcome : Type 0 where
   pub output : List ℕ
   pub calls : List Call
-  pub ticks : ℕ            -- taken
+  pub ticks : ℕ  -- taken
   pub stop : Stop

@@ -34,13 +34,13 @@ at_most : (a b : ℕ) → nat_le a b ≡ true → a ≤ b
 at_most a b h = leb-true a b h
 
 picked : (all : List Word) → list_all is_file_name all ≡ true → length all ≡ 1 → list_all is_source_name all ≡ true
-  → (is_file_name (slice_index_or all 0 []) ≡ true) × (is_source_name (slice_index_or all 0 []) ≡ true)
+    → (is_file_name (slice_index_or all 0 []) ≡ true) × (is_source_name (slice_index_or all 0 []) ≡ true)
 picked [] f l s = absurd (omega arith)
 picked (x ∷ xs) f l s = ((both (is_file_name x) (list_all is_file_name xs) f).0, (both (is_source_name x) (list_all is_source_name xs) s).0)
 
 -- one file, which is a file name and a source's
 one_file : (named : List Word) → breaks_files named ≡ false
-  → (is_file_name (slice_index_or named 0 []) ≡ true) × (is_source_name (slice_index_or named 0 []) ≡ true)
+    → (is_file_name (slice_index_or named 0 []) ≡ true) × (is_source_name (slice_index_or named 0 []) ≡ true)
 unfolding breaks_files
 one_file named h =
     let m = neither (not (list_all is_file_name named) || not (length named == 1)) (not (list_all is_source_name named)) h in
@@ -55,9 +55,10 @@ some_lanes (v ∷ vs) h =
     let value = (both (is_value Lanes v) (list_all (is_value Lanes) vs) h).0 in
     let parts = both (is_number v && nat_le 1 (number_of v)) (nat_le (number_of v) 64) value in
     let some : (length (v ∷ vs) == 0) ≡ false = ne_eqb (length (v ∷ vs)) 0 (λ e. absurd (omega arith)) in
-    let is : setting_of Lanes (v ∷ vs) ≡ number_of v = ap (λ b. if b then 16 else number_of v) some in
-    (subst (λ (n : ℕ). 1 ≤ n) (sym is) (at_most 1 (number_of v) (both (is_number v) (nat_le 1 (number_of v)) parts.0).1),
-     subst (λ (n : ℕ). n ≤ 64) (sym is) (at_most (number_of v) 64 parts.1))
+    let is : setting_of Lanes (v ∷ vs) ≡ number_of v = ap (λ b. if b then 16 else number_of v) some in (
+      subst (λ (n : ℕ). 1 ≤ n) (sym is) (at_most 1 (number_of v) (both (is_number v) (nat_le 1 (number_of v)) parts.0).1),
+      subst (λ (n : ℕ). n ≤ 64) (sym is) (at_most (number_of v) 64 parts.1),
+    )
 
 lanes_given : (arguments : List Word) → breaks_options run_options arguments ≡ false → list_all (is_value Lanes) (values Lanes arguments) ≡ true
 unfolding breaks_options

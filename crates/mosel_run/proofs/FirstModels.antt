@@ -24,7 +24,7 @@ use Rattle.mosel_run.specs.FirstForm as form
 use Rattle.mosel_run.specs.Texts.{WritesText, WriteTexts}
 
 effect_of_call : (line : ℕ) (called : List ℕ) (all : List Expr)
-  → effect (statement.Call line called all) ≡ procedure called (arguments (map expression all))
+    → effect (statement.Call line called all) ≡ procedure called (arguments (map expression all))
 effect_of_call line called all =
     ap effect (sym (statement.rolls-Call line called all)) ∙ fold-roll-Statement Effect effect_step (open_statement.Call line called all)
 
@@ -32,7 +32,7 @@ expression_of_text : (t : List ℕ) → expression (expr.Text t) ≡ text t
 expression_of_text t = ap expression (sym (expr.rolls-Text t)) ∙ fold-roll-Expr Expression expression_step (open_expr.Text t)
 
 effect_of_writeln : (line : ℕ) (t : List ℕ)
-  → effect (statement.Call line (codes "writeln") (expr.Text t ∷ [])) ≡ writeln (one_more (text t) nothing)
+    → effect (statement.Call line (codes "writeln") (expr.Text t ∷ [])) ≡ writeln (one_more (text t) nothing)
 effect_of_writeln line t =
     effect_of_call line (codes "writeln") (expr.Text t ∷ []) ∙ ap (λ e. writeln (one_more e nothing)) (expression_of_text t)
 
@@ -44,23 +44,27 @@ pub record IsFirst (model : Block) (many : ℕ) : Type 0 where
   pub short : All (λ t. length t < 2 ^ 32) (texts_in_block model)
 
 first_more : (e : Effect) (t : List ℕ) (rest : Block) (many : ℕ) → e ≡ writeln (one_more (text t) nothing) → length t ≤ 1000000
-  → IsFirst rest many → IsFirst (first e rest) (suc many)
+    → IsFirst rest many → IsFirst (first e rest) (suc many)
 first_more e t rest many is short h =
     subst (λ (e : Effect). IsFirst (first e rest) (suc many)) (sym is) (record {
       texts = (tt, h.texts);
       built = ((tt, tt), h.built);
       size = let s = h.size in omega arith;
-      short = All-cons (λ t. length t < 2 ^ 32) t (texts_in_block rest) (omega arith) h.short
+      short = All-cons (λ t. length t < 2 ^ 32) t (texts_in_block rest) (omega arith) h.short;
     })
 
 first_body : (number : ℕ) (lines : List Bytes) (tops : List Top) → IsBody number lines tops → IsFirst (block (map top_effect tops)) (length lines)
 first_body _ _ _ (form.ends number line rest h) = record { texts = tt; built = tt; size = omega arith; short = All-nil _ }
 first_body _ _ _ (form.blank number line rest tops h body) = let k = first_body (number + 1) rest tops body in record {
-  texts = k.texts; built = k.built; size = let s = k.size in omega arith; short = k.short }
+  texts = k.texts;
+  built = k.built;
+  size = let s = k.size in omega arith;
+  short = k.short;
+}
 first_body _ _ _ (form.says number line rest said tops h body) = said_more h (first_body (number + 1) rest tops body)
   where
     said_more : {n : ℕ} {l : Bytes} {s : Statement} → IsStatement n l s → IsFirst (block (map top_effect tops)) (length rest)
-      → IsFirst (first (effect s) (block (map top_effect tops))) (suc (length rest))
+        → IsFirst (first (effect s) (block (map top_effect tops))) (suc (length rest))
     said_more (form.writeln n t l w) k = first_more _ t (block (map top_effect tops)) (length rest) (effect_of_writeln n t) w.short k
 
 pub first_model : (source : Bytes) (tree : Tree) → IsSource source tree → IsFirst (statements_of tree) (length source + 1)

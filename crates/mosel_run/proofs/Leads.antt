@@ -32,22 +32,22 @@ same image a = record { many = 0; by = refl }
 pub chain : (image : Image) (a b c : Machine) → Leads image a b → Leads image b c → Leads image a c
 chain image a b c p q = record {
   many = p.many + q.many;
-  by = run_add image p.many q.many a ∙ ap (run image q.many) p.by ∙ q.by
+  by = run_add image p.many q.many a ∙ ap (run image q.many) p.by ∙ q.by;
 }
 
 -- one instruction, then the rest
 pub then_one : (image : Image) (i : Instruction) (address : ℕ) (f : Frame) (s : State) (to : Machine)
-  → instruction_at image.code address ≡ Some i
-  → Leads image (settle (act image i f s.memory) (address + width i) s) to
-  → Leads image (At address f s) to
+    → instruction_at image.code address ≡ Some i
+    → Leads image (settle (act image i f s.memory) (address + width i) s) to
+    → Leads image (At address f s) to
 then_one image i address f s to h p = record {
   many = suc p.many;
-  by = ap (λ found. run image p.many (decoded image found address f s)) h ∙ p.by
+  by = ap (λ found. run image p.many (decoded image found address f s)) h ∙ p.by;
 }
 
 -- two ways that both end, end alike
 pub over_once : (image : Image) (n m : ℕ) (a : Machine) (stop other : Stop) (s s' : State)
-  → run image n a ≡ Over stop s → run image m a ≡ Over other s' → run image m a ≡ Over stop s
+    → run image n a ≡ Over stop s → run image m a ≡ Over other s' → run image m a ≡ Over stop s
 over_once image n m a stop other s s' p q =
     let one : run image (n + m) a ≡ Over stop s = run_add image n m a ∙ ap (run image m) p ∙ run_over image m stop s in
     let two : run image (m + n) a ≡ Over other s' = run_add image m n a ∙ ap (run image n) q ∙ run_over image n other s' in

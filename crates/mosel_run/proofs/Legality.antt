@@ -30,7 +30,7 @@ pub record IsEnded (o : Opening) (before : List Entry) : Type 0 where
 count_same : (lane : ℕ) (es : List Entry) → run_count (es ++ told_done lane ∷ []) ≡ run_count es
 count_same lane es =
     let e : count_by (λ (e : Entry). is_started e.reply) (es ++ told_done lane ∷ []) ≡ count_by (λ (e : Entry). is_started e.reply) es + 0 =
-        fold-append _ 0 es (told_done lane ∷ []) in
+    fold-append _ 0 es (told_done lane ∷ []) in
     omega (arith, e)
 
 opened_more : (o : Opening) (lane : ℕ) (es : List Entry) → opening es ≡ Some o → opening (es ++ told_done lane ∷ []) ≡ Some o
@@ -44,7 +44,7 @@ ended_more o before lane h = record {
   no_quit = list_any-append (λ (e : Entry). is_quit e.call) before (told_done lane ∷ []) ∙ ap (λ b. b || false) h.no_quit;
   claimed_0 = list_any-append (λ (e : Entry). claims 0 e.reply) before (told_done lane ∷ []) ∙ ap (λ b. b || false) h.claimed_0;
   finished_0 = list_any-append (λ (e : Entry). is_run 0 e.run && is_finish e.call) before (told_done lane ∷ []) ∙ ap (λ b. b || false) h.finished_0;
-  one_run = count_same lane before ∙ h.one_run
+  one_run = count_same lane before ∙ h.one_run;
 }
 
 -- a lane that holds nothing and was not told that the job is done
@@ -57,22 +57,22 @@ free_by before lane e = record { holds_none = ap held_run e; not_done = ap was_d
 
 -- it is told so now
 told : (o : Opening) (before : List Entry) (lane : ℕ) → IsEnded o before → IsFree before lane → lane < o.lanes
-  → Follows before (told_done lane)
+    → Follows before (told_done lane)
 told o before lane h free less =
     let below : below_lanes lane (opening before) ≡ true = ap (below_lanes lane) h.opened_by ∙ lt-ltb lane o.lanes less in
     let fit : fits (opening before) (own_entries lane before) lane None Claim ≡ true =
-        ap (λ b. b && (not (is_some (held_run (own_entries lane before))) && not (was_done (own_entries lane before)))) below
-        ∙ ap (λ held. not (is_some held) && not (was_done (own_entries lane before))) free.holds_none
-        ∙ ap not free.not_done in
+    ap (λ b. b && (not (is_some (held_run (own_entries lane before))) && not (was_done (own_entries lane before)))) below
+    ∙ ap (λ held. not (is_some held) && not (was_done (own_entries lane before))) free.holds_none
+    ∙ ap not free.not_done in
     let none : unclaimed before ≡ None =
-        ap (first_unclaimed before 0) h.one_run ∙ ap (λ b. if b then first_unclaimed before 1 0 else Some 0) h.claimed_0 in
+    ap (first_unclaimed before 0) h.one_run ∙ ap (λ b. if b then first_unclaimed before 1 0 else Some 0) h.claimed_0 in
     record {
       fit = subst IsTrue (sym fit) refl;
       answered =
-        ap (λ b. if b then Shut else claim_answer before lane) h.no_quit
-        ∙ ap (λ b. if not b && not (nat_eq lane 0) then NotYet else next_run before (unclaimed before)) h.claimed_0
-        ∙ ap (next_run before) none
-        ∙ ap (λ b. if b then Ready Done else NotYet) h.finished_0
+          ap (λ b. if b then Shut else claim_answer before lane) h.no_quit
+          ∙ ap (λ b. if not b && not (nat_eq lane 0) then NotYet else next_run before (unclaimed before)) h.claimed_0
+          ∙ ap (next_run before) none
+          ∙ ap (λ b. if b then Ready Done else NotYet) h.finished_0;
     }
 
 -- the entries of another lane do not count
@@ -83,17 +83,18 @@ own_other lane other before apart =
     ∙ append-nil (own_entries lane before)
 
 follow_dones : (o : Opening) (before : List Entry) (lane many : ℕ) → IsEnded o before
-  → 1 ≤ lane → lane + many ≡ o.lanes
-  → ((l : ℕ) → lane ≤ l → own_entries l before ≡ []) → IsFree before 0 → FollowOn before (dones lane many)
+    → 1 ≤ lane → lane + many ≡ o.lanes
+    → ((l : ℕ) → lane ≤ l → own_entries l before ≡ []) → IsFree before 0 → FollowOn before (dones lane many)
 follow_dones o before lane zero h some all none free = (told o before 0 h free (omega arith), tt)
-follow_dones o before lane (suc many) h some all none free =
-    (told o before lane h (free_by before lane (none lane (omega arith))) (omega arith),
-     follow_dones o (before ++ told_done lane ∷ []) (lane + 1) many (ended_more o before lane h) (omega arith) (omega arith)
-       (λ l less. own_other l lane before (λ e. absurd (omega arith)) ∙ none l (omega arith))
-       (record {
-         holds_none = ap held_run (own_other 0 lane before (λ e. absurd (omega arith))) ∙ free.holds_none;
-         not_done = ap was_done (own_other 0 lane before (λ e. absurd (omega arith))) ∙ free.not_done
-       }))
+follow_dones o before lane (suc many) h some all none free = (
+  told o before lane h (free_by before lane (none lane (omega arith))) (omega arith),
+  follow_dones o (before ++ told_done lane ∷ []) (lane + 1) many (ended_more o before lane h) (omega arith) (omega arith)
+      (λ l less. own_other l lane before (λ e. absurd (omega arith)) ∙ none l (omega arith))
+      (record {
+        holds_none = ap held_run (own_other 0 lane before (λ e. absurd (omega arith))) ∙ free.holds_none;
+        not_done = ap was_done (own_other 0 lane before (λ e. absurd (omega arith))) ∙ free.not_done;
+      }),
+)
 
 -- the entries up to the end of run 0
 abbrev head : Opening → End → List Entry
@@ -110,10 +111,15 @@ head_own o end lane some =
 
 pub is_legal : (o : Opening) (end : End) → CanOpen o → IsLegal (schedule_of o end)
 is_legal o end can =
-    let below : nat_lt 0 o.lanes ≡ true = lt-ltb 0 o.lanes (omega (arith, can.some_lane)) in
-    (record { lane = refl; run = refl; opened = can; reply = refl },
-     (record { fit = subst IsTrue (sym (ap (λ b. b && true) below)) refl; answered = refl },
-      (record { fit = subst IsTrue (sym (ap (λ b. b && true) below)) refl; answered = refl },
-      follow_dones o (head o end) 1 (o.lanes - 1) (head_ended o end) (omega arith) (omega (arith, can.some_lane))
-        (λ l less. head_own o end l less)
-        (record { holds_none = refl; not_done = refl }))))
+    let below : nat_lt 0 o.lanes ≡ true = lt-ltb 0 o.lanes (omega (arith, can.some_lane)) in (
+      record { lane = refl; run = refl; opened = can; reply = refl },
+      (
+        record { fit = subst IsTrue (sym (ap (λ b. b && true) below)) refl; answered = refl },
+        (
+          record { fit = subst IsTrue (sym (ap (λ b. b && true) below)) refl; answered = refl },
+          follow_dones o (head o end) 1 (o.lanes - 1) (head_ended o end) (omega arith) (omega (arith, can.some_lane))
+              (λ l less. head_own o end l less)
+              (record { holds_none = refl; not_done = refl }),
+        ),
+      ),
+    )

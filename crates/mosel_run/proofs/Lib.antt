@@ -10,9 +10,6 @@ pub mod Lines
 pub mod SourceForms
 pub mod Tokens
 pub mod Steps
-
-
-
 pub mod SizeLemmas
 pub mod Legality
 pub mod NeverStuck

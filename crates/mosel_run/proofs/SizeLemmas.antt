@@ -66,11 +66,21 @@ code_few names k (number n) = omega arith
 code_few names k (text t) = omega arith
 code_few names k (name n) = omega arith
 code_few names k (plus a b) =
-    omega (arith, size-append (expression_code names k a) (expression_code names (k + length (texts_in a)) b ++ Add ∷ []),
-      size-append (expression_code names (k + length (texts_in a)) b) (Add ∷ []), code_few names k a, code_few names (k + length (texts_in a)) b)
+    omega (
+      arith,
+      size-append (expression_code names k a) (expression_code names (k + length (texts_in a)) b ++ Add ∷ []),
+      size-append (expression_code names (k + length (texts_in a)) b) (Add ∷ []),
+      code_few names k a,
+      code_few names (k + length (texts_in a)) b,
+    )
 code_few names k (minus a b) =
-    omega (arith, size-append (expression_code names k a) (expression_code names (k + length (texts_in a)) b ++ Subtract ∷ []),
-      size-append (expression_code names (k + length (texts_in a)) b) (Subtract ∷ []), code_few names k a, code_few names (k + length (texts_in a)) b)
+    omega (
+      arith,
+      size-append (expression_code names k a) (expression_code names (k + length (texts_in a)) b ++ Subtract ∷ []),
+      size-append (expression_code names (k + length (texts_in a)) b) (Subtract ∷ []),
+      code_few names k a,
+      code_few names (k + length (texts_in a)) b,
+    )
 code_few names k unbuilt = omega arith
 
 some_size : (e : Expression) → 1 ≤ size_of e
@@ -84,8 +94,13 @@ some_size unbuilt = omega arith
 code_few_all : (names : List (List ℕ)) (k : ℕ) (all : Arguments) → code_size (arguments_code names k all) ≤ 7 * size_of_all all
 code_few_all names k nothing = omega arith
 code_few_all names k (one_more e es) =
-    omega (arith, size-append (expression_code names k e) (Show ∷ Write ∷ arguments_code names (k + length (texts_in e)) es),
-      code_few names k e, some_size e, code_few_all names (k + length (texts_in e)) es)
+    omega (
+      arith,
+      size-append (expression_code names k e) (Show ∷ Write ∷ arguments_code names (k + length (texts_in e)) es),
+      code_few names k e,
+      some_size e,
+      code_few_all names (k + length (texts_in e)) es,
+    )
 
 code_few_effect : (names : List (List ℕ)) (k : ℕ) (e : Effect) → code_size (effect_code names k e) ≤ 7 * size_of_effect e
 code_few_effect names k (assign n e) =
@@ -97,8 +112,12 @@ code_few_effect names k unbuilt_effect = omega arith
 code_few_block : (names : List (List ℕ)) (k : ℕ) (all : Block) → code_size (block_code names k all) ≤ 7 * size_of_block all
 code_few_block names k done = omega arith
 code_few_block names k (first e rest) =
-    omega (arith, size-append (effect_code names k e) (block_code names (k + length (texts_in_effect e)) rest),
-      code_few_effect names k e, code_few_block names (k + length (texts_in_effect e)) rest)
+    omega (
+      arith,
+      size-append (effect_code names k e) (block_code names (k + length (texts_in_effect e)) rest),
+      code_few_effect names k e,
+      code_few_block names (k + length (texts_in_effect e)) rest,
+    )
 
 types_few : (names : List (List ℕ)) → length (types_of names) ≤ 1
 types_few [] = omega arith
@@ -114,7 +133,7 @@ types_fit (n ∷ names) = λ k d less. only k d less
 
 -- the image of a model of which no text is long fits the fields of its file
 pub fits_fields : (model : Block) → size_of_block model < 2 ^ 24 → All (λ t. length t < 2 ^ 32) (texts_in_block model)
-  → FitsFields (image_of model)
+    → FitsFields (image_of model)
 fits_fields model small short = record {
   constants = omega (arith, texts_few_block model);
   texts = short;
@@ -126,5 +145,5 @@ fits_fields model small short = record {
   slots = All-nil _;
   points = omega arith;
   stacks = All-nil _;
-  code = omega (arith, size-append (block_code (variables_of model) 0 model) (PushInt (pos 0) ∷ End ∷ []), code_few_block (variables_of model) 0 model)
+  code = omega (arith, size-append (block_code (variables_of model) 0 model) (PushInt (pos 0) ∷ End ∷ []), code_few_block (variables_of model) 0 model);
 }

@@ -21,7 +21,7 @@ after-append address [] js = refl
 after-append address (i ∷ is) js = after-append (address + width i) is js
 
 pub parts : (code : List Instruction) (address : ℕ) (is js : List Instruction)
-  → HasAt code address (is ++ js) → HasAt code address is × HasAt code (after address is) js
+    → HasAt code address (is ++ js) → HasAt code address is × HasAt code (after address is) js
 parts code address [] js h = (tt, h)
 parts code address (i ∷ is) js h =
     let rest = parts code (address + width i) is js h.1 in ((h.0, rest.0), rest.1)
@@ -32,11 +32,11 @@ above address (i ∷ is) = let h : address + width i ≤ after (address + width 
 
 -- what stands behind some instructions is found there
 pub found : (at : ℕ) (is : List Instruction) (i : Instruction) (js : List Instruction)
-  → instruction_from at (is ++ i ∷ js) (after at is) ≡ Some i
+    → instruction_from at (is ++ i ∷ js) (after at is) ≡ Some i
 found at [] i js = rw (eq-eqb at at refl) refl
 found at (j ∷ is) i js =
     let apart : nat_eq at (after (at + width j) is) ≡ false =
-        ne_eqb at (after (at + width j) is) (λ e. let h = above (at + width j) is in absurd (omega (arith, e, h))) in
+    ne_eqb at (after (at + width j) is) (λ e. let h = above (at + width j) is in absurd (omega (arith, e, h))) in
     rw apart (found (at + width j) is i js)
 
 behind : (is js : List Instruction) → HasAt (is ++ js) (after 0 is) js
@@ -44,9 +44,10 @@ behind is [] = tt
 behind is (j ∷ js) =
     let e : (is ++ j ∷ []) ++ js ≡ is ++ j ∷ js = append_assoc is (j ∷ []) js in
     let rest : HasAt (is ++ j ∷ js) (after 0 (is ++ j ∷ [])) js =
-        subst (λ (code : List Instruction). HasAt code (after 0 (is ++ j ∷ [])) js) e (behind (is ++ j ∷ []) js) in
-    (found 0 is j js,
-     subst (λ (address : ℕ). HasAt (is ++ j ∷ js) address js) (after-append 0 is (j ∷ [])) rest)
+    subst (λ (code : List Instruction). HasAt code (after 0 (is ++ j ∷ [])) js) e (behind (is ++ j ∷ []) js) in (
+      found 0 is j js,
+      subst (λ (address : ℕ). HasAt (is ++ j ∷ js) address js) (after-append 0 is (j ∷ [])) rest,
+    )
 
 -- the whole code stands from address 0 on
 pub whole : (code : List Instruction) → HasAt code 0 code
@@ -58,7 +59,7 @@ HasTexts all k [] = Unit {0}
 HasTexts all k (t ∷ ts) = (slice_get all k ≡ Some t) × HasTexts all (k + 1) ts
 
 pub text_parts : (all : List (List ℕ)) (k : ℕ) (ts us : List (List ℕ))
-  → HasTexts all k (ts ++ us) → HasTexts all k ts × HasTexts all (k + length ts) us
+    → HasTexts all k (ts ++ us) → HasTexts all k ts × HasTexts all (k + length ts) us
 text_parts all k [] us h =
     let e : k + 0 ≡ k = omega arith in (tt, rw e h)
 text_parts all k (t ∷ ts) us h =
@@ -76,7 +77,7 @@ texts_behind ts (u ∷ us) =
     let e : (ts ++ u ∷ []) ++ us ≡ ts ++ u ∷ us = append_assoc ts (u ∷ []) us in
     let l : length (ts ++ u ∷ []) ≡ length ts + 1 = omega (arith, length-append ts (u ∷ [])) in
     let rest : HasTexts (ts ++ u ∷ us) (length (ts ++ u ∷ [])) us =
-        subst (λ (all : List (List ℕ)). HasTexts all (length (ts ++ u ∷ [])) us) e (texts_behind (ts ++ u ∷ []) us) in
+    subst (λ (all : List (List ℕ)). HasTexts all (length (ts ++ u ∷ [])) us) e (texts_behind (ts ++ u ∷ []) us) in
     (text_found ts u us, subst (λ (n : ℕ). HasTexts (ts ++ u ∷ us) n us) l rest)
 
 -- all constants stand from place 0 on

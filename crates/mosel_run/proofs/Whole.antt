@@ -69,8 +69,8 @@ own_one lane from (suc many) less more some =
     at (eqb_tells from lane) (λ above. own_one lane (from + 1) many above (omega arith) (omega arith))
   where
     at : ((nat_eq from lane ≡ true) × (from ≡ lane)) ⊎ ((nat_eq from lane ≡ false) × (from ≢ lane))
-      → (from + 1 ≤ lane → own_entries lane (dones (from + 1) many) ≡ told_done lane ∷ [])
-      → own_entries lane (dones from (suc many)) ≡ told_done lane ∷ []
+        → (from + 1 ≤ lane → own_entries lane (dones (from + 1) many) ≡ told_done lane ∷ [])
+        → own_entries lane (dones from (suc many)) ≡ told_done lane ∷ []
     at (inl h) later_on =
         ap (λ b. if b then told_done from ∷ own_entries lane (dones (from + 1) many) else own_entries lane (dones (from + 1) many)) h.0
         ∙ ap (λ rest. told_done from ∷ rest) (own_past lane (from + 1) many (let e = h.1 in omega arith) (omega arith))
@@ -92,8 +92,8 @@ ends_done o end (suc lane) some less =
     let apart : nat_eq 0 (suc lane) ≡ false = ne_eqb 0 (suc lane) (λ e. absurd (omega arith)) in
     let rest : List Entry = own_entries (suc lane) (dones 1 (o.lanes - 1)) in
     let e : own_entries (suc lane) (schedule_of o end) ≡ told_done (suc lane) ∷ [] =
-        ap (λ b. if b then opened o ∷ (if b then claimed o.params ∷ (if b then finished end ∷ rest else rest) else (if b then finished end ∷ rest else rest)) else (if b then claimed o.params ∷ (if b then finished end ∷ rest else rest) else (if b then finished end ∷ rest else rest))) apart
-        ∙ own_one (suc lane) 1 (o.lanes - 1) (omega arith) (omega arith) (omega arith) in
+    ap (λ b. if b then opened o ∷ (if b then claimed o.params ∷ (if b then finished end ∷ rest else rest) else (if b then finished end ∷ rest else rest)) else (if b then claimed o.params ∷ (if b then finished end ∷ rest else rest) else (if b then finished end ∷ rest else rest))) apart
+    ∙ own_one (suc lane) 1 (o.lanes - 1) (omega arith) (omega arith) (omega arith) in
     subst EndsDone (sym e) (refl, refl)
 
 only_zero : (o : Opening) (end : End) (run : ℕ) → run < run_count (schedule_of o end) → is_finished run (schedule_of o end) ≡ true
@@ -106,12 +106,12 @@ is_whole o end can = record {
   opened = refl;
   no_quit = no_quit o end;
   all_finished = only_zero o end;
-  all_done = λ lane less. ends_done o end lane can.some_lane less
+  all_done = λ lane less. ends_done o end lane can.some_lane less;
 }
 
 -- nothing of it is put
 pub no_puts : (files : List Listed) (models : List (Option Model)) (o : Opening) (end : End)
-  → filter_map (λ (e : Entry). put_of files models e.call e.reply) (schedule_of o end) ≡ []
+    → filter_map (λ (e : Entry). put_of files models e.call e.reply) (schedule_of o end) ≡ []
 no_puts files models o end = past 1 (o.lanes - 1)
   where
     past : (lane many : ℕ) → filter_map (λ (e : Entry). put_of files models e.call e.reply) (dones lane many) ≡ []

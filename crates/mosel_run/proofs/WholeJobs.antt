@@ -55,33 +55,33 @@ can_open name source lanes fit = record {
   few_files = omega arith;
   master = (inl (source_name name fit.1), refl);
   names = ap (λ b. b && true) fit.0;
-  distinct = (All-nil _, tt)
+  distinct = (All-nil _, tt);
 }
 
 -- the outcome of the run is what the model means
 means_outcome : (model : Block) (image : Image) (ran : Ran) → image ≡ image_of model → IsBuiltBlock model → IsCourse image usual_budget ran
-  → outcome_of ran ≡ meaning_of model [] [] usual_budget
+    → outcome_of ran ≡ meaning_of model [] [] usual_budget
 means_outcome model image ran is built course =
     sym (ap (λ c. c.outcome) course) ∙ ap (λ (i : Image). (course_of i [] [] usual_budget).outcome) is
     ∙ course_is_meaning model [] [] usual_budget built
 
 -- the run of a model of the first form is not stuck
 pub not_stuck : (model : Block) (image : Image) (ran : Ran) (many : ℕ) → image ≡ image_of model → IsFirst model many
-  → IsCourse image usual_budget ran → stop_of ran.halt ≢ Stuck
+    → IsCourse image usual_budget ran → stop_of ran.halt ≢ Stuck
 not_stuck model image ran many is h course = λ stuck.
     never_stuck model [] usual_budget h.texts (sym (ap (λ m. m.stop) (means_outcome model image ran is h.built course)) ∙ stuck)
 
 -- the run follows its source
 pub run_follows : (name source : List ℕ) (lanes : ℕ) (model : Block) (image : Image) (ran : Ran) (end : End)
-  → image ≡ image_of model → IsBuiltBlock model → IsCourse image usual_budget ran → end_of (stop_of ran.halt) ≡ Some end
-  → RunFollows (schedule_of (opening_on name source lanes) end) (opening_on name source lanes) 0 (line_of name end ran) 0 [] (listed name source)
-      (record { statements = model; image = image })
+    → image ≡ image_of model → IsBuiltBlock model → IsCourse image usual_budget ran → end_of (stop_of ran.halt) ≡ Some end
+    → RunFollows (schedule_of (opening_on name source lanes) end) (opening_on name source lanes) 0 (line_of name end ran) 0 [] (listed name source)
+    (record { statements = model; image = image })
 run_follows name source lanes model image ran end is built course ends =
     let o = opening_on name source lanes in
     let journal = schedule_of o end in
     let none : replies_of 0 journal ≡ [] = no_replies o end in
     let same : meaning_of model [] (replies_of 0 journal) usual_budget ≡ outcome_of ran =
-        ap (λ replies. meaning_of model [] replies usual_budget) none ∙ sym (means_outcome model image ran is built course) in
+    ap (λ replies. meaning_of model [] replies usual_budget) none ∙ sym (means_outcome model image ran is built course) in
     record {
       named = refl;
       replies_fit = subst (AllFit (calls_of 0 journal)) (sym none) (subst (λ calls. AllFit calls []) (sym (no_calls o end)) tt);
@@ -90,12 +90,12 @@ run_follows name source lanes model image ran end is built course ends =
           (refl, ap (λ m. end_of m.stop) same ∙ ends);
       output = sym (ap (λ m. m.output) same);
       ticks = sym (ap (λ m. m.ticks) same);
-      steps = sym (ap (λ replies. (course_of image [] replies usual_budget).steps) none ∙ ap (λ c. c.steps) course)
+      steps = sym (ap (λ replies. (course_of image [] replies usual_budget).steps) none ∙ ap (λ c. c.steps) course);
     }
 
 follows_sources : (name source : List ℕ) (lanes : ℕ) (tree : Tree) (image : Image) (ran : Ran) (end : End)
-  → image ≡ image_of (statements_of tree) → IsBuiltBlock (statements_of tree) → IsCourse image usual_budget ran → end_of (stop_of ran.halt) ≡ Some end
-  → FollowsSources (schedule_of (opening_on name source lanes) end) (line_of name end ran ∷ []) (model_of tree image ∷ [])
+    → image ≡ image_of (statements_of tree) → IsBuiltBlock (statements_of tree) → IsCourse image usual_budget ran → end_of (stop_of ran.halt) ≡ Some end
+    → FollowsSources (schedule_of (opening_on name source lanes) end) (line_of name end ran ∷ []) (model_of tree image ∷ [])
 follows_sources name source lanes tree image ran end is built course ends =
     let o = opening_on name source lanes in
     let journal = schedule_of o end in
@@ -103,19 +103,26 @@ follows_sources name source lanes tree image ran end is built course ends =
   where
     one : (line : RunLine) → line_of name end ran ≡ line → Follows (schedule_of (opening_on name source lanes) end) (opening_on name source lanes) (model_of tree image ∷ []) 0 line
     one line same = subst (λ (l : RunLine). Follows (schedule_of (opening_on name source lanes) end) (opening_on name source lanes) (model_of tree image ∷ []) 0 l) same (record {
-      source = 0; params = []; file = listed name source; model = record { statements = statements_of tree; image = image };
-      source_is = refl; params_is = refl; file_is = refl; model_is = refl;
-      follows = run_follows name source lanes (statements_of tree) image ran end is built course ends
+      source = 0;
+      params = [];
+      file = listed name source;
+      model = record { statements = statements_of tree; image = image };
+      source_is = refl;
+      params_is = refl;
+      file_is = refl;
+      model_is = refl;
+      follows = run_follows name source lanes (statements_of tree) image ran end is built course ends;
     })
+
     each : (run : ℕ) (line : RunLine) → slice_get (line_of name end ran ∷ []) run ≡ Some line → Follows (schedule_of (opening_on name source lanes) end) (opening_on name source lanes) (model_of tree image ∷ []) run line
     each zero line found = one line cc
     each (suc run) line found = cc
 
 -- what `carry_out` promises
 pub is_job : (name source : List ℕ) (lanes : ℕ) (tree : Tree) (image : Image) (ran : Ran) (end : End)
-  → IsSource source tree → IsFit (RunCommand name lanes)
-  → image ≡ image_of (statements_of tree) → IsCourse image usual_budget ran → end_of (stop_of ran.halt) ≡ Some end
-  → IsJob (opening_on name source lanes) source tree image (schedule_of (opening_on name source lanes) end) (line_of name end ran ∷ [])
+    → IsSource source tree → IsFit (RunCommand name lanes)
+    → image ≡ image_of (statements_of tree) → IsCourse image usual_budget ran → end_of (stop_of ran.halt) ≡ Some end
+    → IsJob (opening_on name source lanes) source tree image (schedule_of (opening_on name source lanes) end) (line_of name end ran ∷ [])
 is_job name source lanes tree image ran end form fit is course ends =
     let h = first_model source tree form in
     record {
@@ -123,12 +130,12 @@ is_job name source lanes tree image ran end form fit is course ends =
       means = λ params replies budget. ap (λ (i : Image). (course_of i params replies budget).outcome) is
           ∙ course_is_meaning (statements_of tree) params replies budget h.built;
       whole = is_whole (opening_on name source lanes) end (can_open name source lanes fit);
-      follows = follows_sources name source lanes tree image ran end is h.built course ends
+      follows = follows_sources name source lanes tree image ran end is h.built course ends;
     }
 
 pub puts_are : (name source : List ℕ) (lanes : ℕ) (tree : Tree) (image : Image) (end : End)
-  → puts_of (opening_on name source lanes) (schedule_of (opening_on name source lanes) end) (model_of tree image ∷ [])
+    → puts_of (opening_on name source lanes) (schedule_of (opening_on name source lanes) end) (model_of tree image ∷ [])
     ≡ record { name = image_name name; bytes = image_bytes image } ∷ []
 puts_are name source lanes tree image end =
     ap (λ rest. record { name = image_name name; bytes = image_bytes image } ∷ last_puts rest)
-      (no_puts (listed name source ∷ []) (model_of tree image ∷ []) (opening_on name source lanes) end)
+    (no_puts (listed name source ∷ []) (model_of tree image ∷ []) (opening_on name source lanes) end)

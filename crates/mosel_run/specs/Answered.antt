@@ -108,7 +108,7 @@ pub data LacksMemory (words : List (List ℕ)) (before after : Disk) (paper pape
   before_writing : after.content ≡ before.content → paper_after.bytes ≡ appended paper.bytes [] → LacksMemory words before after paper paper_after
   writing : after.content ≡ before.content → WrotePart words before after paper paper_after → LacksMemory words before after paper paper_after
   putting : (output : Output) → IsReport words before.content output → paper_after.bytes ≡ appended paper.bytes output.report
-    → SameElsewhere output.image_name before.content after.content → LacksMemory words before after paper paper_after
+      → SameElsewhere output.image_name before.content after.content → LacksMemory words before after paper paper_after
 
 abbrev pub Answered : List (List ℕ) → Disk → Disk → Paper → Paper → Status → Type 0
 Answered words before after paper paper_after Done = Reports words before after paper paper_after EndedWell (AllPut before.content after.content)

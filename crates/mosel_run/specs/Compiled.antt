@@ -72,5 +72,5 @@ image_of model = record {
   globals = replicate (length (variables_of model)) 0;
   routines = [];
   points = [];
-  code = block_code (variables_of model) 0 model ++ (PushInt (pos 0) ∷ End ∷ [])
+  code = block_code (variables_of model) 0 model ++ (PushInt (pos 0) ∷ End ∷ []);
 }

@@ -31,5 +31,5 @@ line_of name end ran = record {
   end = Ended end;
   ticks = ran.ticks;
   steps = ran.steps;
-  output = ran.output
+  output = ran.output;
 }

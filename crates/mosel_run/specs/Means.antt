@@ -9,4 +9,4 @@ use Rattle.mos_meaning.specs.Machine.{course_of}
 
 abbrev pub Means : Block → Image → Type 0
 Means model image = (params : List ℕ) (replies : List Reply) (budget : ℕ)
-  → (course_of image params replies budget).outcome ≡ meaning_of model params replies budget
+    → (course_of image params replies budget).outcome ≡ meaning_of model params replies budget

@@ -23,7 +23,7 @@ IsCourse image budget ran = course_of image [] [] budget ≡ record { outcome = 
 abbrev pub begins : ℕ → ℕ → Kept
 begins many budget = record {
   frame = record { stack = []; held = [] };
-  state = beginning (defaults many) [] budget
+  state = beginning (defaults many) [] budget;
 }
 
 -- what is told of a machine that stopped

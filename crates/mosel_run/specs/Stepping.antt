@@ -53,4 +53,4 @@ Combines operator before halt after =
 abbrev pub WritesHeld : Kept → Option Halt → Kept → Type 0
 WritesHeld before halt after =
     (next : ℕ) → settle (or_fault OutFull (written before.state.memory before.frame.held) (λ m. On (record before.frame { held = [] }) m)) next before.state
-        ≡ lands next halt after
+    ≡ lands next halt after

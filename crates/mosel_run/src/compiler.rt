@@ -14,11 +14,10 @@ ghost use Rattle.mosel_run.specs.Means.{Means};
 use bim_code::{Image, ImageType, Instruction};
 use mos_text::{NoMemory, Text};
 use mos_tree::Tree;
-use sqlite_items::Items;
-use std::alloc::Global;
-
 use names::variables;
+use sqlite_items::Items;
 use statements::emit_tops;
+use std::alloc::Global;
 
 /// What was made of a model so far.
 #[derive(Debug, Drop)]

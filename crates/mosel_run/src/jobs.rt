@@ -19,6 +19,10 @@ ghost use Rattle.mosel_run.specs.Schedule.{schedule_of};
 ghost use Rattle.mosel_run.specs.Jobs.{line_of};
 ghost use Rattle.mosel_run.specs.Stepping.{stop_of};
 
+use crate::compiler::compile;
+use crate::halt::Halt;
+use crate::runner::{Ran, run};
+use crate::schedule::schedule;
 use bim_code::Image;
 use bim_format::write_image;
 use hub_text::write_report;
@@ -27,11 +31,6 @@ use mos_text::{Blob, NoMemory, SharedBlob, Text};
 use mos_tree::Tree;
 use sqlite_items::Items;
 use std::alloc::Global;
-
-use crate::compiler::compile;
-use crate::halt::Halt;
-use crate::runner::{Ran, run};
-use crate::schedule::schedule;
 
 /// The ticks that a run may take.
 const USUAL_BUDGET: u32 = 10_000_000;
@@ -165,7 +164,11 @@ fn output_of(alloc: Global, name: &Text, finished: &Finished) -> Result<Output, 
     ensures image { IfOk result (λ output. output.image ≡ image_bytes finished.now.image) }
     ensures end { IfOk result (λ output. output.end ≡ finished.now.end) }
 {
-    let report = write_report(alloc, finished.lines.as_slice(), finished.journal.as_slice())?;
+    let report = write_report(
+        alloc,
+        finished.lines.as_slice(),
+        finished.journal.as_slice(),
+    )?;
     let image_name = name_of_image(alloc, name)?;
     let image = write_image(alloc, &finished.image)?;
     Ok(Output {

@@ -5,14 +5,13 @@ ghost use Rattle.mos_meaning.specs.Meaning.{defaults as defaults_of};
 ghost use Rattle.mosel_run.specs.Running.{begins, IsToldOf};
 ghost use Rattle.mosel_run.specs.Stepping.{Leads, LeadsAlways, Combines, WritesHeld};
 
+use crate::arithmetic::{Operator, result_of};
+use crate::halt::Halt;
+use crate::runner::Ran;
 use bim_code::{Image, Instruction};
 use mos_text::{Blob, FaultKind, NoMemory, Scalar, Text};
 use std::alloc::Global;
 use std::marker::Model;
-
-use crate::arithmetic::{Operator, result_of};
-use crate::halt::Halt;
-use crate::runner::Ran;
 
 /// The most bytes that a text may have.
 const TEXT_LIMIT: usize = 1_000_000;
@@ -40,13 +39,13 @@ impl Model for Machine {
     ghost Value = { Kept };
 
     ghost view = { λ m. record {
-        frame = record { stack = reverse m.stack.items; held = m.held.items };
-        state = record {
-            memory = record { store = m.store.items; output = m.output.items };
-            calls = [];
-            replies = [];
-            ticks = m.ticks
-        }
+      frame = record { stack = reverse m.stack.items; held = m.held.items };
+      state = record {
+        memory = record { store = m.store.items; output = m.output.items };
+        calls = [];
+        replies = [];
+        ticks = m.ticks;
+      };
     } };
 }
 

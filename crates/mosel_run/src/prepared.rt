@@ -7,14 +7,13 @@ ghost use Rattle.mos_words.specs.Fit.{IsFit};
 ghost use Rattle.mos_words.specs.declared.words.commands.Command.TheVariants.{Run as RunCommand};
 ghost use Rattle.mosel_run.specs.Preparing.{Prepares, PreparesFile, PreparesSource};
 
+use crate::jobs::{Output, make_output};
+use crate::reader::{ReadFault, read_source};
+use crate::status::Status;
 use hub_text::{write_missing, write_read_fault, write_too_large, write_usage, write_verdict};
 use mos_text::{Blob, Folder, Got, NoMemory, Text};
 use mos_words::{Command, WordFault, command};
 use std::alloc::Global;
-
-use crate::jobs::{Output, make_output};
-use crate::reader::{ReadFault, read_source};
-use crate::status::Status;
 
 /// The longest source that is read.
 const SOURCE_LIMIT: u32 = 1_048_576;

@@ -3,12 +3,11 @@ ghost use Rattle.std.specs.Prelude.{◌≡◌, ℕ, ◌≤◌, ◌+◌, ◌*◌,
 ghost use Rattle.mosel_run.specs.Closed.{IsClosed};
 ghost use Rattle.mosel_run.specs.Running.{IsCourse};
 
+use crate::halt::Halt;
+use crate::machine::Machine;
 use bim_code::Image;
 use mos_text::{Blob, NoMemory};
 use std::alloc::Global;
-
-use crate::halt::Halt;
-use crate::machine::Machine;
 
 /// What a run did.
 #[derive(Debug, Drop)]

@@ -7,13 +7,12 @@ ghost use Rattle.mosel_run.specs.Answered.{Answered};
 ghost use Rattle.mosel_run.specs.Outputs.{IsOwnEnd};
 ghost use Rattle.mosel_run.specs.Storing.{Stores, Ends};
 
-use job_calls::End;
-use mos_text::{Folder, Sink, Stored, Text, Written, write_whole};
-use std::alloc::Global;
-
 use crate::jobs::Output;
 use crate::prepared::{Prepared, prepare};
 use crate::status::Status;
+use job_calls::End;
+use mos_text::{Folder, Sink, Stored, Text, Written, write_whole};
+use std::alloc::Global;
 
 /// Does what the words ask for: gets the file that they name from the folder, runs the job, writes
 /// one report or one line to the sink, and puts the files of the job into the folder. The first word
@@ -70,3 +69,6 @@ fn status_of(end: End) -> Status
         End::Stopped | End::NoMemory => unreachable!(),
     }
 }
+
+#[cfg(test)]
+mod tests;

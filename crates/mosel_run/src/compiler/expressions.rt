@@ -4,13 +4,12 @@ ghost use Rattle.mos_meaning.specs.Syntax.{expression};
 ghost use Rattle.mosel_run.specs.Built.{IsBuilt};
 ghost use Rattle.mosel_run.specs.Compiled.{expression_code, texts_in};
 
+use super::Draft;
+use super::names::place;
 use bim_code::Instruction;
 use mos_text::{NoMemory, Text};
 use mos_tree::{BinaryOperator, Expr};
 use std::alloc::Global;
-
-use super::Draft;
-use super::names::place;
 
 /// Adds the code that leaves the value of the expression on the stack.
 pub(crate) fn emit_expression(

@@ -4,14 +4,13 @@ ghost use Rattle.mos_meaning.specs.Syntax.{expression, arguments, effect, top_ef
 ghost use Rattle.mosel_run.specs.Built.{AreBuilt, IsBuiltEffect, IsBuiltBlock};
 ghost use Rattle.mosel_run.specs.Compiled.{expression_code, texts_in, arguments_code, texts_in_all, effect_code, texts_in_effect, block_code, texts_in_block};
 
+use super::Draft;
+use super::expressions::emit_expression;
+use super::names::place;
 use bim_code::Instruction;
 use mos_text::{NoMemory, Text};
 use mos_tree::{Assignment, Expr, Reference, Statement, Top};
 use std::alloc::Global;
-
-use super::Draft;
-use super::expressions::emit_expression;
-use super::names::place;
 
 /// Adds the code of the statements of a model, in their order.
 pub(crate) fn emit_tops(
@@ -32,12 +31,7 @@ pub(crate) fn emit_tops(
     Ok(())
 }
 
-fn emit_top(
-    alloc: Global,
-    draft: &mut Draft,
-    names: &[Text],
-    top: &Top,
-) -> Result<(), NoMemory>
+fn emit_top(alloc: Global, draft: &mut Draft, names: &[Text], top: &Top) -> Result<(), NoMemory>
     requires built { IsBuiltEffect (top_effect top.now) }
     requires few_names { length names.now < 2 ^ 31 }
     requires few { length draft.old.constants + length (texts_in_effect (top_effect top.now)) < 2 ^ 32 }
@@ -76,7 +70,9 @@ fn emit_statement(
             Ok(())
         }
         Statement::Call {
-            name, arguments, ..
+            name,
+            arguments,
+            ..
         } if name.as_str() == "writeln" => {
             draft.code.push(Instruction::Tick)?;
             emit_arguments(alloc, draft, names, arguments.as_slice())?;

@@ -3,11 +3,11 @@ ghost use Rattle.std.specs.Prelude.{◌≡◌, ◌<◌, ◌≤◌, List, [], ◌
 ghost use Rattle.mosel_run.specs.FirstForm.{Bytes, lines_of};
 ghost use Rattle.mosel_run.specs.FirstReading.{step_of, tops_of, body_in, Reads};
 
-use mos_words::place_of;
 use crate::reader::fault::ReadFault;
 use crate::reader::line::{is_blank_line, is_end, statement_of};
 use mos_text::{Kind, NoMemory};
 use mos_tree::Top;
+use mos_words::place_of;
 use sqlite_items::Items;
 use std::alloc::Global;
 

@@ -7,7 +7,7 @@ use Rattle.mosel_run.proofs.compiler.compile.Goals as goal
 pub emit_tops-requires-clause-few_names : goal.emit_tops-requires-clause-few_names
 emit_tops-requires-clause-few_names c =
     let e : c.as_slice-2.result.now ≡ variables_of (statements_of c.args.tree.now) =
-        c.as_slice-2.ensures ∙ c.in_ok-names.ensures ∙ ap (λ tops. names_from [] (block (map top_effect tops))) c.as_slice.ensures in
+    c.as_slice-2.ensures ∙ c.in_ok-names.ensures ∙ ap (λ tops. names_from [] (block (map top_effect tops))) c.as_slice.ensures in
     rw e (omega (arith, variables_few (statements_of c.args.tree.now), c.requires.small))
 
 pub emit_tops-requires-clause-few : goal.emit_tops-requires-clause-few

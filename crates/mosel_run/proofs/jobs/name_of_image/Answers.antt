@@ -17,7 +17,7 @@ cut name e =
     let f = four name e in
     let k : (length name - 4) + 0 ≡ length name - 4 = omega arith in
     let point : get_or name (length name - 4) 0 ≡ 46 =
-        sym (get_or-drop (length name - 4) name 0 0 ∙ ap (λ i. get_or name i 0) k) ∙ ap (λ bytes. get_or bytes 0 0) e in
+    sym (get_or-drop (length name - 4) name 0 0 ∙ ap (λ i. get_or name i 0) k) ∙ ap (λ bytes. get_or bytes 0 0) e in
     IsCharBoundary-before_ascii name (length name - 4) (omega arith) (omega arith)
 
 pub overflow_sub-source : goal.overflow_sub-source

@@ -16,13 +16,13 @@ returns-in-Some-clause-course c =
     let within : k < length image.code = subst (λ (code : _). k < length code) same c.loop-place-test.true in
     let most : k + 1 ≤ most_steps image c.args.budget = within_most (length image.code) c.args.budget k within in
     let over : run image (k + 1) first ≡ Over (stop_of c.in-Some.halt) c.step.new.self.state =
-        one_step image first items k Tick c.loop-place.machine.frame c.loop-place.machine.state (Some c.in-Some.halt) c.step.new.self
-          same c.loop-place-test.true c.loop-place.invariant.stands (rw c.in-Some.is at c.in_ok-halt.ensures) in
+    one_step image first items k Tick c.loop-place.machine.frame c.loop-place.machine.state (Some c.in-Some.halt) c.step.new.self
+    same c.loop-place-test.true c.loop-place.invariant.stands (rw c.in-Some.is at c.in_ok-halt.ensures) in
     let steps : steps_taken image (k + 1) first ≡ k + 1 =
-        one_step_more image first k _ _ _ c.loop-place.invariant.stands c.loop-place.invariant.steps in
+    one_step_more image first k _ _ _ c.loop-place.invariant.stands c.loop-place.invariant.steps in
     course_eq _ _ _ _
-      (ap (told_machine c.args.budget) (stopped image first (k + 1) (most_steps image c.args.budget) _ _ most over) ∙ sym c.ended.ensures.0)
-      (steps_stopped image first (k + 1) (most_steps image c.args.budget) _ _ most over ∙ steps ∙ sym c.ended.ensures.1)
+    (ap (told_machine c.args.budget) (stopped image first (k + 1) (most_steps image c.args.budget) _ _ most over) ∙ sym c.ended.ensures.0)
+    (steps_stopped image first (k + 1) (most_steps image c.args.budget) _ _ most over ∙ steps ∙ sym c.ended.ensures.1)
 
 pub loop-place-preserved : goal.loop-place-preserved
 loop-place-preserved c =
@@ -32,7 +32,7 @@ loop-place-preserved c =
       stands = one_step image first c.as_slice-instruction-items.result.now c.loop-place.place Tick
           c.loop-place.machine.frame c.loop-place.machine.state None c.step.new.self
           c.as_slice-instruction-items.ensures c.loop-place-test.true c.loop-place.invariant.stands (rw c.in_default.is at c.in_ok-halt.ensures);
-      steps = one_step_more image first c.loop-place.place _ _ _ c.loop-place.invariant.stands c.loop-place.invariant.steps
+      steps = one_step_more image first c.loop-place.place _ _ _ c.loop-place.invariant.stands c.loop-place.invariant.steps;
     }
 
 pub unreachable-requires : goal.unreachable-requires

@@ -7,5 +7,5 @@ use Rattle.mosel_run.proofs.runner.run.Given as goal
 abbrev pub invariant-loop-place : goal.invariant-loop-place
 invariant-loop-place l = record {
   stands : run l.image l.place (start l.image [] l.budget) ≡ At (after 0 (take l.place l.image.code)) l.machine.frame l.machine.state;
-  steps : steps_taken l.image l.place (start l.image [] l.budget) ≡ l.place
+  steps : steps_taken l.image l.place (start l.image [] l.budget) ≡ l.place;
 }

@@ -10,7 +10,7 @@ invariant-loop-written l = record {
   built : AreBuilt (arguments (map expression (drop l.written-index l.all)));
   few : length l.draft.constants + length (texts_in_all (arguments (map expression (drop l.written-index l.all)))) < 2 ^ 32;
   code : l.draft.code ++ arguments_code l.names (length l.draft.constants) (arguments (map expression (drop l.written-index l.all)))
-    ≡ l.initial.draft.code ++ arguments_code l.names (length l.initial.draft.constants) (arguments (map expression l.all));
+      ≡ l.initial.draft.code ++ arguments_code l.names (length l.initial.draft.constants) (arguments (map expression l.all));
   constants : l.draft.constants ++ texts_in_all (arguments (map expression (drop l.written-index l.all)))
-    ≡ l.initial.draft.constants ++ texts_in_all (arguments (map expression l.all))
+      ≡ l.initial.draft.constants ++ texts_in_all (arguments (map expression l.all));
 }

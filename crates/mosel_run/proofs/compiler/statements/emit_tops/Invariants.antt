@@ -10,7 +10,7 @@ invariant-loop-top l = record {
   built : IsBuiltBlock (block (map top_effect (drop l.top-index l.tops)));
   few : length l.draft.constants + length (texts_in_block (block (map top_effect (drop l.top-index l.tops)))) < 2 ^ 32;
   code : l.draft.code ++ block_code l.names (length l.draft.constants) (block (map top_effect (drop l.top-index l.tops)))
-    ≡ l.initial.draft.code ++ block_code l.names (length l.initial.draft.constants) (block (map top_effect l.tops));
+      ≡ l.initial.draft.code ++ block_code l.names (length l.initial.draft.constants) (block (map top_effect l.tops));
   constants : l.draft.constants ++ texts_in_block (block (map top_effect (drop l.top-index l.tops)))
-    ≡ l.initial.draft.constants ++ texts_in_block (block (map top_effect l.tops))
+      ≡ l.initial.draft.constants ++ texts_in_block (block (map top_effect l.tops));
 }
