@@ -10,3 +10,4 @@ pub mod ReplyText
 pub mod ReportText
 pub mod ErrorLines
 pub mod ReportExamples
+pub mod JournalExamples

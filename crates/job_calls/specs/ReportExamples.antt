@@ -42,13 +42,13 @@ hello_runs = record {
   source = codes "hello.mos";
   end = Ended (end.Code (pos 0));
   ticks = 1;
-  steps = 6;
+  steps = 8;
   output = codes "hello\n";
 } ∷ []
 
 -- its report
 abbrev pub HelloReport : Type 0
-HelloReport = report_text hello_entries hello_runs ≡ codes "mosel report 1\nrun 0 hello.mos ok 0 ticks 1 steps 6 out 6\nhello\n\njournal 4\n0 0 - Open 1 10000000 \"\" hello.mos:41 -> opened\n1 0 - Claim -> claimed 0\n2 0 0 Finish ok 0 -> unit\n3 0 - Claim -> done\nend\n"
+HelloReport = report_text hello_entries hello_runs ≡ codes "mosel report 1\nrun 0 hello.mos ok 0 ticks 1 steps 8 out 6\nhello\n\njournal 4\n0 0 - Open 1 10000000 \"\" hello.mos:41 -> opened\n1 0 - Claim -> claimed 0\n2 0 0 Finish ok 0 -> unit\n3 0 - Claim -> done\nend\n"
 
 -- some calls, and what is written of them
 abbrev pub CallTexts : Type 0
