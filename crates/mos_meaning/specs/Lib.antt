@@ -5,3 +5,4 @@ pub mod Effects
 pub mod Meaning
 pub mod Machine
 pub mod Follows
+pub mod Examples

@@ -5,3 +5,7 @@
 //! and when a journal with its run lines follows from its sources. Meaning and machine share the
 //! state of a run and the operators on values, and nothing else.
 #![tactic(auto)]
+
+mod examples;
+
+pub use examples::{courses, meanings, refused_lines};

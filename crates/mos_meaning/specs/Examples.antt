@@ -1,0 +1,80 @@
+-- Worked examples of meanings and of what images do.
+
+use Rattle.std.specs.Prelude.{◌≡◌, ℕ, List, [], ◌∷◌, Option, Some, None, pos, true, codes}
+use Rattle.mos_text.specs.declared.fault_kind.FaultKind.TheVariants.{Overflow, BadParam}
+use Rattle.bim_code.specs.declared.image.Image.{Image}
+use Rattle.bim_code.specs.declared.instruction.Instruction.TheVariants.{Tick, PushInt, PushBool, PushText, Show, Write, Line, End}
+use Rattle.job_calls.specs.declared.run_line.RunLine.{RunLine}
+use Rattle.job_calls.specs.ReportExamples.{hello_entries, hello_runs}
+use Rattle.mos_meaning.specs.State.{Outcome, Stop, Exited, Failed, Spent}
+use Rattle.mos_meaning.specs.Syntax.{Block, done, first, assign, writeln, nothing, one_more, number, text, name, plus}
+use Rattle.mos_meaning.specs.Meaning.{meaning_of}
+use Rattle.mos_meaning.specs.Machine.{Course, course_of}
+use Rattle.mos_meaning.specs.Follows.{Model, FollowsSources}
+
+abbrev pub told : List ℕ → ℕ → Stop → Outcome
+told output ticks stop = record { output = output; calls = []; ticks = ticks; stop = stop }
+
+-- writeln("hello")
+abbrev pub hello : Block
+hello = first (writeln (one_more (text (codes "hello")) nothing)) done
+
+-- x:=2+3 and writeln(x)
+abbrev pub five : Block
+five = first (assign (codes "x") (plus (number (pos 2)) (number (pos 3)))) (first (writeln (one_more (name (codes "x")) nothing)) done)
+
+-- x:=2147483647+1
+abbrev pub too_much : Block
+too_much = first (assign (codes "x") (plus (number (pos 2147483647)) (number (pos 1)))) done
+
+-- an image that writes hello
+abbrev pub hello_image : Image
+hello_image = record {
+  constants = codes "hello" ∷ [];
+  types = [];
+  params = [];
+  globals = [];
+  routines = [];
+  points = [];
+  code = Tick ∷ PushText 0 ∷ Show ∷ Write ∷ PushBool true ∷ Line ∷ PushInt (pos 0) ∷ End ∷ [];
+}
+
+abbrev pub HelloMeans : Type 0
+HelloMeans = meaning_of hello [] [] 10000000 ≡ told (codes "hello\n") 1 (Exited (pos 0))
+
+-- without a tick it does nothing
+abbrev pub HelloSpent : Type 0
+HelloSpent = meaning_of hello [] [] 0 ≡ told [] 0 Spent
+
+-- with a parameter text it is refused
+abbrev pub HelloRefused : Type 0
+HelloRefused = meaning_of hello (codes "N=1") [] 10000000 ≡ told [] 0 (Failed BadParam)
+
+abbrev pub FiveMeans : Type 0
+FiveMeans = meaning_of five [] [] 10000000 ≡ told (codes "5\n") 2 (Exited (pos 0))
+
+abbrev pub TooMuchMeans : Type 0
+TooMuchMeans = meaning_of too_much [] [] 10000000 ≡ told [] 1 (Failed Overflow)
+
+-- the image takes eight steps, and means the same
+abbrev pub HelloCourse : Type 0
+HelloCourse = course_of hello_image [] [] 10000000 ≡ record { outcome = told (codes "hello\n") 1 (Exited (pos 0)); steps = 8 }
+
+-- without a tick it is spent at its first instruction
+abbrev pub HelloCourseSpent : Type 0
+HelloCourseSpent = course_of hello_image [] [] 0 ≡ record { outcome = told [] 0 Spent; steps = 1 }
+
+abbrev pub hello_models : List (Option Model)
+hello_models = Some record { statements = hello; image = hello_image } ∷ []
+
+-- one run line is wanted for each run
+abbrev pub TooFewLines : Type 0
+TooFewLines = FollowsSources hello_entries [] hello_models → ⊥
+
+-- the run has to have an accepted source
+abbrev pub NoModel : Type 0
+NoModel = FollowsSources hello_entries hello_runs (None ∷ []) → ⊥
+
+-- the run line has to name the source
+abbrev pub AnotherSource : Type 0
+AnotherSource = (line : RunLine) → line.source ≡ codes "other.mos" → FollowsSources hello_entries (line ∷ []) hello_models → ⊥

@@ -1,0 +1,24 @@
+//! Worked examples of the definitions: functions that do nothing, whose contracts are the examples.
+ghost use Rattle.mos_meaning.specs.Examples.{HelloMeans, HelloSpent, HelloRefused, FiveMeans, TooMuchMeans, HelloCourse, HelloCourseSpent, TooFewLines, NoModel, AnotherSource};
+
+/// What a few models mean.
+pub fn meanings()
+    ensures hello { HelloMeans }
+    ensures spent { HelloSpent }
+    ensures refused { HelloRefused }
+    ensures sum { FiveMeans }
+    ensures overflow { TooMuchMeans }
+{}
+
+/// What the image that writes hello does.
+pub fn courses()
+    ensures hello { HelloCourse }
+    ensures spent { HelloCourseSpent }
+{}
+
+/// Run lines that do not follow their sources.
+pub fn refused_lines()
+    ensures too_few { TooFewLines }
+    ensures no_model { NoModel }
+    ensures another_source { AnotherSource }
+{}
