@@ -6,15 +6,30 @@ use Rattle.job_calls.proofs.journals.hello_journal.Goals as goal
 
 pub returns : goal.returns
 unfolding is_file_name
-returns c =
-    (record {
-      lane = refl; run = refl; reply = refl;
-      opened = record {
-        some_lane = omega arith; few_lanes = omega arith; some_budget = omega arith; small_budget = omega arith; few_files = omega arith;
-        master = (inl refl, refl); names = refl; distinct = (All-nil _, tt)
-      }
-    },
-    (record { fit = refl; answered = refl },
-    (record { fit = refl; answered = refl },
-    (record { fit = refl; answered = refl },
-    tt))))
+returns c = (
+  record {
+    lane = refl;
+    run = refl;
+    reply = refl;
+    opened = record {
+      some_lane = omega arith;
+      few_lanes = omega arith;
+      some_budget = omega arith;
+      small_budget = omega arith;
+      few_files = omega arith;
+      master = (inl refl, refl);
+      names = refl;
+      distinct = (All-nil _, tt);
+    };
+  },
+  (
+    record { fit = refl; answered = refl },
+    (
+      record { fit = refl; answered = refl },
+      (
+        record { fit = refl; answered = refl },
+        tt,
+      ),
+    ),
+  ),
+)
