@@ -13,7 +13,7 @@ run: program
 # rt starts the program that it has proved and built, here without words: it answers its usage line.
 program:
 	@echo "Proving and building the program. The first time takes a while; afterwards only what has changed is done again."
-	@test "$$(cd crates/mosel && rt run)" = "mosel: usage"
+	@test "$$(cd crates/mosel && rt run | tail -n 1)" = "mosel: usage"
 
 try:
 	@echo "UNPROVED: the program is compiled with checks at run time, and nothing is proved of it in this run."
