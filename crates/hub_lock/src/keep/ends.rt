@@ -1,0 +1,1 @@
+//! How a lock gets more lanes, and how it ends.
