@@ -1,38 +1,38 @@
 -- What a call leaves, and what the end of a lock gives.
 use Rattle.std.specs.Prelude.{◌≡◌, ℕ, ◌+◌, ◌≤◌, ◌<◌, List, [], ◌∷◌, ◌++◌, length, slice_get, Option, Some}
+use Rattle.hub_lock.specs.declared.story.Story.{Ghosts}
 use Rattle.hub_lock.specs.declared.seat.Seat.{Seat}
 use Rattle.hub_lock.specs.Words.{of, StartsWith}
 use Rattle.hub_lock.specs.Rule.{WasJournal}
 use Rattle.hub_lock.specs.Seats.{seen, turns, lane}
 
--- list, lane_of, sound, answers and refuses are the story's
-module _ {S C A H E : Type 0} (list : S → List E) (lane_of : E → ℕ) (sound : List E → Type 0) where
+-- `story` has the meaning of a story S, with the calls C, their answers A and refusals H, and the entries E
+module _ {S C A H E : Type 0} {story : Ghosts S C A H E} where
   -- the lane's call was answered: what it has seen goes on with entries of other lanes, which was the whole journal at its last turn, and ends with its own new entry
-  pub record HasActed (answers : List E → ℕ → C → E → A → Type 0) (old new : Seat S C A H E) (call : C) (acted : A) : Type 0 where
+  pub record HasActed (old new : Seat S C A H E story) (call : C) (acted : A) : Type 0 where
     pub between : List E
     pub entry : E
     pub goes_on : seen new ≡ (seen old ++ between) ++ entry ∷ []
-    pub others : of lane_of (lane old) between ≡ []
-    pub own : lane_of entry ≡ lane old
-    pub answered : answers (seen old ++ between) (lane old) call entry acted
-    pub sounds : sound (seen new)
-    pub whole : WasJournal list lane_of sound (lane old) (turns new) (seen old ++ between)
+    pub others : of story.lane_of (lane old) between ≡ []
+    pub own : story.lane_of entry ≡ lane old
+    pub answered : story.answers (seen old ++ between) (lane old) call entry acted
+    pub sounds : story.sound (seen new)
+    pub whole : WasJournal story.list story.lane_of story.sound (lane old) (turns new) (seen old ++ between)
 
   -- the lane's call was refused: what it has seen goes on with entries of other lanes alone, and was the whole journal at its last turn
-  pub record HasHeld (refuses : List E → ℕ → C → H → Type 0) (old new : Seat S C A H E) (call : C) (count : ℕ) (held : H) : Type 0 where
+  pub record HasHeld (old new : Seat S C A H E story) (call : C) (count : ℕ) (held : H) : Type 0 where
     pub between : List E
     pub goes_on : seen new ≡ seen old ++ between
-    pub others : of lane_of (lane old) between ≡ []
+    pub others : of story.lane_of (lane old) between ≡ []
     pub counted : count ≡ length (seen new)
-    pub refused : refuses (seen new) (lane old) call held
-    pub sounds : sound (seen new)
-    pub whole : WasJournal list lane_of sound (lane old) (turns new) (seen new)
+    pub refused : story.refuses (seen new) (lane old) call held
+    pub sounds : story.sound (seen new)
+    pub whole : WasJournal story.list story.lane_of story.sound (lane old) (turns new) (seen new)
 
-module _ {S C A H E : Type 0} (lane_of : E → ℕ) where
   -- the journal begins with what the seat has seen, and has no other entries of its lane
-  abbrev pub IsIn : Seat S C A H E → List E → Type 0
-  IsIn seat log = StartsWith log (seen seat) × (of lane_of (lane seat) log ≡ of lane_of (lane seat) (seen seat))
+  abbrev pub IsIn : Seat S C A H E story → List E → Type 0
+  IsIn seat log = StartsWith log (seen seat) × (of story.lane_of (lane seat) log ≡ of story.lane_of (lane seat) (seen seat))
 
   -- the other seats are those of lanes 1, 2 and so on, in this order
-  abbrev pub InOrder : List (Seat S C A H E) → Type 0
-  InOrder others = (i : ℕ) (other : Seat S C A H E) → slice_get others i ≡ Some other → lane other ≡ i + 1
+  abbrev pub InOrder : List (Seat S C A H E story) → Type 0
+  InOrder others = (i : ℕ) (other : Seat S C A H E story) → slice_get others i ≡ Some other → lane other ≡ i + 1

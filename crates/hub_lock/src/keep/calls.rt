@@ -49,8 +49,8 @@ impl<S: Story> Keep<S> {
         requires allowed { S.allowed (slice_get (seen seat.old) 0) (of S.lane_of (lane seat.old) (seen seat.old)) (lane seat.old) call }
         ensures same { IsSameSeat seat.old seat.new }
         ensures turn { turns seat.new ≡ turns seat.old + 1 }
-        ensures acted { IfOk result (λ acted. HasActed S.list S.lane_of S.sound S.answers seat.old seat.new call acted) }
-        ensures held { IfErr result (λ held. HasHeld S.list S.lane_of S.sound S.refuses seat.old seat.new call held.seen held.held) }
+        ensures acted { IfOk result (λ acted. HasActed seat.old seat.new call acted) }
+        ensures held { IfErr result (λ held. HasHeld seat.old seat.new call held.seen held.held) }
         ensures not_ready { IfErr result (λ held. (same : S.Call) → S.waits held.held ≡ Some same → same ≡ call) }
     {
         let mut story = self.enter(rt, &mut seat.raw);
