@@ -99,15 +99,15 @@ module _ {S E : Type 0} (list : S → List E) (lane_of : E → ℕ) (sound : Lis
             (at_set s.views id j w u e);
         apart = λ i j a b ne ea eb. ⊎_elim
             (λ (x : (i ≡ id) × (w ≡ a)). ⊎_elim
-                (λ (y : (j ≡ id) × (w ≡ b)). absurd (ne (x.0 ∙ sym y.0)))
-                (λ (y : (j ≢ id) × (get_elem? s.views j ≡ maybe.some b)). subst (λ (z : View E). Apart z b) x.1
-                    (let p = k.apart id j v b (λ e. y.0 (sym e)) at y.1 in record { tickets = new j b y.0 y.1; lanes = λ _ q. p.lanes al q; joined = λ _ q. p.joined al q }))
-                (at_set s.views id j w b eb))
+            (λ (y : (j ≡ id) × (w ≡ b)). absurd (ne (x.0 ∙ sym y.0)))
+            (λ (y : (j ≢ id) × (get_elem? s.views j ≡ maybe.some b)). subst (λ (z : View E). Apart z b) x.1
+            (let p = k.apart id j v b (λ e. y.0 (sym e)) at y.1 in record { tickets = new j b y.0 y.1; lanes = λ _ q. p.lanes al q; joined = λ _ q. p.joined al q }))
+            (at_set s.views id j w b eb))
             (λ (x : (i ≢ id) × (get_elem? s.views i ≡ maybe.some a)). ⊎_elim
-                (λ (y : (j ≡ id) × (w ≡ b)). subst (λ (z : View E). Apart a z) y.1
-                    (let p = k.apart i id a v x.0 x.1 at in record { tickets = λ t f g. new i a x.0 x.1 t g f; lanes = λ q _. p.lanes q al; joined = λ q _. p.joined q al }))
-                (λ (y : (j ≢ id) × (get_elem? s.views j ≡ maybe.some b)). k.apart i j a b ne x.1 y.1)
-                (at_set s.views id j w b eb))
+            (λ (y : (j ≡ id) × (w ≡ b)). subst (λ (z : View E). Apart a z) y.1
+            (let p = k.apart i id a v x.0 x.1 at in record { tickets = λ t f g. new i a x.0 x.1 t g f; lanes = λ q _. p.lanes q al; joined = λ q _. p.joined q al }))
+            (λ (y : (j ≢ id) × (get_elem? s.views j ≡ maybe.some b)). k.apart i j a b ne x.1 y.1)
+            (at_set s.views id j w b eb))
             (at_set s.views id i w a ea);
         unmade = unmade;
         home = home (sum_by held_of (set s.views id w)) (omega (arith, h));
@@ -125,21 +125,21 @@ module _ {S E : Type 0} (list : S → List E) (lane_of : E → ℕ) (sound : Lis
       let no_turn : held v.stage ≡ 0 = ap held idle in
       let found : get_or s.words 0 0 ≡ k.drawn % 2 ^ 64 = ap (λ (ws : List ℕ). get_or ws 0 0) k.words in
       let ws : set s.words 0 ((get_or s.words 0 0 + 1) % 2 ^ 64) ≡ (k.drawn + 1) % 2 ^ 64 ∷ k.served % 2 ^ 64 ∷ length log ∷ [] =
-          ap (λ (ws : List ℕ). set ws 0 ((get_or ws 0 0 + 1) % 2 ^ 64)) k.words ∙ ap (λ (n : ℕ). n ∷ k.served % 2 ^ 64 ∷ length log ∷ []) (mod-add-mod k.drawn (2 ^ 64) 1) in (
+      ap (λ (ws : List ℕ). set ws 0 ((get_or ws 0 0 + 1) % 2 ^ 64)) k.words ∙ ap (λ (n : ℕ). n ∷ k.served % 2 ^ 64 ∷ length log ∷ []) (mod-add-mod k.drawn (2 ^ 64) 1) in (
         drawing v k.drawn,
         keeps,
         tt,
         (
           log,
           moved s log k id v (Waits k.drawn) v.seen v.turns at al _ s.homes (k.drawn + 1) k.served log ws k.sounds
-          (λ j u ne there t mine theirs. let b = ticket_in k.drawn k.served log u.seen u.stage t (k.fits j u there).tickets theirs in let e : k.drawn ≡ t = maybe.some-injective k.drawn t mine in let c = b.1 in omega arith)
-          record { tickets = (let o = k.outs in omega arith, omega arith); lives = λ _. record { begins = l.begins; own = l.own; there = l.there; count = l.count; parts = l.parts; few = l.few } }
-          (λ j u ne there. let g = k.fits j u there in record { tickets = wider k.drawn k.served log u.seen u.stage g.tickets; lives = g.lives })
-          (longest_set log s.views id v (drawing v k.drawn) at (λ q. q) (at_less s.views id v at) k.longest)
-          (let o = k.outs in omega arith)
-          (let t = k.turns in omega arith)
-          k.unmade
-          (λ n e. subst (λ (m : ℕ). Home list s.homes m log) (omega arith) k.home),
+              (λ j u ne there t mine theirs. let b = ticket_in k.drawn k.served log u.seen u.stage t (k.fits j u there).tickets theirs in let e : k.drawn ≡ t = maybe.some-injective k.drawn t mine in let c = b.1 in omega arith)
+              record { tickets = (let o = k.outs in omega arith, omega arith); lives = λ _. record { begins = l.begins; own = l.own; there = l.there; count = l.count; parts = l.parts; few = l.few } }
+              (λ j u ne there. let g = k.fits j u there in record { tickets = wider k.drawn k.served log u.seen u.stage g.tickets; lives = g.lives })
+              (longest_set log s.views id v (drawing v k.drawn) at (λ q. q) (at_less s.views id v at) k.longest)
+              (let o = k.outs in omega arith)
+              (let t = k.turns in omega arith)
+              k.unmade
+              (λ n e. subst (λ (m : ℕ). Home list s.homes m log) (omega arith) k.home),
         ),
         (k.drawn, found, refl),
       )
@@ -169,12 +169,12 @@ module _ {S E : Type 0} (list : S → List E) (lane_of : E → ℕ) (sound : Lis
       ⊎_elim
       (λ (h : (sum_by held_of s.views ≡ 0) × ((story : S) × (s.homes ≡ maybe.some (Some story) ∷ []) × (list story ≡ log))). (sym is, h.0, h.1))
       (λ (h : (sum_by held_of s.views ≡ 1) × (s.homes ≡ maybe.none ∷ [])).
-          let one = h.0 in
-          let who = sum_by-some held_of s.views (omega arith) in
-          let turn = holder k.drawn k.served log who.1.seen who.1.stage (k.fits who.0 who.1 who.2).tickets who.3 in
-          absurd (dite (ℕ_discrete id who.0)
-              (λ e. let same : v ≡ who.1 = maybe.some-injective v who.1 (sym at ∙ ap (get_elem? s.views) e ∙ who.2) in let z : held v.stage ≡ 0 = ap held waits in let p : 0 < held v.stage = subst (λ (u : View E). 0 < held u.stage) (sym same) who.3 in omega arith)
-              (λ ne. (k.apart id who.0 v who.1 ne at who.2).tickets t mine (ap ticket turn.0 ∙ ap maybe.some is))))
+      let one = h.0 in
+      let who = sum_by-some held_of s.views (omega arith) in
+      let turn = holder k.drawn k.served log who.1.seen who.1.stage (k.fits who.0 who.1 who.2).tickets who.3 in
+      absurd (dite (ℕ_discrete id who.0)
+      (λ e. let same : v ≡ who.1 = maybe.some-injective v who.1 (sym at ∙ ap (get_elem? s.views) e ∙ who.2) in let z : held v.stage ≡ 0 = ap held waits in let p : 0 < held v.stage = subst (λ (u : View E). 0 < held u.stage) (sym same) who.3 in omega arith)
+      (λ ne. (k.apart id who.0 v who.1 ne at who.2).tickets t mine (ap ticket turn.0 ∙ ap maybe.some is))))
       k.home
 
   pub looks : (slots id : ℕ) (me : Me (Option S) (View E)) (t : ℕ) → me.0.stage ≡ Waits t → Allows (HasJournal list lane_of sound) slots id me 1 (λ n. n) (looked list lane_of sound (step slots 1 0 0 maybe.none) me)
@@ -186,65 +186,63 @@ module _ {S E : Type 0} (list : S → List E) (lane_of : E → ℕ) (sound : Lis
       let only : (u : ℕ) → me.0.stage ≡ Waits u → t ≡ u = λ u e. maybe.some-injective t u (ap ticket (sym waits ∙ e)) in
       dite (ℕ_discrete (get_or s.words 1 0) (t % 2 ^ 64))
       (λ found.
-          let came = turn_came s log k id v t at waits found in
-          let story = came.2.0 in
-          let al : alive v.stage ≡ true = ap alive waits in
-          let one_out : out v.stage ≡ 1 = ap out waits in
-          let no_turn : held v.stage ≡ 0 = ap held waits in
-          let f = k.fits id v at in
-          let l = f.lives al in
-          let between = l.begins.0 in
-          let is : v.seen ++ between ≡ log = sym l.begins.1 in
-          let w : View E = holding v t (v.seen ++ between) in
-          let b = ticket_in k.drawn k.served log v.seen v.stage t f.tickets (ap ticket waits) in
-          let zero_turns = came.1 in
-          let after : State (Option S) (View E) = record { words = set s.words 1 (get_or s.words 1 0); homes = set s.homes 0 maybe.none; views = set s.views id w } in
-          let kept : LockRule list lane_of sound log after = moved s log k id v (Holds t) (v.seen ++ between) (v.turns + 1) at al _ _ k.drawn k.served log (stay ∙ k.words) k.sounds
-              (λ j u ne there t' mine theirs. (k.apart id j v u (λ e. ne (sym e)) at there).tickets t' (ap ticket waits ∙ mine) theirs)
-              record { tickets = (came.0, b.1, is); lives = λ _. record { begins = starts_whole log (v.seen ++ between) is; own = ap (of lane_of v.lane) (sym is); there = l.there; count = l.count; parts = l.parts; few = l.few } }
-              (λ j u ne there. k.fits j u there)
-              (id, w, set_here s.views id w (at_less s.views id v at), inl is)
-              (let o = k.outs in omega arith)
-              (let n = k.turns in omega arith)
-              k.unmade
-              (λ n e. inr (omega arith, ap (λ (hs : List (maybe.Option (Option S))). set hs 0 maybe.none) came.2.1)) in
-          (
-            w,
-            takes 0 (Some story),
-            ap (λ (hs : List (maybe.Option (Option S))). get_elem? hs 0) came.2.1,
-            (log, kept),
-            (λ u e. (
-                (λ _. subst (λ (x : ℕ). Came list lane_of sound x me (w, (0, Some story) ∷ me.1)) (only u e) record {
-                    story = story;
-                    between = between;
-                    after = refl;
-                    others = of-between lane_of v.lane log v.seen between l.begins.1 l.own;
-                    stands = came.2.2 ∙ sym is;
-                    sounds = subst sound (sym is) k.sounds;
-                    moment = subst (WasJournal list lane_of sound v.lane (v.turns + 1)) (sym is) record {
-                      state = after;
-                      rule = kept;
-                      place = id;
-                      view = w;
-                      there = set_here s.views id w (at_less s.views id v at);
-                      ticket = t;
-                      stage = refl;
-                      lane_is = refl;
-                      turns_is = refl;
-                      seen = is;
-                    };
-                  }),
-                (λ (other : get_or s.words 1 0 ≢ u % 2 ^ 64). absurd (other (found ∙ ap (λ (x : ℕ). x % 2 ^ 64) (only u e)))),
-              )),
-          ))
-      (λ other.
-          (
-            v,
-            keeps,
-            tt,
-            (log, let P : State (Option S) (View E) → Type 0 = LockRule list lane_of sound log in subst (λ (ws : List ℕ). P record { words = ws; homes = s.homes; views = set s.views id v }) (sym stay) (subst (λ (vs : List (View E)). P record { words = s.words; homes = s.homes; views = vs }) (sym (set_again s.views id v at)) k)),
-            (λ u e. ((λ (found : get_or s.words 1 0 ≡ u % 2 ^ 64). absurd (other (found ∙ ap (λ (x : ℕ). x % 2 ^ 64) (sym (only u e))))), (λ _. refl))),
-          ))
+      let came = turn_came s log k id v t at waits found in
+      let story = came.2.0 in
+      let al : alive v.stage ≡ true = ap alive waits in
+      let one_out : out v.stage ≡ 1 = ap out waits in
+      let no_turn : held v.stage ≡ 0 = ap held waits in
+      let f = k.fits id v at in
+      let l = f.lives al in
+      let between = l.begins.0 in
+      let is : v.seen ++ between ≡ log = sym l.begins.1 in
+      let w : View E = holding v t (v.seen ++ between) in
+      let b = ticket_in k.drawn k.served log v.seen v.stage t f.tickets (ap ticket waits) in
+      let zero_turns = came.1 in
+      let after : State (Option S) (View E) = record { words = set s.words 1 (get_or s.words 1 0); homes = set s.homes 0 maybe.none; views = set s.views id w } in
+      let kept : LockRule list lane_of sound log after = moved s log k id v (Holds t) (v.seen ++ between) (v.turns + 1) at al _ _ k.drawn k.served log (stay ∙ k.words) k.sounds
+      (λ j u ne there t' mine theirs. (k.apart id j v u (λ e. ne (sym e)) at there).tickets t' (ap ticket waits ∙ mine) theirs)
+      record { tickets = (came.0, b.1, is); lives = λ _. record { begins = starts_whole log (v.seen ++ between) is; own = ap (of lane_of v.lane) (sym is); there = l.there; count = l.count; parts = l.parts; few = l.few } }
+      (λ j u ne there. k.fits j u there)
+      (id, w, set_here s.views id w (at_less s.views id v at), inl is)
+      (let o = k.outs in omega arith)
+      (let n = k.turns in omega arith)
+      k.unmade
+      (λ n e. inr (omega arith, ap (λ (hs : List (maybe.Option (Option S))). set hs 0 maybe.none) came.2.1)) in (
+        w,
+        takes 0 (Some story),
+        ap (λ (hs : List (maybe.Option (Option S))). get_elem? hs 0) came.2.1,
+        (log, kept),
+        (λ u e. (
+          (λ _. subst (λ (x : ℕ). Came list lane_of sound x me (w, (0, Some story) ∷ me.1)) (only u e) record {
+            story = story;
+            between = between;
+            after = refl;
+            others = of-between lane_of v.lane log v.seen between l.begins.1 l.own;
+            stands = came.2.2 ∙ sym is;
+            sounds = subst sound (sym is) k.sounds;
+            moment = subst (WasJournal list lane_of sound v.lane (v.turns + 1)) (sym is) record {
+              state = after;
+              rule = kept;
+              place = id;
+              view = w;
+              there = set_here s.views id w (at_less s.views id v at);
+              ticket = t;
+              stage = refl;
+              lane_is = refl;
+              turns_is = refl;
+              seen = is;
+            };
+          }),
+          (λ (other : get_or s.words 1 0 ≢ u % 2 ^ 64). absurd (other (found ∙ ap (λ (x : ℕ). x % 2 ^ 64) (only u e)))),
+        )),
+      ))
+      (λ other. (
+        v,
+        keeps,
+        tt,
+        (log, let P : State (Option S) (View E) → Type 0 = LockRule list lane_of sound log in subst (λ (ws : List ℕ). P record { words = ws; homes = s.homes; views = set s.views id v }) (sym stay) (subst (λ (vs : List (View E)). P record { words = s.words; homes = s.homes; views = vs }) (sym (set_again s.views id v at)) k)),
+        (λ u e. ((λ (found : get_or s.words 1 0 ≡ u % 2 ^ 64). absurd (other (found ∙ ap (λ (x : ℕ). x % 2 ^ 64) (sym (only u e))))), (λ _. refl))),
+      ))
 
   pub counts : (slots id : ℕ) (me : Me (Option S) (View E)) (t : ℕ) (story : S) (entry : E) → me.0.stage ≡ Holds t → me.1 ≡ (0, Some story) ∷ [] → list story ≡ me.0.seen ++ entry ∷ [] → lane_of entry ≡ me.0.lane → sound (list story) → length (list story) < 2 ^ 32
       → Allows (HasJournal list lane_of sound) slots id me 2 (λ n. (n + 1) % 2 ^ 64) (counted list (step slots 2 1 0 maybe.none) me)
@@ -265,29 +263,29 @@ module _ {S E : Type 0} (list : S → List E) (lane_of : E → ℕ) (sound : Lis
       let w : View E = counting v log in
       let at_least = sum_by-at held_of s.views id v at in
       let ws : set s.words 2 ((get_or s.words 2 0 + 1) % 2 ^ 64) ≡ k.drawn % 2 ^ 64 ∷ k.served % 2 ^ 64 ∷ length log ∷ [] =
-          ap (λ (ws : List ℕ). set ws 2 ((get_or ws 2 0 + 1) % 2 ^ 64)) k.words ∙ ap (λ (n : ℕ). k.drawn % 2 ^ 64 ∷ k.served % 2 ^ 64 ∷ n ∷ []) (ap (λ (n : ℕ). n % 2 ^ 64) (sym long) ∙ mod-eq_of_lt (omega arith)) in
+      ap (λ (ws : List ℕ). set ws 2 ((get_or ws 2 0 + 1) % 2 ^ 64)) k.words ∙ ap (λ (n : ℕ). k.drawn % 2 ^ 64 ∷ k.served % 2 ^ 64 ∷ n ∷ []) (ap (λ (n : ℕ). n % 2 ^ 64) (sym long) ∙ mod-eq_of_lt (omega arith)) in
       let grows : (lane : ℕ) → lane ≢ v.lane → of lane_of lane log ≡ of lane_of lane old = λ lane ne. ap (of lane_of lane) is ∙ of-other lane_of lane old entry (λ e. ne (sym e ∙ in_lane)) in
       let joins : (joined : List (List E)) → Joined lane_of old joined → ((i : ℕ) → i < length joined → i + 1 ≢ v.lane) → Joined lane_of log joined =
-          λ joined p ne i es there. let q = p i es there in (subst (λ (xs : List E). StartsWith xs es) (sym is) (starts_longer old es (entry ∷ []) q.0), grows (i + 1) (ne i (at_less joined i es there)) ∙ q.1) in (
+      λ joined p ne i es there. let q = p i es there in (subst (λ (xs : List E). StartsWith xs es) (sym is) (starts_longer old es (entry ∷ []) q.0), grows (i + 1) (ne i (at_less joined i es there)) ∙ q.1) in (
         w,
         keeps,
         tt,
         (
           log,
           moved s old k id v v.stage log v.turns at al _ s.homes k.drawn k.served log ws sounds
-          (λ j u ne there t' a b. (k.apart id j v u (λ e. ne (sym e)) at there).tickets t' a b)
-          record {
-            tickets = subst (Tickets k.drawn k.served log log) (sym h.0) (refl, (ticket_in k.drawn k.served old v.seen v.stage k.served f.tickets mine).1, refl);
-            lives = λ _. record {
-              begins = starts_whole log log refl;
-              own = refl;
-              there = l.there;
-              count = l.count;
-              parts = λ first. joins v.joined (l.parts first) (λ i lt. omega arith);
-              few = l.few;
-            };
-          }
-          (λ j u ne there.
+              (λ j u ne there t' a b. (k.apart id j v u (λ e. ne (sym e)) at there).tickets t' a b)
+              record {
+                tickets = subst (Tickets k.drawn k.served log log) (sym h.0) (refl, (ticket_in k.drawn k.served old v.seen v.stage k.served f.tickets mine).1, refl);
+                lives = λ _. record {
+                  begins = starts_whole log log refl;
+                  own = refl;
+                  there = l.there;
+                  count = l.count;
+                  parts = λ first. joins v.joined (l.parts first) (λ i lt. omega arith);
+                  few = l.few;
+                };
+              }
+              (λ j u ne there.
               let g = k.fits j u there in
               let p = k.apart id j v u (λ e. ne (sym e)) at there in
               let q = k.apart j id u v ne there at in
@@ -302,11 +300,11 @@ module _ {S E : Type 0} (list : S → List E) (lane_of : E → ℕ) (sound : Lis
                   few = r.few;
                 };
               })
-          (id, w, set_here s.views id w (at_less s.views id v at), inl refl)
-          (let o = k.outs in omega arith)
-          (let n = k.turns in omega arith)
-          (λ lane le. grows lane (let a = l.there in omega arith) ∙ k.unmade lane le)
-          (λ n e. ⊎_elim
+              (id, w, set_here s.views id w (at_less s.views id v at), inl refl)
+              (let o = k.outs in omega arith)
+              (let n = k.turns in omega arith)
+              (λ lane le. grows lane (let a = l.there in omega arith) ∙ k.unmade lane le)
+              (λ n e. ⊎_elim
               (λ (x : (sum_by held_of s.views ≡ 0) × ((story : S) × (s.homes ≡ maybe.some (Some story) ∷ []) × (list story ≡ old))). let z = x.0 in absurd (omega arith))
               (λ (x : (sum_by held_of s.views ≡ 1) × (s.homes ≡ maybe.none ∷ [])). let z = x.0 in inr (omega arith, x.1))
               k.home),
@@ -330,24 +328,24 @@ module _ {S E : Type 0} (list : S → List E) (lane_of : E → ℕ) (sound : Lis
       let at_least = sum_by-at held_of s.views id v at in
       let w : View E = passing v in
       let ws : set s.words 1 ((get_or s.words 1 0 + 1) % 2 ^ 64) ≡ k.drawn % 2 ^ 64 ∷ (k.served + 1) % 2 ^ 64 ∷ length log ∷ [] =
-          ap (λ (ws : List ℕ). set ws 1 ((get_or ws 1 0 + 1) % 2 ^ 64)) k.words ∙ ap (λ (n : ℕ). k.drawn % 2 ^ 64 ∷ n ∷ length log ∷ []) (mod-add-mod k.served (2 ^ 64) 1) in (
+      ap (λ (ws : List ℕ). set ws 1 ((get_or ws 1 0 + 1) % 2 ^ 64)) k.words ∙ ap (λ (n : ℕ). k.drawn % 2 ^ 64 ∷ n ∷ length log ∷ []) (mod-add-mod k.served (2 ^ 64) 1) in (
         w,
         gives,
         tt,
         (
           log,
           moved s log k id v Idle v.seen v.turns at al _ _ k.drawn (k.served + 1) log ws k.sounds
-          (λ j u ne there t' none. absurd (maybe.some-ne-none t' (sym none)))
-          record { tickets = tt; lives = λ _. record { begins = l.begins; own = l.own; there = l.there; count = l.count; parts = l.parts; few = l.few } }
-          (λ j u ne there. let g = k.fits j u there in record { tickets = later k.drawn k.served log u.seen u.stage g.tickets (λ e. (k.apart id j v u (λ e. ne (sym e)) at there).tickets k.served mine e); lives = g.lives })
-          (longest_set log s.views id v w at (λ q. q) (at_less s.views id v at) k.longest)
-          (let o = k.outs in omega arith)
-          (let n = k.turns in omega arith)
-          k.unmade
-          (λ n e. ⊎_elim
+              (λ j u ne there t' none. absurd (maybe.some-ne-none t' (sym none)))
+              record { tickets = tt; lives = λ _. record { begins = l.begins; own = l.own; there = l.there; count = l.count; parts = l.parts; few = l.few } }
+              (λ j u ne there. let g = k.fits j u there in record { tickets = later k.drawn k.served log u.seen u.stage g.tickets (λ e. (k.apart id j v u (λ e. ne (sym e)) at there).tickets k.served mine e); lives = g.lives })
+              (longest_set log s.views id v w at (λ q. q) (at_less s.views id v at) k.longest)
+              (let o = k.outs in omega arith)
+              (let n = k.turns in omega arith)
+              k.unmade
+              (λ n e. ⊎_elim
               (λ (x : (sum_by held_of s.views ≡ 0) × ((story : S) × (s.homes ≡ maybe.some (Some story) ∷ []) × (list story ≡ log))). let z = x.0 in absurd (omega arith))
               (λ (x : (sum_by held_of s.views ≡ 1) × (s.homes ≡ maybe.none ∷ [])). let z = x.0 in
-                  inl (omega arith, (story, home_again s.homes me.1 story x.1 slot, same ∙ h.1)))
+              inl (omega arith, (story, home_again s.homes me.1 story x.1 slot, same ∙ h.1)))
               k.home),
         ),
         refl,

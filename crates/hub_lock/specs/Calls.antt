@@ -1,5 +1,5 @@
 -- What a call leaves, and what the end of a lock gives.
-use Rattle.std.specs.Prelude.{◌≡◌, ℕ, ◌+◌, ◌≤◌, ◌<◌, List, [], ◌∷◌, ◌++◌, length, slice_get, Option, Some}
+use Rattle.std.specs.Prelude.{◌≡◌, ℕ, ◌+◌, ◌≤◌, ◌<◌, List, [], ◌∷◌, ◌++◌, length, All, slice_get, Option, Some}
 use Rattle.hub_lock.specs.declared.story.Story.{Ghosts}
 use Rattle.hub_lock.specs.declared.seat.Seat.{Seat}
 use Rattle.hub_lock.specs.Words.{of, StartsWith}
@@ -36,3 +36,10 @@ module _ {S C A H E : Type 0} {story : Ghosts S C A H E} where
   -- the other seats are those of lanes 1, 2 and so on, in this order
   abbrev pub InOrder : List (Seat S C A H E story) → Type 0
   InOrder others = (i : ℕ) (other : Seat S C A H E story) → slice_get others i ≡ Some other → lane other ≡ i + 1
+
+  -- the journal at the end: each lane's entries are those that its seat has seen, each seat has seen a beginning of it, and no other lane has an entry
+  pub record IsEnd (seat : Seat S C A H E story) (others : List (Seat S C A H E story)) (log : List E) : Type 0 where
+    pub first : IsIn seat log
+    pub rest : All (λ other. IsIn other log) others
+    pub no_more : (lane : ℕ) → length others < lane → of story.lane_of lane log ≡ []
+    pub sounds : story.sound log

@@ -5,6 +5,10 @@ use Rattle.hub_lock.specs.declared.story.Story.{Ghosts}
 use Rattle.hub_lock.specs.declared.seat.Seat.{Seat}
 use Rattle.hub_lock.specs.declared.keep.Keep.{Keep}
 
+-- how many seats a lock may have
+abbrev pub most_lanes : {S C A H E : Type 0} → Keep S C A H E → ℕ
+most_lanes keep = keep.lanes
+
 -- A story S has the calls C, their answers A and refusals H, and the entries E
 module _ {S C A H E : Type 0} {story : Ghosts S C A H E} where
   -- what the lane has seen of the journal
@@ -22,10 +26,6 @@ module _ {S C A H E : Type 0} {story : Ghosts S C A H E} where
   -- of lane 0's seat: how many seats were made
   abbrev pub seats_made : Seat S C A H E story → ℕ
   seats_made seat = seat.made
-
-  -- how many seats a lock may have
-  abbrev pub most_lanes : Keep S C A H E → ℕ
-  most_lanes keep = keep.lanes
 
   -- it is a seat of this lock
   abbrev pub IsSeatOf : Keep S C A H E → Seat S C A H E story → Type 0

@@ -4,7 +4,7 @@ use Rattle.atomic_table.specs.declared.shared.Seat.{Seat}
 use Rattle.hub_lock.specs.declared.rule.Stage.TheVariants.{Idle, Holds}
 use Rattle.hub_lock.specs.declared.rule.View.{View}
 use Rattle.hub_lock.specs.Words.{of, StartsWith}
-use Rattle.hub_lock.specs.Rule.{WasJournal}
+use Rattle.hub_lock.specs.Rule.{Joined, WasJournal}
 use Rattle.hub_lock.specs.Steps.{holding, counting, passing}
 
 -- a seat of the lock's table
@@ -37,3 +37,11 @@ module _ {S E : Type 0} where
     pub own : lane_of entry ≡ seat.me.0.lane
     pub sounds : sound (list story)
     pub small : length (list story) < 2 ^ 32
+
+-- the journal at the end, of which lane 0's seat knows this, when all other seats are joined into it
+pub record IsWhole {E : Type 0} (lane_of : E → ℕ) (sound : List E → Type 0) (v : View E) (log : List E) : Type 0 where
+  pub begins : StartsWith log v.seen
+  pub own : of lane_of v.lane log ≡ of lane_of v.lane v.seen
+  pub parts : Joined lane_of log v.joined
+  pub unmade : (lane : ℕ) → v.made ≤ lane → of lane_of lane log ≡ []
+  pub sounds : sound log
