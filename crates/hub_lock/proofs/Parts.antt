@@ -1,5 +1,5 @@
 -- How the rule begins, how it goes on when a seat is split off or joined, and what it says at the end.
-use Rattle.std.proofs.Common.{◌≡◌, ◌≢◌, ℕ, zero, suc, ◌+◌, ◌%◌, ◌^◌, ◌<◌, ◌≤◌, ◌⊎◌, Bool, true, false, List, [], ◌∷◌, ◌++◌, All, length, set, get_or, sum_by, Some, None, Option, inl, inr, ⊎_elim, refl, sym, ap, ◌∙◌, subst, mod-eq_of_lt, true≢false, arith}
+use Rattle.std.proofs.Common.{◌≡◌, ◌≢◌, ℕ, zero, suc, ◌+◌, ◌%◌, ◌^◌, ◌<◌, ◌≤◌, ◌⊎◌, Bool, true, false, List, [], ◌∷◌, ◌++◌, All, length, set, get_or, sum_by, Some, None, Option, inl, inr, ⊎_elim, refl, sym, ap, ◌∙◌, subst, subst₂, is_some, true≢false, arith}
 use Rattle.std.proofs.lemmas.List.{length-append}
 use Rattle.std.proofs.lemmas.List.Sums.{sum_by_push}
 use Rattle.std.proofs.Math.Decide.{ℕ_discrete}
@@ -278,3 +278,31 @@ module _ {S E : Type 0} (list : S → List E) (lane_of : E → ℕ) (sound : Lis
       (λ e. let same : v ≡ who.1 = maybe.some-injective v who.1 (sym at ∙ ap (get_elem? s.views) e ∙ who.2) in let z : held v.stage ≡ 0 = ap held idle in let p : 0 < held v.stage = subst (λ (u : View E). 0 < held u.stage) (sym same) who.3 in omega arith)
       (λ ne. let r = (k.apart id who.0 v who.1 ne at who.2).joined al live first in let q = (f.lives live).there in let c = l.count first in omega arith)))
       k.home
+
+  story_in : S → Option S → S
+  story_in x o = elim o as (λ _. S) [ Some y ↦ y | None ↦ x ]
+
+  same_story : (x y : S) → maybe.some (Some x) ≡ maybe.some (Some y) → x ≡ y
+  unfolding story_in
+  same_story x y e = ap (story_in x) (maybe.some-injective (Some x) (Some y) e)
+
+  -- what the slot gives at the end is a story
+  pub closes_some : (id : ℕ) (v : View E) (ws : List ℕ) (xs : List (Option S)) (slot : Option S) → v.stage ≡ Idle → v.lane ≡ 0 → length v.joined + 1 ≡ v.made → Final (Seen (HasJournal list lane_of sound) id v) ws xs
+      → get_elem? xs 0 ≡ maybe.some slot → (slot ≡ None → ⊥)
+  closes_some id v ws xs slot idle first all final at none =
+      let end = closes id v ws xs idle first all final in
+      let is : slot ≡ Some end.0 = maybe.some-injective slot (Some end.0) (sym at ∙ end.1) in
+      let e : true ≡ false = ap is_some (sym is ∙ none) in true≢false e
+
+  -- and the story stands for the journal
+  pub closes_with : (id : ℕ) (v : View E) (ws : List ℕ) (xs : List (Option S)) (story : S) → v.stage ≡ Idle → v.lane ≡ 0 → length v.joined + 1 ≡ v.made → Final (Seen (HasJournal list lane_of sound) id v) ws xs
+      → get_elem? xs 0 ≡ maybe.some (Some story) → IsWhole lane_of sound v (list story)
+  closes_with id v ws xs story idle first all final at =
+      let end = closes id v ws xs idle first all final in
+      subst (λ (x : S). IsWhole lane_of sound v (list x)) (same_story end.0 story (sym end.1 ∙ at)) end.2
+
+  -- the table at the start, as its parts come
+  pub starts_with : (story about : S) (items : List (Option S)) (count : ℕ) → items ≡ Some story ∷ [] → about ≡ story → count ≡ length (list story) → count < 2 ^ 64 → sound (list story) → 0 < length (list story) → All (λ e. lane_of e ≡ 0) (list story)
+      → HasJournal list lane_of sound (opening (0 ∷ 0 ∷ count ∷ []) items (starting (list about)))
+  starts_with story about items count is same counted small sounds some_entry first =
+      subst₂ (λ (xs : List (Option S)) (x : S). HasJournal list lane_of sound (opening (0 ∷ 0 ∷ count ∷ []) xs (starting (list x)))) (sym is) (sym same) (starts story count counted small sounds some_entry first)
