@@ -1,0 +1,32 @@
+use Rattle.std.proofs.Common.{◌≡◌, ◌+◌, List, map, length, map-id, sym, ap, ◌∙◌, rules, arith}
+use Rattle.std.proofs.lemmas.List.{length-map}
+use Rattle.std.proofs.lemmas.Iterator.Adapters.{YieldsList-from_vec}
+use Rattle.std.proofs.lemmas.Iterator.Consumers.{YieldsList-turn, YieldsList-end}
+use Rattle.hub_lock.proofs.Ends.{seen_by, ends, next_lane}
+use Rattle.hub_lock.proofs.keep.Keep.close.Goals as goal
+
+pub join-requires-clause-next : goal.join-requires-clause-next
+join-requires-clause-next g c =
+    let turn = YieldsList-turn (YieldsList-from_vec {s = c.into_iter-other-iterator.result} c.args.others.items (search rules) (search rules)) c.loop-other.yielded c.loop-other.other-iterator c.loop-other.yielded_by c.next.result c.next.new.self c.in-Some.other c.in-Some.is c.next.ensures.steps in
+    next_lane c.args.others.items c.loop-other.yielded c.in-Some.other c.loop-other.raw.me.0.joined c.requires.lanes.1 c.loop-other.invariant.joined turn.0 turn.1
+
+pub end-story-requires-clause-all : goal.end-story-requires-clause-all
+end-story-requires-clause-all g c =
+    let all = YieldsList-end (YieldsList-from_vec {s = c.into_iter-other-iterator.result} c.args.others.items (search rules) (search rules)) c.loop-other.yielded c.loop-other.other-iterator c.loop-other.yielded_by c.next.result c.next.new.self c.in-None.is c.next.ensures.steps in
+    let n = all.1 in
+    let joined : length c.loop-other.raw.me.0.joined ≡ length c.loop-other.yielded = ap length c.loop-other.invariant.joined ∙ length-map c.loop-other.yielded seen_by in
+    let made = c.loop-other.invariant.made in
+    let seats = c.requires.all in
+    let is = c.args.seat.made_is in
+    omega arith
+
+pub returns-clause-journal : goal.returns-clause-journal
+returns-clause-journal g c =
+    let all = YieldsList-end (YieldsList-from_vec {s = c.into_iter-other-iterator.result} c.args.others.items (search rules) (search rules)) c.loop-other.yielded c.loop-other.other-iterator c.loop-other.yielded_by c.next.result c.next.new.self c.in-None.is c.next.ensures.steps in
+    ends c.args.seat c.args.others.items c.loop-other.raw.me.0 _ c.end-story.ensures
+    c.loop-other.invariant.seen
+    (c.loop-other.invariant.lane ∙ c.args.seat.lane_is)
+    (c.loop-other.invariant.made ∙ c.args.seat.made_is)
+    (c.loop-other.invariant.joined ∙ ap (map seen_by) (sym (map-id c.loop-other.yielded) ∙ all.0))
+    c.requires.lanes.1
+    c.requires.all
