@@ -3,3 +3,4 @@ pub mod Steps
 pub mod Parts
 pub mod Turns
 pub mod Ends
+pub mod Waiting

@@ -66,4 +66,33 @@ impl<S: Story> Keep<S> {
             }
         }
     }
+
+    /// Makes the call, and again after each refusal that means "not ready", pausing in between, perhaps for good.
+    pub fn act_when_ready<R: Wait>(
+        &self,
+        rt: &R,
+        seat: &mut Seat<S>,
+        mut call: S::Call,
+    ) -> Result<S::Acted, Held<S>>
+        requires own { IsSeatOf self.now seat.old }
+        requires allowed { S.allowed (slice_get (seen seat.old) 0) (of S.lane_of (lane seat.old) (seen seat.old)) (lane seat.old) call }
+        ensures same { IsSameSeat seat.old seat.new }
+        ensures turn { turns seat.old < turns seat.new }
+        ensures acted { IfOk result (λ acted. HasActed seat.old seat.new call acted) }
+        ensures held { IfErr result (λ held. HasHeld seat.old seat.new call held.seen held.held) }
+        ensures ready { IfErr result (λ held. S.waits held.held ≡ None) }
+    {
+        let backoff = Backoff::new();
+        for _ in rt.forever() {
+            match self.act(rt, seat, call) {
+                Ok(acted) => return Ok(acted),
+                Err(Held { seen, held }) => match S::again(held) {
+                    Ok(same) => call = same,
+                    Err(held) => return Err(Held { seen, held }),
+                },
+            }
+            backoff.snooze();
+        }
+        unreachable!()
+    }
 }

@@ -11,7 +11,7 @@ fetch_add-requires-2 g c = (
   search rules,
   search rules,
   passes_with _ g.S.Story.lane_of g.S.Story.sound _ _ c.fetch_add.new.seat.me (counting c.args.raw.now.me.0 (g.S.Story.list c.args.story)) c.requires.slot.0.0 c.args.story
-  (counted_with _ g.S.Story.lane_of g.S.Story.sound c.give.new.raw.me c.fetch_add.new.seat.me c.args.raw.now.me.0 c.args.story c.give.ensures.view c.fetch_add.ensures.2)
-  c.requires.slot.0.1
-  refl,
+      (counted_with _ g.S.Story.lane_of g.S.Story.sound c.give.new.raw.me c.fetch_add.new.seat.me c.args.raw.now.me.0 c.args.story c.give.ensures.view c.fetch_add.ensures.2)
+      c.requires.slot.0.1
+      refl,
 )
