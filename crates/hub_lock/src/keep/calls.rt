@@ -9,13 +9,14 @@ use crate::seat::Seat;
 use crate::story::Story;
 use atomic_table::Table;
 use crossbeam_utils::Backoff;
-use std::alloc::{AllocError, Global};
+use mos_text::NoMemory;
+use std::alloc::Global;
 use std::snapshot::Snapshot;
 use std::sync::Wait;
 
 impl<S: Story> Keep<S> {
     /// A lock over the story, for at most `lanes` lanes, and lane 0's seat, which has seen all of the story's entries.
-    pub fn begin(alloc: Global, story: S, lanes: u32) -> Result<(Keep<S>, Seat<S>), AllocError>
+    pub fn begin(alloc: Global, story: S, lanes: u32) -> Result<(Keep<S>, Seat<S>), NoMemory>
         requires lanes { (0 < lanes) × (lanes ≤ 64) }
         requires begun { 0 < length (S.list story) }
         requires first_lane { All (λ entry. S.lane_of entry ≡ 0) (S.list story) }
@@ -28,7 +29,7 @@ impl<S: Story> Keep<S> {
         let mut slots = Vec::with_capacity(alloc, 1)?;
         slots.push(Some(story))?;
         let Ok((table, raw)) = Table::new(alloc, &[0, 0, count], slots, &about) else {
-            return Err(AllocError);
+            return Err(NoMemory);
         };
         let seat = Seat {
             raw,

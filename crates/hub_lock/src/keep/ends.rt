@@ -10,11 +10,11 @@ use super::{Ended, Keep};
 use crate::rule::{Deal, Merge};
 use crate::seat::{Raw, Seat};
 use crate::story::Story;
-use std::alloc::AllocError;
+use mos_text::NoMemory;
 
 impl<S: Story> Keep<S> {
     /// The next lane's seat, which has seen as much as lane 0's seat.
-    pub fn split(&self, seat: &mut Seat<S>) -> Result<Seat<S>, AllocError>
+    pub fn split(&self, seat: &mut Seat<S>) -> Result<Seat<S>, NoMemory>
         requires own { IsSeatOf self.now seat.old }
         requires first { lane seat.old ≡ 0 }
         requires room { seats_made seat.old < most_lanes self.now }
