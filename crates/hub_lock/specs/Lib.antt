@@ -4,3 +4,4 @@ pub mod Steps
 pub mod Turns
 pub mod Seats
 pub mod Calls
+pub mod Tally

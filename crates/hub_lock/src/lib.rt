@@ -10,7 +10,11 @@ mod keep;
 mod rule;
 mod seat;
 mod story;
+mod tally;
+#[cfg(test)]
+mod tests;
 
 pub use keep::{Ended, Held, Keep};
 pub use seat::Seat;
 pub use story::Story;
+pub use tally::{Put, Refusal, Tally};
