@@ -44,3 +44,7 @@ module _ {S C A H E : Type 0} {story : Ghosts S C A H E} where
   next_lane others sofar other joined order is lt at =
       let n : length joined ≡ length sofar = ap length is ∙ length-map sofar seen_by in
       let h = order (length sofar) other (slice_get_read others (length others) (length sofar) other refl lt at) in omega arith
+
+  -- all seats are joined
+  pub all_joined : (others sofar : List (Seat S C A H E story)) (joined : List (List E)) (made count : ℕ) → joined ≡ map seen_by sofar → length sofar ≡ length others → length others + 1 ≡ count → made ≡ count → length joined + 1 ≡ made
+  all_joined others sofar joined made count is n all same = let m : length joined ≡ length sofar = ap length is ∙ length-map sofar seen_by in omega arith

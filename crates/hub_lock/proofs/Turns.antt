@@ -18,21 +18,11 @@ module _ {S E : Type 0} (list : S → List E) (lane_of : E → ℕ) (sound : Lis
       → Allows (HasJournal list lane_of sound) slots id me 1 (λ n. n) (looked list lane_of sound (step slots 1 0 0 maybe.none) me)
   looks_with slots id me v t is = looks list lane_of sound slots id me t (ap (λ (m : Me (Option S) (View E)). m.0.stage) is)
 
-  pub passes_with : (slots id : ℕ) (me : Me (Option S) (View E)) (v : View E) (t : ℕ) (story : S) → me ≡ (v, (0, Some story) ∷ []) → v.stage ≡ Holds t → list story ≡ v.seen
-      → Allows (HasJournal list lane_of sound) slots id me 1 (λ n. (n + 1) % 2 ^ 64) (passed (step slots 1 1 0 maybe.none) me)
-  passes_with slots id me v t story is turn same = passes list lane_of sound slots id me t story
-      (ap (λ (m : Me (Option S) (View E)). m.0.stage) is ∙ turn) (ap (λ (m : Me (Option S) (View E)). m.1) is) (same ∙ sym (ap (λ (m : Me (Option S) (View E)). m.0.seen) is))
-
   pub counts_with : (slots id : ℕ) (me : Me (Option S) (View E)) (raw : Raw S E) (t : ℕ) (story : S) → me ≡ (raw.me.0, (0, Some story) ∷ []) → raw.me.0.stage ≡ Holds t → HasEntry list lane_of sound raw story
       → Allows (HasJournal list lane_of sound) slots id me 2 (λ n. (n + 1) % 2 ^ 64) (counted list (step slots 2 1 0 maybe.none) me)
   counts_with slots id me raw t story is turn e = counts list lane_of sound slots id me t story e.entry
       (ap (λ (m : Me (Option S) (View E)). m.0.stage) is ∙ turn) (ap (λ (m : Me (Option S) (View E)). m.1) is)
       (e.longer ∙ sym (ap (λ (m : Me (Option S) (View E)). m.0.seen ++ e.entry ∷ []) is)) (e.own ∙ sym (ap (λ (m : Me (Option S) (View E)). m.0.lane) is)) e.sounds e.small
-
-  -- once the entry is counted
-  pub counted_with : (me after : Me (Option S) (View E)) (v : View E) (story : S) → me ≡ (v, (0, Some story) ∷ []) → ((x : S) → me.1 ≡ (0, Some x) ∷ [] → after ≡ (counting me.0 (list x), me.1))
-      → after ≡ (counting v (list story), (0, Some story) ∷ [])
-  counted_with me after v story is told = told story (ap (λ (m : Me (Option S) (View E)). m.1) is) ∙ ap (λ (m : Me (Option S) (View E)). (counting m.0 (list story), m.1)) is
 
 module _ {E : Type 0} (lane_of : E → ℕ) where
   -- what is allowed on what the lane has seen is allowed on the journal, which goes on with other lanes' entries

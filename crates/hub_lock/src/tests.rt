@@ -4,7 +4,7 @@ ghost use denote.Param.Send.{IsSync};
 ghost use Rattle.hub_lock.specs.Seats.{lane, seats_made, most_lanes, IsSeatOf};
 ghost use Rattle.hub_lock.specs.Calls.{InOrder};
 
-use crate::{Ended, Held, Keep, Refusal, Seat, Tally};
+use crate::{Ended, Held, Keep, Refusal, Seat, Story, Tally};
 use mos_text::NoMemory;
 use std::alloc::Global;
 use std::sync::Wait;
@@ -12,6 +12,22 @@ use std::test::*;
 use std::thread::{Threads, join};
 
 mod relay;
+
+// A lock is shared between threads and its seats go to them, wherever its story may.
+fn crosses<S: Story + Send>(keep: &Keep<S>, seat: Seat<S>) -> Seat<S>
+    ensures { result ≡ seat }
+{
+    is_shared(keep);
+    is_sent(seat)
+}
+
+fn is_shared<T: Sync>(_it: &T) {}
+
+fn is_sent<T: Send>(it: T) -> T
+    ensures { result ≡ it }
+{
+    it
+}
 
 // Makes so many calls of the amount 1.
 fn put_ones<R: Wait>(rt: &R, keep: &Keep<Tally>, mut seat: Seat<Tally>, times: u32) -> Seat<Tally>
@@ -134,7 +150,8 @@ fn sixty_four_lanes(rt: HostRuntime) -> Result<(), Fail> {
 #[test]
 fn an_amount_of_0_is_refused(rt: HostRuntime) -> Result<(), Fail> {
     let story = Tally::new(rt.alloc())?;
-    let (keep, mut seat) = Keep::begin(rt.alloc(), story, 1)?;
+    let (keep, seat) = Keep::begin(rt.alloc(), story, 1)?;
+    let mut seat = crosses(&keep, seat);
     let Ok(sum) = keep.act(&rt, &mut seat, 7) else {
         panic!(rt; "7 was refused")
     };

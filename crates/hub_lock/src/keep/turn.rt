@@ -46,7 +46,7 @@ impl<S: Story> Keep<S> {
         ensures view { raw.new.me ≡ (passing raw.old.me.0, []) }
     {
         self.give(raw, story);
-        self.table.shared.fetch_add::<Pass>(raw, SERVING, 1);
+        self.pass(raw);
     }
 
     // Gives the value back with its new entry, counts the entry, and passes the turn.
@@ -59,7 +59,7 @@ impl<S: Story> Keep<S> {
     {
         self.give(raw, story);
         self.table.shared.fetch_add::<Count<S>>(raw, COUNT, 1);
-        self.table.shared.fetch_add::<Pass>(raw, SERVING, 1);
+        self.pass(raw);
     }
 
     // Moves the value out of the slot.
@@ -77,12 +77,22 @@ impl<S: Story> Keep<S> {
     }
 
     // Moves the value back into the slot.
-    fn give(&self, raw: &mut Raw<S>, story: S)
+    pub(super) fn give(&self, raw: &mut Raw<S>, story: S)
         requires own { raw.old.table_id ≡ self.now.table.shared.table_id }
         requires slot { raw.old.me.1 ≡ (0, None) ∷ [] }
         ensures same { IsSameRaw raw.old raw.new }
         ensures view { raw.new.me ≡ (raw.old.me.0, (0, Some story) ∷ []) }
     {
         self.table.shared.exchange(raw, 0, Some(story));
+    }
+
+    // Passes the turn, with the value in the slot. From then on the slot is at home.
+    pub(super) fn pass(&self, raw: &mut Raw<S>)
+        requires own { raw.old.table_id ≡ self.now.table.shared.table_id }
+        requires slot { (story : S) × HasSlot raw.old (Some story) × (S.list story ≡ raw.old.me.0.seen) }
+        ensures same { IsSameRaw raw.old raw.new }
+        ensures view { raw.new.me ≡ (passing raw.old.me.0, []) }
+    {
+        self.table.shared.fetch_add::<Pass>(raw, SERVING, 1);
     }
 }

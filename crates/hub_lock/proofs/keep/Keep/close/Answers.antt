@@ -2,7 +2,7 @@ use Rattle.std.proofs.Common.{◌≡◌, ◌+◌, List, map, length, map-id, sym
 use Rattle.std.proofs.lemmas.List.{length-map}
 use Rattle.std.proofs.lemmas.Iterator.Adapters.{YieldsList-from_vec}
 use Rattle.std.proofs.lemmas.Iterator.Consumers.{YieldsList-turn, YieldsList-end}
-use Rattle.hub_lock.proofs.Ends.{seen_by, ends, next_lane}
+use Rattle.hub_lock.proofs.Ends.{seen_by, ends, next_lane, all_joined}
 use Rattle.hub_lock.proofs.keep.Keep.close.Goals as goal
 
 pub join-requires-clause-next : goal.join-requires-clause-next
@@ -13,12 +13,7 @@ join-requires-clause-next g c =
 pub end-story-requires-clause-all : goal.end-story-requires-clause-all
 end-story-requires-clause-all g c =
     let all = YieldsList-end (YieldsList-from_vec {s = c.into_iter-other-iterator.result} c.args.others.items (search rules) (search rules)) c.loop-other.yielded c.loop-other.other-iterator c.loop-other.yielded_by c.next.result c.next.new.self c.in-None.is c.next.ensures.steps in
-    let n = all.1 in
-    let joined : length c.loop-other.raw.me.0.joined ≡ length c.loop-other.yielded = ap length c.loop-other.invariant.joined ∙ length-map c.loop-other.yielded seen_by in
-    let made = c.loop-other.invariant.made in
-    let seats = c.requires.all in
-    let is = c.args.seat.made_is in
-    omega arith
+    all_joined c.args.others.items c.loop-other.yielded c.loop-other.raw.me.0.joined c.loop-other.raw.me.0.made c.args.seat.made c.loop-other.invariant.joined all.1 c.requires.all (c.loop-other.invariant.made ∙ c.args.seat.made_is)
 
 pub returns-clause-journal : goal.returns-clause-journal
 returns-clause-journal g c =
