@@ -245,7 +245,7 @@ module _ {S E : Type 0} (list : S → List E) (lane_of : E → ℕ) (sound : Lis
       ))
 
   pub counts : (slots id : ℕ) (me : Me (Option S) (View E)) (t : ℕ) (story : S) (entry : E) → me.0.stage ≡ Holds t → me.1 ≡ (0, Some story) ∷ [] → list story ≡ me.0.seen ++ entry ∷ [] → lane_of entry ≡ me.0.lane → sound (list story) → length (list story) < 2 ^ 32
-      → Allows (HasJournal list lane_of sound) slots id me 2 (λ n. (n + 1) % 2 ^ 64) (counted list (step slots 2 1 0 maybe.none) me)
+      → Allows (HasJournal list lane_of sound) slots id me 2 (λ n. (n + 1) % 2 ^ 64) (counted list lane_of sound (step slots 2 1 0 maybe.none) me)
   counts slots id me t story entry turn slot longer own sounds few s holds wide at small =
       let old = holds.0 in
       let k = holds.1 in
@@ -266,50 +266,62 @@ module _ {S E : Type 0} (list : S → List E) (lane_of : E → ℕ) (sound : Lis
       ap (λ (ws : List ℕ). set ws 2 ((get_or ws 2 0 + 1) % 2 ^ 64)) k.words ∙ ap (λ (n : ℕ). k.drawn % 2 ^ 64 ∷ k.served % 2 ^ 64 ∷ n ∷ []) (ap (λ (n : ℕ). n % 2 ^ 64) (sym long) ∙ mod-eq_of_lt (omega arith)) in
       let grows : (lane : ℕ) → lane ≢ v.lane → of lane_of lane log ≡ of lane_of lane old = λ lane ne. ap (of lane_of lane) is ∙ of-other lane_of lane old entry (λ e. ne (sym e ∙ in_lane)) in
       let joins : (joined : List (List E)) → Joined lane_of old joined → ((i : ℕ) → i < length joined → i + 1 ≢ v.lane) → Joined lane_of log joined =
-      λ joined p ne i es there. let q = p i es there in (subst (λ (xs : List E). StartsWith xs es) (sym is) (starts_longer old es (entry ∷ []) q.0), grows (i + 1) (ne i (at_less joined i es there)) ∙ q.1) in (
+      λ joined p ne i es there. let q = p i es there in (subst (λ (xs : List E). StartsWith xs es) (sym is) (starts_longer old es (entry ∷ []) q.0), grows (i + 1) (ne i (at_less joined i es there)) ∙ q.1) in
+      let after : State (Option S) (View E) = record { words = set s.words 2 ((get_or s.words 2 0 + 1) % 2 ^ 64); homes = s.homes; views = set s.views id w } in
+      let kept : LockRule list lane_of sound log after =
+      moved s old k id v v.stage log v.turns at al _ s.homes k.drawn k.served log ws sounds
+      (λ j u ne there t' a b. (k.apart id j v u (λ e. ne (sym e)) at there).tickets t' a b)
+      record {
+        tickets = subst (Tickets k.drawn k.served log log) (sym h.0) (refl, (ticket_in k.drawn k.served old v.seen v.stage k.served f.tickets mine).1, refl);
+        lives = λ _. record {
+          begins = starts_whole log log refl;
+          own = refl;
+          there = l.there;
+          count = l.count;
+          parts = λ first. joins v.joined (l.parts first) (λ i lt. omega arith);
+          few = l.few;
+        };
+      }
+      (λ j u ne there.
+      let g = k.fits j u there in
+      let p = k.apart id j v u (λ e. ne (sym e)) at there in
+      let q = k.apart j id u v ne there at in
+      record {
+        tickets = grown k.drawn k.served old log u.seen u.stage g.tickets (λ e. p.tickets k.served mine e);
+        lives = λ lives. let r = g.lives lives in record {
+          begins = subst (λ (xs : List E). StartsWith xs u.seen) (sym is) (starts_longer old u.seen (entry ∷ []) r.begins);
+          own = grows u.lane (λ e. p.lanes al lives (sym e)) ∙ r.own;
+          there = r.there;
+          count = r.count;
+          parts = λ first. joins u.joined (r.parts first) (λ i lt. let z = q.joined lives al first in omega arith);
+          few = r.few;
+        };
+      })
+      (id, w, set_here s.views id w (at_less s.views id v at), inl refl)
+      (let o = k.outs in omega arith)
+      (let n = k.turns in omega arith)
+      (λ lane le. grows lane (let a = l.there in omega arith) ∙ k.unmade lane le)
+      (λ n e. ⊎_elim
+      (λ (x : (sum_by held_of s.views ≡ 0) × ((story : S) × (s.homes ≡ maybe.some (Some story) ∷ []) × (list story ≡ old))). let z = x.0 in absurd (omega arith))
+      (λ (x : (sum_by held_of s.views ≡ 1) × (s.homes ≡ maybe.none ∷ [])). let z = x.0 in inr (omega arith, x.1))
+      k.home) in
+      let moment : WasJournal list lane_of sound v.lane v.turns log = record {
+        state = after;
+        rule = kept;
+        place = id;
+        view = w;
+        there = set_here s.views id w (at_less s.views id v at);
+        ticket = t;
+        stage = turn;
+        lane_is = refl;
+        turns_is = refl;
+        seen = refl;
+      } in (
         w,
         keeps,
         tt,
-        (
-          log,
-          moved s old k id v v.stage log v.turns at al _ s.homes k.drawn k.served log ws sounds
-              (λ j u ne there t' a b. (k.apart id j v u (λ e. ne (sym e)) at there).tickets t' a b)
-              record {
-                tickets = subst (Tickets k.drawn k.served log log) (sym h.0) (refl, (ticket_in k.drawn k.served old v.seen v.stage k.served f.tickets mine).1, refl);
-                lives = λ _. record {
-                  begins = starts_whole log log refl;
-                  own = refl;
-                  there = l.there;
-                  count = l.count;
-                  parts = λ first. joins v.joined (l.parts first) (λ i lt. omega arith);
-                  few = l.few;
-                };
-              }
-              (λ j u ne there.
-              let g = k.fits j u there in
-              let p = k.apart id j v u (λ e. ne (sym e)) at there in
-              let q = k.apart j id u v ne there at in
-              record {
-                tickets = grown k.drawn k.served old log u.seen u.stage g.tickets (λ e. p.tickets k.served mine e);
-                lives = λ lives. let r = g.lives lives in record {
-                  begins = subst (λ (xs : List E). StartsWith xs u.seen) (sym is) (starts_longer old u.seen (entry ∷ []) r.begins);
-                  own = grows u.lane (λ e. p.lanes al lives (sym e)) ∙ r.own;
-                  there = r.there;
-                  count = r.count;
-                  parts = λ first. joins u.joined (r.parts first) (λ i lt. let z = q.joined lives al first in omega arith);
-                  few = r.few;
-                };
-              })
-              (id, w, set_here s.views id w (at_less s.views id v at), inl refl)
-              (let o = k.outs in omega arith)
-              (let n = k.turns in omega arith)
-              (λ lane le. grows lane (let a = l.there in omega arith) ∙ k.unmade lane le)
-              (λ n e. ⊎_elim
-              (λ (x : (sum_by held_of s.views ≡ 0) × ((story : S) × (s.homes ≡ maybe.some (Some story) ∷ []) × (list story ≡ old))). let z = x.0 in absurd (omega arith))
-              (λ (x : (sum_by held_of s.views ≡ 1) × (s.homes ≡ maybe.none ∷ [])). let z = x.0 in inr (omega arith, x.1))
-              k.home),
-        ),
-        (λ x e. ap (λ (y : S). (counting v (list y), me.1)) (story_is me.1 story x slot e)),
+        (log, kept),
+        (λ x e. subst (λ (y : S). let m : Me (Option S) (View E) = (w, me.1) in (m ≡ (counting v (list y), me.1)) × WasJournal list lane_of sound v.lane v.turns (list y)) (story_is me.1 story x slot e) (refl, moment)),
       )
 
   pub passes : (slots id : ℕ) (me : Me (Option S) (View E)) (t : ℕ) (story : S) → me.0.stage ≡ Holds t → me.1 ≡ (0, Some story) ∷ [] → list story ≡ me.0.seen

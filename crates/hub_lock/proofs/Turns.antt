@@ -19,7 +19,7 @@ module _ {S E : Type 0} (list : S → List E) (lane_of : E → ℕ) (sound : Lis
   looks_with slots id me v t is = looks list lane_of sound slots id me t (ap (λ (m : Me (Option S) (View E)). m.0.stage) is)
 
   pub counts_with : (slots id : ℕ) (me : Me (Option S) (View E)) (raw : Raw S E) (t : ℕ) (story : S) → me ≡ (raw.me.0, (0, Some story) ∷ []) → raw.me.0.stage ≡ Holds t → HasEntry list lane_of sound raw story
-      → Allows (HasJournal list lane_of sound) slots id me 2 (λ n. (n + 1) % 2 ^ 64) (counted list (step slots 2 1 0 maybe.none) me)
+      → Allows (HasJournal list lane_of sound) slots id me 2 (λ n. (n + 1) % 2 ^ 64) (counted list lane_of sound (step slots 2 1 0 maybe.none) me)
   counts_with slots id me raw t story is turn e = counts list lane_of sound slots id me t story e.entry
       (ap (λ (m : Me (Option S) (View E)). m.0.stage) is ∙ turn) (ap (λ (m : Me (Option S) (View E)). m.1) is)
       (e.longer ∙ sym (ap (λ (m : Me (Option S) (View E)). m.0.seen ++ e.entry ∷ []) is)) (e.own ∙ sym (ap (λ (m : Me (Option S) (View E)). m.0.lane) is)) e.sounds e.small

@@ -8,7 +8,7 @@ use Rattle.hub_lock.specs.Seats.{seen, turns, lane}
 
 -- `story` has the meaning of a story S, with the calls C, their answers A and refusals H, and the entries E
 module _ {S C A H E : Type 0} {story : Ghosts S C A H E} where
-  -- the lane's call was answered: what it has seen goes on with entries of other lanes, which was the whole journal at its last turn, and ends with its own new entry
+  -- the lane's call was answered: what it has seen goes on with entries of other lanes, and ends with its own new entry. At its last turn this was the whole journal, before and after the entry
   pub record HasActed (old new : Seat S C A H E story) (call : C) (acted : A) : Type 0 where
     pub between : List E
     pub entry : E
@@ -17,7 +17,8 @@ module _ {S C A H E : Type 0} {story : Ghosts S C A H E} where
     pub own : story.lane_of entry ≡ lane old
     pub answered : story.answers (seen old ++ between) (lane old) call entry acted
     pub sounds : story.sound (seen new)
-    pub whole : WasJournal story.list story.lane_of story.sound (lane old) (turns new) (seen old ++ between)
+    pub before : WasJournal story.list story.lane_of story.sound (lane old) (turns new) (seen old ++ between)
+    pub after : WasJournal story.list story.lane_of story.sound (lane old) (turns new) (seen new)
 
   -- the lane's call was refused: what it has seen goes on with entries of other lanes alone, and was the whole journal at its last turn
   pub record HasHeld (old new : Seat S C A H E story) (call : C) (count : ℕ) (held : H) : Type 0 where

@@ -63,9 +63,9 @@ module _ {S E : Type 0} where
   abbrev pub looked : (S → List E) → (E → ℕ) → (List E → Type 0) → Step (Option S) → Me (Option S) (View E) → ℕ → Me (Option S) (View E) → Type 0
   looked list lane_of sound st m r n = (t : ℕ) → m.0.stage ≡ Waits t → (r ≡ t % 2 ^ 64 → Came list lane_of sound t m n) × (r ≢ t % 2 ^ 64 → n ≡ m)
 
-  -- count tells: the seat has seen the list that the value in its slot stands for
-  abbrev pub counted : (S → List E) → Step (Option S) → Me (Option S) (View E) → ℕ → Me (Option S) (View E) → Type 0
-  counted list st m r n = (story : S) → m.1 ≡ (0, Some story) ∷ [] → n ≡ (counting m.0 (list story), m.1)
+  -- count tells: the seat has seen the list that the value in its slot stands for, and that is the journal
+  abbrev pub counted : (S → List E) → (E → ℕ) → (List E → Type 0) → Step (Option S) → Me (Option S) (View E) → ℕ → Me (Option S) (View E) → Type 0
+  counted list lane_of sound st m r n = (story : S) → m.1 ≡ (0, Some story) ∷ [] → (n ≡ (counting m.0 (list story), m.1)) × WasJournal list lane_of sound m.0.lane m.0.turns (list story)
 
   -- pass tells: the turn is over, and the slot is home
   abbrev pub passed : Step (Option S) → Me (Option S) (View E) → ℕ → Me (Option S) (View E) → Type 0

@@ -65,7 +65,7 @@ pub struct Count<S> {
 impl<S: Story> Play<Option<S>, View<S::Entry>> for Count<S> {
     ghost use Rattle.hub_lock.specs.Steps.{counted};
 
-    ghost then = { counted S.list };
+    ghost then = { counted S.list S.lane_of S.sound };
 }
 
 pub struct Pass;

@@ -1,6 +1,7 @@
 //! The parts of a call: draw a ticket, look until it is served, take the value; then give it back, count the entry if there is one, and pass the turn.
 ghost use Rattle.std.specs.Prelude.{◌≡◌, [], ◌∷◌, Some, None};
 ghost use Rattle.hub_lock.specs.declared.rule.Stage.TheVariants.{Idle};
+ghost use Rattle.hub_lock.specs.Rule.{WasJournal};
 ghost use Rattle.hub_lock.specs.Steps.{counting, passing};
 ghost use Rattle.hub_lock.specs.Turns.{IsSameRaw, HasTurn, HasSlot, HasEntry};
 
@@ -56,6 +57,7 @@ impl<S: Story> Keep<S> {
         requires entry { HasEntry S.list S.lane_of S.sound raw.old story }
         ensures same { IsSameRaw raw.old raw.new }
         ensures view { raw.new.me ≡ (passing (counting raw.old.me.0 (S.list story)), []) }
+        ensures moment { WasJournal S.list S.lane_of S.sound raw.old.me.0.lane raw.old.me.0.turns (S.list story) }
     {
         self.give(raw, story);
         self.table.shared.fetch_add::<Count<S>>(raw, COUNT, 1);

@@ -18,10 +18,5 @@ end-story-requires-clause-all g c =
 pub returns-clause-journal : goal.returns-clause-journal
 returns-clause-journal g c =
     let all = YieldsList-end (YieldsList-from_vec {s = c.into_iter-other-iterator.result} c.args.others.items (search rules) (search rules)) c.loop-other.yielded c.loop-other.other-iterator c.loop-other.yielded_by c.next.result c.next.new.self c.in-None.is c.next.ensures.steps in
-    ends c.args.seat c.args.others.items c.loop-other.raw.me.0 _ c.end-story.ensures
-    c.loop-other.invariant.seen
-    (c.loop-other.invariant.lane ∙ c.args.seat.lane_is)
-    (c.loop-other.invariant.made ∙ c.args.seat.made_is)
-    (c.loop-other.invariant.joined ∙ ap (map seen_by) (sym (map-id c.loop-other.yielded) ∙ all.0))
-    c.requires.lanes.1
-    c.requires.all
+    ends c.args.seat c.args.others.items c.loop-other.yielded c.loop-other.raw.me.0 _ c.end-story.ensures
+    c.loop-other.invariant.seen c.loop-other.invariant.lane c.loop-other.invariant.made c.loop-other.invariant.joined all.0 c.requires.lanes.1 c.requires.all
