@@ -1,5 +1,5 @@
 -- What the end of a lock says of each seat.
-use Rattle.std.proofs.Common.{◌≡◌, ℕ, ◌+◌, ◌<◌, ◌≤◌, List, [], ◌∷◌, zero, suc, map, map-id, length, get_or, refl, sym, ap, ◌∙◌, subst, arith}
+use Rattle.std.proofs.Common.{◌≡◌, ℕ, ◌+◌, ◌<◌, List, [], ◌∷◌, zero, suc, map, map-id, length, get_or, refl, sym, ap, ◌∙◌, subst, arith}
 use Rattle.std.proofs.lemmas.List.{length-map}
 use Rattle.std.proofs.lemmas.Option.{slice_get-get_or, slice_get_read}
 use mathlib.Core.Option.{some}
@@ -10,8 +10,7 @@ use Rattle.hub_lock.specs.declared.seat.Seat.{Seat}
 use Rattle.hub_lock.specs.declared.rule.View.{View}
 use Rattle.hub_lock.specs.Words.{of, StartsWith}
 use Rattle.hub_lock.specs.Turns.{IsWhole}
-use Rattle.hub_lock.specs.Seats.{lane, seats_made}
-use Rattle.hub_lock.specs.Calls.{IsIn, InOrder, IsEnd}
+use Rattle.hub_lock.specs.Calls.{InOrder, IsEnd}
 
 elem_here : {A : Type 0} (l : List A) (i : ℕ) (d : A) → i < length l → get_elem? l i ≡ some (get_or l i d)
 elem_here [] i d h = absurd (omega arith)

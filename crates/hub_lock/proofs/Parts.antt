@@ -1,20 +1,20 @@
 -- How the rule begins, how it goes on when a seat is split off or joined, and what it says at the end.
-use Rattle.std.proofs.Common.{◌≡◌, ◌≢◌, ℕ, zero, suc, ◌+◌, ◌%◌, ◌^◌, ◌<◌, ◌≤◌, ◌⊎◌, Bool, true, false, List, [], ◌∷◌, ◌++◌, All, length, set, get_or, sum_by, Some, None, Option, inl, inr, ⊎_elim, refl, sym, ap, ◌∙◌, subst, subst₂, is_some, true≢false, arith}
+use Rattle.std.proofs.Common.{◌≡◌, ◌≢◌, ℕ, zero, suc, ◌+◌, ◌^◌, ◌<◌, ◌⊎◌, true, false, List, [], ◌∷◌, ◌++◌, All, length, set, sum_by, Some, None, Option, inl, inr, ⊎_elim, refl, sym, ap, ◌∙◌, subst, subst₂, is_some, true≢false, arith}
 use Rattle.std.proofs.lemmas.List.{length-append}
 use Rattle.std.proofs.lemmas.List.Sums.{sum_by_push}
 use Rattle.std.proofs.Math.Decide.{ℕ_discrete}
 use mathlib.Core.Logic.{dite}
 use mathlib.Core.Option as maybe
 use lib.ListN.{get_elem?, length-set}
-use Rattle.atomic_table.specs.Table.{State, opening, Splits, Joins, Final, Seen}
+use Rattle.atomic_table.specs.Table.{opening, Splits, Joins, Final, Seen}
 use Rattle.atomic_table.proofs.Lists.{at_set, set_here, set_else, at_longer, at_last, at_snoc}
 use Rattle.hub_lock.specs.declared.rule.Stage.{Stage}
-use Rattle.hub_lock.specs.declared.rule.Stage.TheVariants.{Idle, Waits, Holds, Spent}
+use Rattle.hub_lock.specs.declared.rule.Stage.TheVariants.{Idle}
 use Rattle.hub_lock.specs.declared.rule.View.{View}
 use Rattle.hub_lock.specs.Words.{of, StartsWith}
-use Rattle.hub_lock.specs.Rule.{alive, ticket, out, held, out_of, held_of, turns_of, Tickets, Joined, Apart, Lives, Fits, Knows, IsLongest, Home, LockRule, HasJournal, starting}
+use Rattle.hub_lock.specs.Rule.{alive, ticket, out, held, out_of, held_of, turns_of, Tickets, Apart, Fits, Knows, Home, HasJournal, starting}
 use Rattle.hub_lock.specs.Steps.{dealt, fresh, both, spent}
-use Rattle.hub_lock.proofs.Lists.{sum_by-set_at, sum_by-at, sum_by-some, of-none, starts_whole, unseen, at_less}
+use Rattle.hub_lock.proofs.Lists.{sum_by-set_at, sum_by-some, of-none, starts_whole, unseen, at_less}
 use Rattle.hub_lock.proofs.Steps.{holder, longest_set}
 use Rattle.hub_lock.specs.Turns.{IsWhole}
 

@@ -1,19 +1,19 @@
 -- Each kind of step that one seat takes alone keeps the lock's rule: draw, look, count and pass.
-use Rattle.std.proofs.Common.{◌≡◌, ◌≢◌, ℕ, zero, suc, ◌+◌, ◌%◌, ◌^◌, ◌<◌, ◌≤◌, ◌⊎◌, Bool, true, false, List, [], ◌∷◌, ◌++◌, length, set, get_or, sum_by, Some, None, Option, inl, inr, ⊎_elim, refl, sym, ap, ◌∙◌, subst, le_trans, mod-eq_of_lt, true≢false, arith}
+use Rattle.std.proofs.Common.{◌≡◌, ◌≢◌, ℕ, ◌+◌, ◌%◌, ◌^◌, ◌<◌, ◌≤◌, true, List, [], ◌∷◌, ◌++◌, length, set, get_or, sum_by, Some, None, Option, inl, inr, ⊎_elim, refl, sym, ap, ◌∙◌, subst, mod-eq_of_lt, arith}
 use Rattle.std.proofs.Math.Nat.{mod-add-mod}
 use Rattle.std.proofs.Math.Decide.{ℕ_discrete}
 use mathlib.Core.Logic.{dite}
 use mathlib.Core.Option as maybe
 use lib.ListN.{get_elem?, length-set}
-use Rattle.atomic_table.specs.Table.{State, Me, Act, keeps, takes, gives, step, stepped, put_back, rest, Allows}
+use Rattle.atomic_table.specs.Table.{State, Me, keeps, takes, gives, step, put_back, Allows}
 use Rattle.atomic_table.proofs.Lists.{at_set, set_here, set_else, set_again, one_turn}
 use Rattle.hub_lock.specs.declared.rule.Stage.{Stage}
 use Rattle.hub_lock.specs.declared.rule.Stage.TheVariants.{Idle, Waits, Holds, Spent}
 use Rattle.hub_lock.specs.declared.rule.View.{View}
 use Rattle.hub_lock.specs.Words.{of, StartsWith}
-use Rattle.hub_lock.specs.Rule.{alive, ticket, out, held, out_of, held_of, turns_of, Tickets, Joined, Apart, Lives, Fits, Knows, IsLongest, Home, LockRule, HasJournal, WasJournal}
+use Rattle.hub_lock.specs.Rule.{alive, ticket, out, held, out_of, held_of, turns_of, Tickets, Joined, Apart, Fits, Knows, IsLongest, Home, LockRule, HasJournal, WasJournal}
 use Rattle.hub_lock.specs.Steps.{restaged, drawing, holding, counting, passing, drew, Came, looked, counted, passed}
-use Rattle.hub_lock.proofs.Lists.{sum_by-set_at, sum_by-at, sum_by-most, sum_by-some, of-append, of-other, of-own, of-between, starts_longer, starts_whole, length-one_more, at_less}
+use Rattle.hub_lock.proofs.Lists.{sum_by-set_at, sum_by-at, sum_by-most, sum_by-some, of-other, of-between, starts_longer, starts_whole, length-one_more, at_less}
 
 -- of one stage
 pub ticket_in : {E : Type 0} (drawn served : ℕ) (log seen : List E) (st : Stage) (t : ℕ) → Tickets drawn served log seen st → ticket st ≡ maybe.some t → (served ≤ t) × (t < drawn)

@@ -1,16 +1,15 @@
 -- The steps as the parts of a call take them.
-use Rattle.std.proofs.Common.{◌≡◌, ℕ, ◌+◌, ◌%◌, ◌^◌, ◌<◌, List, [], ◌∷◌, ◌++◌, length, slice_get, Some, None, Option, sym, ap, ◌∙◌, subst₂, append-nil}
+use Rattle.std.proofs.Common.{◌≡◌, ℕ, ◌+◌, ◌%◌, ◌^◌, ◌<◌, List, [], ◌∷◌, ◌++◌, length, slice_get, Some, Option, sym, ap, ◌∙◌, subst₂, append-nil}
 use mathlib.Core.Option as maybe
-use Rattle.atomic_table.specs.Table.{State, Me, step, rest, Allows}
-use Rattle.hub_lock.specs.declared.rule.Stage.{Stage}
-use Rattle.hub_lock.specs.declared.rule.Stage.TheVariants.{Idle, Waits, Holds}
+use Rattle.atomic_table.specs.Table.{Me, step, Allows}
+use Rattle.hub_lock.specs.declared.rule.Stage.TheVariants.{Holds}
 use Rattle.hub_lock.specs.declared.rule.View.{View}
 use Rattle.hub_lock.specs.Words.{of}
 use Rattle.hub_lock.specs.Rule.{HasJournal}
-use Rattle.hub_lock.specs.Steps.{drawing, holding, counting, passing, drew, Came, looked, counted, passed}
-use Rattle.hub_lock.specs.Turns.{Raw, HasTurn, HasSlot, HasEntry}
+use Rattle.hub_lock.specs.Steps.{drawing, looked, counted}
+use Rattle.hub_lock.specs.Turns.{Raw, HasEntry}
 use Rattle.hub_lock.proofs.Lists.{of-append, first-append}
-use Rattle.hub_lock.proofs.Steps.{looks, counts, passes}
+use Rattle.hub_lock.proofs.Steps.{looks, counts}
 
 module _ {S E : Type 0} (list : S → List E) (lane_of : E → ℕ) (sound : List E → Type 0) where
   -- the seat waits with the ticket t

@@ -1,12 +1,9 @@
 -- Calls that are tried again: what they leave together.
-use Rattle.std.proofs.Common.{◌≡◌, ℕ, ◌+◌, ◌<◌, ◌≤◌, List, [], ◌∷◌, ◌++◌, length, slice_get, refl, sym, ap, ◌∙◌, subst, append_assoc, append-nil, arith}
+use Rattle.std.proofs.Common.{◌≡◌, ℕ, ◌<◌, ◌≤◌, List, [], ◌++◌, length, slice_get, refl, sym, subst, append-nil, arith}
 use Rattle.hub_lock.specs.declared.story.Story.{Ghosts}
 use Rattle.hub_lock.specs.declared.seat.Seat.{Seat}
 use Rattle.hub_lock.specs.Words.{of}
-use Rattle.hub_lock.specs.Rule.{WasJournal}
-use Rattle.hub_lock.specs.Seats.{seen, turns, lane, IsSameSeat}
-use Rattle.hub_lock.specs.Calls.{HasActed, HasHeld}
-use Rattle.hub_lock.proofs.Lists.{of-append}
+use Rattle.hub_lock.specs.Seats.{seen, turns, lane}
 use Rattle.hub_lock.proofs.Turns.{allowed_with}
 
 module _ {S C A H E : Type 0} {story : Ghosts S C A H E} where

@@ -1,5 +1,5 @@
 -- What a call leaves, and what the end of a lock gives.
-use Rattle.std.specs.Prelude.{◌≡◌, ℕ, ◌+◌, ◌≤◌, ◌<◌, List, [], ◌∷◌, ◌++◌, length, All, slice_get, Option, Some}
+use Rattle.std.specs.Prelude.{◌≡◌, ℕ, ◌+◌, ◌<◌, List, [], ◌∷◌, ◌++◌, length, All, slice_get, Some}
 use Rattle.hub_lock.specs.declared.story.Story.{Ghosts}
 use Rattle.hub_lock.specs.declared.seat.Seat.{Seat}
 use Rattle.hub_lock.specs.Words.{of, StartsWith}

@@ -1,11 +1,11 @@
 -- What the parts of a call make of a seat of the table.
-use Rattle.std.specs.Prelude.{◌≡◌, ℕ, ◌+◌, ◌^◌, ◌<◌, ◌≤◌, List, [], ◌∷◌, ◌++◌, length, Option, Some, None}
+use Rattle.std.specs.Prelude.{◌≡◌, ℕ, ◌+◌, ◌^◌, ◌<◌, ◌≤◌, List, [], ◌∷◌, ◌++◌, length, Option, None}
 use Rattle.atomic_table.specs.declared.shared.Seat.{Seat}
-use Rattle.hub_lock.specs.declared.rule.Stage.TheVariants.{Idle, Holds}
+use Rattle.hub_lock.specs.declared.rule.Stage.TheVariants.{Holds}
 use Rattle.hub_lock.specs.declared.rule.View.{View}
 use Rattle.hub_lock.specs.Words.{of, StartsWith}
 use Rattle.hub_lock.specs.Rule.{Joined, WasJournal}
-use Rattle.hub_lock.specs.Steps.{holding, counting, passing}
+use Rattle.hub_lock.specs.Steps.{holding}
 
 -- a seat of the lock's table
 abbrev pub Raw : Type 0 → Type 0 → Type 0

@@ -1,4 +1,4 @@
-use Rattle.std.proofs.Common.{rules, ◌<◌, ◌^◌}
+use Rattle.std.proofs.Common.{rules}
 use Rattle.hub_lock.proofs.Parts.{starts_with}
 use Rattle.hub_lock.proofs.keep.Keep.begin.Goals as goal
 

@@ -1,8 +1,7 @@
-use Rattle.std.proofs.Common.{◌≡◌, ◌+◌, List, map, length, map-id, sym, ap, ◌∙◌, rules, arith}
-use Rattle.std.proofs.lemmas.List.{length-map}
+use Rattle.std.proofs.Common.{◌∙◌, rules}
 use Rattle.std.proofs.lemmas.Iterator.Adapters.{YieldsList-from_vec}
 use Rattle.std.proofs.lemmas.Iterator.Consumers.{YieldsList-turn, YieldsList-end}
-use Rattle.hub_lock.proofs.Ends.{seen_by, ends, next_lane, all_joined}
+use Rattle.hub_lock.proofs.Ends.{ends, next_lane, all_joined}
 use Rattle.hub_lock.proofs.keep.Keep.close.Goals as goal
 
 pub join-requires-clause-next : goal.join-requires-clause-next

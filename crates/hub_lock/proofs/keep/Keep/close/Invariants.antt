@@ -1,4 +1,4 @@
-use Rattle.std.proofs.Common.{◌≡◌, map, List, []}
+use Rattle.std.proofs.Common.{◌≡◌, map, []}
 use Rattle.hub_lock.specs.declared.rule.Stage.TheVariants.{Idle}
 use Rattle.hub_lock.specs.Turns.{IsSameRaw}
 use Rattle.hub_lock.proofs.Ends.{seen_by}
