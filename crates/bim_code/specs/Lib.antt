@@ -3,4 +3,4 @@ pub mod Rows
 pub mod Code
 pub mod Tables
 pub mod Limits
-pub mod Laws
+pub mod Examples

@@ -2,10 +2,10 @@
 //! what their bytes are in a file.
 #![tactic(auto)]
 
-pub mod image;
-pub mod instruction;
-pub mod law;
-pub mod rows;
+mod image;
+mod instruction;
+pub mod laws;
+mod rows;
 
 pub use image::{Default, Field, Form, Image, ImageType, Operand, Parameter, Point, Routine, Slot};
 pub use instruction::Instruction;

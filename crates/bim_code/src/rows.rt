@@ -1,4 +1,4 @@
-ghost use Rattle.std.specs.Prelude.{◌≡◌, ◌≤◌, option_to_list};
+ghost use Rattle.std.specs.Prelude.{◌≡◌, option_to_list};
 ghost use Rattle.bim_code.specs.Rows.{row_of, width};
 
 use crate::instruction::Instruction;
@@ -51,12 +51,33 @@ impl Instruction {
 
     /// How many bytes the instruction takes: 1, and 4 for an operand.
     pub fn width(&self) -> u32
-        ensures value { result ≡ width self.now }
-        ensures most { result ≤ 5 }
+        ensures { result ≡ width self.now }
     {
         match self.operand() {
             Some(_) => 5,
             None => 1,
+        }
+    }
+}
+
+#[cfg(test)]
+mod tests {
+    use super::*;
+    use mos_text::FaultKind;
+
+    #[test]
+    fn rows(rt: HostRuntime) {
+        for (instruction, code, operand, width) in [
+            (Instruction::Tick, 0x01, None, 1),
+            (Instruction::PushInt(-2), 0x03, Some(0xffff_fffe), 5),
+            (Instruction::PushBool(true), 0x04, Some(1), 5),
+            (Instruction::LoadGlobal(258), 0x08, Some(258), 5),
+            (Instruction::End, 0x45, None, 1),
+            (Instruction::Fault(FaultKind::NoLabel), 0x46, Some(12), 5),
+        ] {
+            assert_eq!(rt; instruction.code(), code);
+            assert_eq!(rt; instruction.operand(), operand);
+            assert_eq!(rt; instruction.width(), width);
         }
     }
 }

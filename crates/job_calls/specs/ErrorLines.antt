@@ -7,24 +7,28 @@ use Rattle.mos_text.specs.declared.kind.Kind.{Kind}
 unfoldable pub usage_line : List ℕ
 usage_line = codes "mosel: usage\n"
 
+-- the program's name, and what is the matter with a file
+unfoldable pub about : List ℕ → List ℕ → List ℕ
+about name matter = codes "mosel: " ++ name ++ matter
+
 -- a source is not accepted: the first line at fault, and the kind with its word
 unfoldable pub verdict_line : List ℕ → ℕ → Kind → List ℕ
 verdict_line name line kind =
-    codes "mosel: " ++ name ++ codes " line " ++ decimal line ++ codes ": " ++ kind_text kind ++ codes "\n"
+    about name (codes " line ") ++ decimal line ++ codes ": " ++ kind_text kind ++ codes "\n"
 
 -- a listed file is not there
-unfoldable pub missing_line : List ℕ → List ℕ
-missing_line name = codes "mosel: " ++ name ++ codes ": missing\n"
+abbrev pub missing_line : List ℕ → List ℕ
+missing_line name = about name (codes ": missing\n")
 
 -- a listed file is above its limit
-unfoldable pub too_large_line : List ℕ → List ℕ
-too_large_line name = codes "mosel: " ++ name ++ codes ": too large\n"
+abbrev pub too_large_line : List ℕ → List ℕ
+too_large_line name = about name (codes ": too large\n")
 
 -- the folder failed at a file
-unfoldable pub read_fault_line : List ℕ → List ℕ
-read_fault_line name = codes "mosel: " ++ name ++ codes ": read fault\n"
+abbrev pub read_fault_line : List ℕ → List ℕ
+read_fault_line name = about name (codes ": read fault\n")
 
 -- an image or an order file is not accepted: the byte at fault, and the rule that it breaks
 unfoldable pub bad_input_line : List ℕ → ℕ → ℕ → List ℕ
 bad_input_line name at rule =
-    codes "mosel: " ++ name ++ codes ": bad input at " ++ decimal at ++ codes ", rule " ++ decimal rule ++ codes "\n"
+    about name (codes ": bad input at ") ++ decimal at ++ codes ", rule " ++ decimal rule ++ codes "\n"

@@ -1,6 +1,7 @@
 -- Worked examples of the text of a report.
 use Rattle.std.specs.Prelude.{◌≡◌, ℕ, List, [], ◌∷◌, Some, None, pos, negsuc, true, map, codes}
 use Rattle.mos_text.specs.declared.fault_kind.FaultKind.TheVariants.{Overflow}
+use Rattle.mos_text.specs.declared.kind.Kind.TheVariants.{Syntax, Module}
 use Rattle.job_calls.specs.declared.call.Call.{Call}
 use Rattle.job_calls.specs.declared.call.Call.TheVariants.{Open, Claim, Finish, Run, Send, Write, PipeOpen}
 use Rattle.job_calls.specs.declared.call.Way.TheVariants.{Writes}
@@ -12,6 +13,7 @@ use Rattle.job_calls.specs.declared.reply.Reply.TheVariants.{Opened, Claimed, Do
 use Rattle.job_calls.specs.declared.run_line.RunEnd.TheVariants.{Ended}
 use Rattle.job_calls.specs.declared.run_line.RunLine.{RunLine}
 use Rattle.job_calls.specs.CallText.{call_text}
+use Rattle.job_calls.specs.ErrorLines.{usage_line, verdict_line, missing_line, too_large_line, read_fault_line, bad_input_line}
 use Rattle.job_calls.specs.ReplyText.{reply_text}
 use Rattle.job_calls.specs.ReportText.{report_text}
 
@@ -84,4 +86,24 @@ ReplyTexts = map reply_text (
     ∷ codes "number -1"
     ∷ codes "bytes x350a"
     ∷ codes "fault OVERFLOW"
+    ∷ []
+
+-- error lines
+abbrev pub ErrorLineTexts : Type 0
+ErrorLineTexts =
+  usage_line
+  ∷ verdict_line (codes "empty.mos") 1 Syntax
+  ∷ verdict_line (codes "a.mos") 2 (Module (codes "mmxprs"))
+  ∷ missing_line (codes "no.mos")
+  ∷ too_large_line (codes "a.mos")
+  ∷ read_fault_line (codes "a.mos")
+  ∷ bad_input_line (codes "tiny.bim") 33 3
+  ∷ []
+  ≡ codes "mosel: usage\n"
+    ∷ codes "mosel: empty.mos line 1: SYNTAX\n"
+    ∷ codes "mosel: a.mos line 2: MODULE mmxprs\n"
+    ∷ codes "mosel: no.mos: missing\n"
+    ∷ codes "mosel: a.mos: too large\n"
+    ∷ codes "mosel: a.mos: read fault\n"
+    ∷ codes "mosel: tiny.bim: bad input at 33, rule 3\n"
     ∷ []

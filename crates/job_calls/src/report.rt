@@ -1,6 +1,6 @@
-//! Worked examples of the text of a report: functions that do nothing, whose contracts are the
-//! examples.
-ghost use Rattle.job_calls.specs.ReportExamples.{CallTexts, HelloReport, ReplyTexts};
+//! Worked examples of the texts that the program writes: functions that do nothing, whose contracts
+//! are the examples.
+ghost use Rattle.job_calls.specs.ReportExamples.{CallTexts, ErrorLineTexts, HelloReport, ReplyTexts};
 
 /// The report of one run that writes hello, on one lane.
 pub fn hello_report()
@@ -16,3 +16,9 @@ pub fn call_texts()
 pub fn reply_texts()
     ensures { ReplyTexts }
 {}
+
+/// The lines that stand in place of a report.
+pub fn error_lines()
+    ensures { ErrorLineTexts }
+{
+}

@@ -7,7 +7,7 @@ use Rattle.mos_text.specs.declared.fault_kind.FaultKind.{FaultKind}
 use Rattle.mos_text.specs.declared.fault_kind.FaultKind.TheVariants.{Overflow, TooBig, OutFull}
 use Rattle.mos_text.specs.declared.scalar.Scalar.{Scalar}
 use Rattle.mos_text.specs.declared.scalar.Scalar.TheVariants.{Int, Str}
-use Rattle.mos_meaning.specs.Texts.{is_text}
+use Rattle.std.specs.Str.{bytes_eq}
 use Rattle.mos_meaning.specs.State.{Memory, State, Stop, Failed, Spent, Stuck, Got, Gave, Halts, ticked}
 use Rattle.mos_meaning.specs.Syntax.{Expression, number, text, name, plus, minus, unbuilt, Arguments, nothing, one_more, Effect, assign, writeln, unbuilt_effect, Block, done, first}
 use Rattle.mos_meaning.specs.Values.{sum_of, difference_of, limited, shown, line_end, written}
@@ -15,7 +15,7 @@ use Rattle.mos_meaning.specs.Values.{sum_of, difference_of, limited, shown, line
 -- the place of a variable: that of its name; where there is none, one behind the last
 abbrev pub place_of : List ℕ → List (List ℕ) → ℕ
 place_of n [] = 0
-place_of n (m ∷ names) = if is_text n m then 0 else place_of n names + 1
+place_of n (m ∷ names) = if bytes_eq n m then 0 else place_of n names + 1
 
 -- Values.
 

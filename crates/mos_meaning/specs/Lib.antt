@@ -1,4 +1,3 @@
-pub mod Texts
 pub mod Syntax
 pub mod State
 pub mod Values

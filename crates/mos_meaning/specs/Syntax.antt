@@ -18,7 +18,7 @@ use Rattle.mos_tree.specs.declared.statement.Statement.TheFolds.{fold-Statement}
 use Rattle.mos_tree.specs.declared.source.Top.{Top}
 use Rattle.mos_tree.specs.declared.source.Top.TheVariants as top
 use Rattle.mos_tree.specs.declared.source.Tree.{Tree}
-use Rattle.mos_meaning.specs.Texts.{is_text}
+use Rattle.std.specs.Str.{bytes_eq}
 
 -- an expression: a literal, a name, a sum or a difference
 pub data Expression : Type 0 where
@@ -65,7 +65,7 @@ arguments (e ∷ es) = one_more e (arguments es)
 
 -- the library procedures that can be called
 abbrev pub procedure : List ℕ → Arguments → Effect
-procedure called all = if is_text (codes "writeln") called then writeln all else unbuilt_effect
+procedure called all = if bytes_eq (codes "writeln") called then writeln all else unbuilt_effect
 
 abbrev pub assignment : Reference → Assignment → Expression → Effect
 assignment (target.Name n) operator.Set e = assign n e
@@ -93,7 +93,7 @@ statements_of tree = block (map top_effect tree.tops)
 
 -- the name is among these
 abbrev pub has_name : List ℕ → List (List ℕ) → Bool
-has_name n names = list_any (is_text n) names
+has_name n names = list_any (bytes_eq n) names
 
 -- the names so far, and one more that is not among them
 abbrev pub with_name : List (List ℕ) → List ℕ → List (List ℕ)

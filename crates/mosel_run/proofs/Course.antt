@@ -67,7 +67,7 @@ over_by image (i ∷ is) address f s h =
         (λ f1 s1. over_by image is (address + width i) f1 s1 h.1)
         (λ stop s1. record { stop = stop; state = s1; by = run_over image (length is + 1) stop s1 })))
 
-steps_over : (image : Image) (n : ℕ) (stop : Stop) (s : State) → steps_taken image n (Over stop s) ≡ 0
+pub steps_over : (image : Image) (n : ℕ) (stop : Stop) (s : State) → steps_taken image n (Over stop s) ≡ 0
 steps_over image zero stop s = refl
 steps_over image (suc n) stop s = refl
 

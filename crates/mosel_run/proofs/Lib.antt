@@ -3,3 +3,13 @@ pub mod Standing
 pub mod Expressions
 pub mod Effects
 pub mod Course
+pub mod Body
+pub mod BodyForms
+pub mod LineForms
+pub mod Lines
+pub mod SourceForms
+pub mod Tokens
+pub mod Steps
+pub mod SizeLemmas
+pub mod Legality
+pub mod NeverStuck

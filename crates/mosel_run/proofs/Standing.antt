@@ -31,7 +31,7 @@ above address [] = omega arith
 above address (i ∷ is) = let h : address + width i ≤ after (address + width i) is = above (address + width i) is in omega arith
 
 -- what stands behind some instructions is found there
-found : (at : ℕ) (is : List Instruction) (i : Instruction) (js : List Instruction)
+pub found : (at : ℕ) (is : List Instruction) (i : Instruction) (js : List Instruction)
   → instruction_from at (is ++ i ∷ js) (after at is) ≡ Some i
 found at [] i js = rw (eq-eqb at at refl) refl
 found at (j ∷ is) i js =

@@ -3,4 +3,16 @@ pub mod Built
 pub mod Closed
 pub mod Kept
 pub mod Stepping
-pub mod Words
+pub mod Sizes
+pub mod Means
+pub mod Schedule
+pub mod Puts
+pub mod Reported
+pub mod Running
+pub mod FirstForm
+pub mod FirstFormLaws
+pub mod FirstReading
+pub mod Jobs
+pub mod Texts
+pub mod Statuses
+pub mod Outputs

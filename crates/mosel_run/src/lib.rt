@@ -1,11 +1,13 @@
-//! What the program does: it reads its words and the source, runs the model, and writes the report
-//! and the image, over any folder and any sink.
+//! What the program does: it reads the source, runs the model, and writes the report and the image,
+//! over any folder and any sink.
 #![tactic(auto)]
 
 mod arithmetic;
-mod bytes;
+mod compiler;
 mod halt;
-mod image_writer;
+mod jobs;
 mod machine;
-mod report_writer;
-mod words;
+mod reader;
+mod runner;
+mod schedule;
+mod status;

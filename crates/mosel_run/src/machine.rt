@@ -1,15 +1,18 @@
 //! The machine that carries out an image: operands, held texts, variables, output and ticks.
 ghost use Rattle.std.specs.Prelude.{◌≡◌, IfOk, OnOk, ◌++◌, ◌∷◌, [], Some, None};
 ghost use Rattle.mos_meaning.specs.Values.{printed};
+ghost use Rattle.mos_meaning.specs.Meaning.{defaults as defaults_of};
+ghost use Rattle.mosel_run.specs.Running.{begins, IsToldOf};
 ghost use Rattle.mosel_run.specs.Stepping.{Leads, LeadsAlways, Combines, WritesHeld};
 
 use bim_code::{Image, Instruction};
-use mos_text::{FaultKind, NoMemory, Scalar, Text};
+use mos_text::{Blob, FaultKind, NoMemory, Scalar, Text};
 use std::alloc::Global;
 use std::marker::Model;
 
 use crate::arithmetic::{Operator, result_of};
 use crate::halt::Halt;
+use crate::runner::Ran;
 
 /// The most bytes that a text may have.
 const TEXT_LIMIT: usize = 1_000_000;
@@ -48,6 +51,32 @@ impl Model for Machine {
 }
 
 impl Machine {
+    /// A machine that begins, with the default in each of so many variables.
+    pub(crate) fn begin(alloc: Global, many: usize, budget: u32) -> Result<Machine, NoMemory>
+        ensures { IfOk result (λ machine. machine ≡ begins many budget) }
+    {
+        Ok(Machine {
+            stack: Vec::new(alloc),
+            held: Vec::new(alloc),
+            store: defaults(alloc, many)?,
+            output: Vec::new(alloc),
+            ticks: budget,
+        })
+    }
+
+    /// What is told of the run, which stops so after so many steps.
+    pub(crate) fn ended(self, halt: Halt, budget: u32, steps: u64) -> Ran
+        ensures { IsToldOf self halt budget steps result }
+    {
+        let Machine { output, ticks, .. } = self;
+        Ran {
+            halt,
+            output: Blob::from_vec(output),
+            ticks: budget.saturating_sub(ticks),
+            steps,
+        }
+    }
+
     /// Carries out one instruction; answers a halt where the run ends by it.
     pub(crate) fn step(
         &mut self,
@@ -226,6 +255,17 @@ impl Machine {
             _ => Some(Halt::Stuck),
         }
     }
+}
+
+/// The default of each of so many variables.
+fn defaults(alloc: Global, many: usize) -> Result<Vec<Scalar>, NoMemory>
+    ensures { IfOk result (λ values. values.items ≡ defaults_of many) }
+{
+    let mut values = Vec::new(alloc);
+    for _place in 0..many {
+        values.push(Scalar::Int(0))?;
+    }
+    Ok(values)
 }
 
 /// The printed form of a value.

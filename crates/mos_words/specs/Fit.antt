@@ -1,0 +1,12 @@
+-- What every command keeps.
+
+use Rattle.std.specs.Prelude.{◌≡◌, ◌≤◌, true}
+use Rattle.mos_text.specs.FileName.{is_file_name}
+use Rattle.mos_words.specs.declared.words.commands.Command.{Command}
+use Rattle.mos_words.specs.declared.words.commands.Command.TheVariants.{Run}
+use Rattle.mos_words.specs.Words.{is_source_name}
+
+-- the source has the name of a source, and there are 1 to 64 lanes
+abbrev pub IsFit : Command → Type 0
+IsFit (Run source lanes) =
+    (is_file_name source ≡ true) × (is_source_name source ≡ true) × (1 ≤ lanes) × (lanes ≤ 64)

@@ -1,0 +1,213 @@
+//! The words of the command line, read as a command.
+//!
+//! A command is there exactly where the words break no rule of the command line. Each rule is a
+//! function of its own over the words behind the command's word; an option is a row of the table.
+mod commands;
+mod files;
+mod options;
+mod shape;
+
+ghost use Rattle.std.specs.Prelude.{◌≡◌, false, not, nat_lt, length, IfOk, IsErrOf};
+ghost use Rattle.std.specs.List.{list_any, list_all};
+ghost use Rattle.mos_words.specs.Fit.{IsFit};
+ghost use Rattle.mos_words.specs.Words.{command_of, run_command, is_misshapen, has_empty_value, is_unknown, is_value, breaks_words, breaks_options, run_options, values, setting_of};
+ghost use Rattle.mos_words.specs.declared.words.options.OptionName.TheVariants.{Lanes};
+ghost use Rattle.mos_words.specs.declared.words.commands.WordFault.TheVariants.{Usage};
+
+pub use commands::{Command, WordFault};
+use files::{files, lacks_value, only_source};
+use mos_text::Text;
+use options::{OptionName, has_wrong_value, is_given_twice, is_unknown, setting};
+use shape::{has_empty_value, is_misshapen};
+use std::alloc::Global;
+
+/// The options of `run`.
+const RUN_OPTIONS: [OptionName; 1] = [OptionName::Lanes];
+
+/// The command that the words ask for. The first word is the program's name and is not looked at;
+/// the second is the command, `run`; the others are files and options in any mixture.
+#[tactic(auto, unfolding(crate::specs::Words::command_of))]
+pub fn command(alloc: Global, words: &[Text]) -> Result<Command, WordFault>
+    ensures value { IfOk result (λ command. command_of words.now ≡ Some command) }
+    ensures fit { IfOk result IsFit }
+    ensures usage { IsErrOf result Usage → command_of words.now ≡ None }
+{
+    match words {
+        [_program, command, arguments @ ..] if command.as_str() == "run" => {
+            run_command(alloc, arguments)
+        }
+        _ => Err(WordFault::Usage),
+    }
+}
+
+#[tactic(auto, unfolding(crate::specs::Words::run_command))]
+fn run_command(alloc: Global, arguments: &[Text]) -> Result<Command, WordFault>
+    ensures value { IfOk result (λ command. run_command arguments.now ≡ Some command) }
+    ensures usage { IsErrOf result Usage → run_command arguments.now ≡ None }
+{
+    if breaks_words(arguments) || breaks_options(&RUN_OPTIONS, arguments) {
+        return Err(WordFault::Usage);
+    }
+    let Some(source) = only_source(files(alloc, arguments)?) else {
+        return Err(WordFault::Usage);
+    };
+    let lanes = lanes(arguments);
+    Ok(Command::Run { source, lanes })
+}
+
+#[tactic(auto, unfolding(crate::specs::Words::breaks_words))]
+fn breaks_words(arguments: &[Text]) -> bool
+    ensures { result ≡ breaks_words arguments.now }
+{
+    has_misshapen(arguments) || has_empty_values(arguments) || lacks_value(arguments)
+}
+
+fn has_misshapen(arguments: &[Text]) -> bool
+    ensures { result ≡ list_any is_misshapen arguments.now }
+{
+    arguments.iter().any(|word| is_misshapen(word.as_bytes()))
+}
+
+fn has_empty_values(arguments: &[Text]) -> bool
+    ensures { result ≡ list_any has_empty_value arguments.now }
+{
+    arguments
+        .iter()
+        .any(|word| has_empty_value(word.as_bytes()))
+}
+
+#[tactic(auto, unfolding(crate::specs::Words::breaks_options))]
+fn breaks_options(options: &[OptionName], arguments: &[Text]) -> bool
+    ensures { result ≡ breaks_options options.now arguments.now }
+{
+    has_unknown(options, arguments)
+        || has_one_twice(options, arguments)
+        || has_one_wrong(options, arguments)
+}
+
+fn has_unknown(options: &[OptionName], arguments: &[Text]) -> bool
+    ensures { result ≡ list_any (is_unknown options.now) arguments.now }
+{
+    arguments
+        .iter()
+        .any(|word| is_unknown(options, word.as_bytes()))
+}
+
+fn has_one_twice(options: &[OptionName], arguments: &[Text]) -> bool
+    ensures { result ≡ list_any (λ option. nat_lt 1 (length (values option arguments.now))) options.now }
+{
+    options
+        .iter()
+        .any(|option| is_given_twice(*option, arguments))
+}
+
+fn has_one_wrong(options: &[OptionName], arguments: &[Text]) -> bool
+    ensures { result ≡ list_any (λ option. not (list_all (is_value option) (values option arguments.now))) options.now }
+{
+    options
+        .iter()
+        .any(|option| has_wrong_value(*option, arguments))
+}
+
+#[tactic(auto, unfolding(crate::specs::Words::breaks_options))]
+fn lanes(arguments: &[Text]) -> u32
+    requires { breaks_options run_options arguments.now ≡ false }
+    ensures { result ≡ setting_of Lanes (values Lanes arguments.now) }
+{
+    setting(OptionName::Lanes, arguments)
+}
+
+#[cfg(test)]
+mod tests {
+    use super::*;
+    use std::process::Abort;
+    use std::test::Fail;
+
+    /// The command of a line whose words are what stands between single blanks.
+    fn command_of_line(alloc: Global, line: &str) -> Result<Command, WordFault> {
+        let mut words = Vec::new(alloc);
+        for word in line.split(' ') {
+            let Ok(word) = Text::new(alloc, word.as_bytes()) else {
+                return Err(WordFault::NoMemory);
+            };
+            let Ok(()) = words.push(word) else {
+                return Err(WordFault::NoMemory);
+            };
+        }
+        command(alloc, &words)
+    }
+
+    fn check_run(rt: &impl Abort, alloc: Global, line: &str, lanes: u32) {
+        match command_of_line(alloc, line) {
+            Ok(
+                Command::Run {
+                    source,
+                    lanes: found,
+                },
+            ) => {
+                assert_eq!(rt; source.as_str(), "a.mos", "{line}");
+                assert_eq!(rt; found, lanes, "{line}");
+            }
+            Err(_) => assert!(rt; false, "{line}"),
+        }
+    }
+
+    #[test]
+    fn commands(rt: HostRuntime) {
+        for (line, lanes) in [
+            ("mosel run a.mos", 16),
+            ("--x run a.mos", 16),
+            (" run a.mos", 16),
+            ("mosel run a.mos --lanes 1", 1),
+            ("mosel run --lanes 64 a.mos", 64),
+            ("mosel run --lanes=7 a.mos", 7),
+            ("mosel run a.mos --lanes=0000000064", 64),
+            ("mosel run a.mos --lanes 01", 1),
+        ] {
+            check_run(&rt, rt.alloc(), line, lanes);
+        }
+    }
+
+    #[test]
+    fn usages(rt: HostRuntime) {
+        for line in [
+            "",
+            "mosel",
+            "mosel run",
+            "mosel check a.mos",
+            "mosel Run a.mos",
+            "mosel run b.mos.x",
+            "mosel run a.bim",
+            "mosel run .mos",
+            "mosel run a.mos b.mos",
+            "mosel run a.mos a.mos",
+            "mosel run a.mos ",
+            "mosel run  a.mos",
+            "mosel run - a.mos",
+            "mosel run -- a.mos",
+            "mosel run -l a.mos",
+            "mosel run ../a.mos",
+            "mosel run a.mos --lanes",
+            "mosel run a.mos --lanes=",
+            "mosel run --lanes --lanes a.mos",
+            "mosel run a.mos --lanes -1",
+            "mosel run a.mos --lanes 0",
+            "mosel run a.mos --lanes 65",
+            "mosel run a.mos --lanes=00000000016",
+            "mosel run a.mos --lanes=4294967297",
+            "mosel run a.mos --lanes=+1",
+            "mosel run a.mos --lanes=1x",
+            "mosel run a.mos --lanes==1",
+            "mosel run a.mos --lanes 1 --lanes 1",
+            "mosel run a.mos --lanes=1 --lanes=1",
+            "mosel run a.mos --lane 1",
+            "mosel run a.mos --lanesx=1",
+            "mosel run a.mos --help",
+            "mosel run a.mos --budget 5",
+            "mosel run a.mos --=1",
+        ] {
+            let answer = command_of_line(rt.alloc(), line);
+            assert!(rt; matches!(answer, Err(WordFault::Usage)), "{line}");
+        }
+    }
+}

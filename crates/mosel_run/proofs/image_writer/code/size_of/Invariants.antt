@@ -1,7 +1,0 @@
-use Rattle.std.proofs.Common.{◌≡◌, ◌≤◌, ◌+◌, ◌*◌, drop}
-use Rattle.bim_code.specs.Code.{code_size}
-use Rattle.mosel_run.proofs.image_writer.code.size_of.Given as goal
-
-abbrev pub invariant-loop-instruction : goal.invariant-loop-instruction
-invariant-loop-instruction l =
-    (l.size + code_size (drop l.instruction-index l.code) ≡ code_size l.code) × (l.size ≤ 5 * l.instruction-index)

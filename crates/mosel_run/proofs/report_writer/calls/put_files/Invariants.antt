@@ -1,8 +1,0 @@
-use Rattle.std.proofs.Common.{◌≡◌, ◌++◌, drop, flat_map}
-use Rattle.job_calls.specs.CallText.{file_text}
-use Rattle.mosel_run.proofs.report_writer.calls.put_files.Given as goal
-
-abbrev pub invariant-loop-file : goal.invariant-loop-file
-invariant-loop-file l =
-    l.out.items ++ flat_map file_text (drop l.file-index l.files)
-    ≡ l.initial.out.items ++ flat_map file_text l.files

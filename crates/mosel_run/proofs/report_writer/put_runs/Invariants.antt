@@ -1,7 +1,0 @@
-use Rattle.std.proofs.Common.{◌≡◌, ◌++◌, drop}
-use Rattle.job_calls.specs.ReportText.{run_lines}
-use Rattle.mosel_run.proofs.report_writer.put_runs.Given as goal
-
-abbrev pub invariant-loop-number : goal.invariant-loop-number
-invariant-loop-number l =
-    l.out.items ++ run_lines l.number (drop l.number l.runs) ≡ l.initial.out.items ++ run_lines 0 l.runs

@@ -1,0 +1,134 @@
+use Rattle.std.specs.Prelude.{◌≡◌, ℕ, ◌+◌, ◌-◌, ◌==◌, nat_lt, nat_le, Bool, not, ◌&&◌, ◌||◌, if◌then◌else◌, Option, Some, None, is_some, option_and_then, Result, Ok, Err, List, [], ◌∷◌, ◌++◌, length, take, drop, codes, slice_index, slice_index_or}
+use Rattle.std.specs.List.{list_all, position_or_len, before_first, after_first}
+use Rattle.std.specs.Str.{bytes_eq, is_utf8}
+use Rattle.mos_tree.specs.declared.expr.Expr.TheVariants as expr
+use Rattle.mos_tree.specs.declared.statement.Statement.{Statement}
+use Rattle.mos_tree.specs.declared.statement.Statement.TheVariants as statement
+use Rattle.mos_tree.specs.declared.source.Top.{Top}
+use Rattle.mos_tree.specs.declared.source.Top.TheVariants as top
+use Rattle.mos_tree.specs.declared.source.Tree.{Tree}
+use Rattle.mos_text.specs.declared.kind.Kind.TheVariants.{Syntax}
+use Rattle.mosel_run.specs.declared.reader.fault.ReadFault.{ReadFault}
+use Rattle.mosel_run.specs.declared.reader.fault.ReadFault.TheVariants.{At, NoMemory}
+use Rattle.mosel_run.specs.declared.reader.body.Step.{Step}
+use Rattle.mosel_run.specs.declared.reader.body.Step.TheVariants.{Goes, Ends, Wrong}
+use Rattle.mosel_run.specs.FirstForm.{Bytes, lines_of, skip_blanks, tree_of}
+
+-- The reading of the first form as functions. `IsSource` and `IsFaultyLine` say what the form is; that
+-- these functions find just that is proved of `read_source`.
+
+-- the bytes behind a token and the blanks that follow it
+unfoldable pub after_token : Bytes → Bytes → Option Bytes
+after_token token bytes = if bytes_eq (take (length token) bytes) token then Some (skip_blanks (drop (length token) bytes)) else None
+
+abbrev pub is_quote : ℕ → Bool
+is_quote byte = byte == 34
+
+-- what may stand in a string, apart from `"`
+unfoldable pub is_string : Bytes → Bool
+is_string text = list_all (λ byte. not (byte == 92)) text && is_utf8 text
+
+-- what stands before the first quote, and what stands behind it and its blanks
+unfoldable pub closed_in : Bytes → Option (Bytes × Bytes)
+closed_in inside =
+    if nat_lt (position_or_len is_quote inside) (length inside)
+    then Some (before_first is_quote inside, skip_blanks (after_first is_quote inside))
+    else None
+
+-- what stands between two quotes at the front, and what stands behind them
+unfoldable pub quoted_in : Bytes → Option (Bytes × Bytes)
+quoted_in bytes = if slice_index bytes 0 == 34 then closed_in (drop 1 bytes) else None
+
+-- a value, where nothing is left behind it
+abbrev pub at_end : Bytes → Bytes → Option Bytes
+at_end text rest = if length rest == 0 then Some text else None
+
+abbrev pub after_text : Bytes × Bytes → Option Bytes
+after_text found = option_and_then (at_end found.0) (after_token (codes ")") found.1)
+
+abbrev pub after_open : Bytes → Option Bytes
+after_open bytes = option_and_then after_text (quoted_in bytes)
+
+abbrev pub after_writeln : Bytes → Option Bytes
+after_writeln bytes = option_and_then after_open (after_token (codes "(") bytes)
+
+-- the text of `writeln("text")`
+unfoldable pub writeln_in : Bytes → Option Bytes
+writeln_in line = option_and_then after_writeln (after_token (codes "writeln") (skip_blanks line))
+
+abbrev pub after_name : Bytes × Bytes → Option Bytes
+after_name found = at_end found.0 found.1
+
+abbrev pub after_model : Bytes → Option Bytes
+after_model bytes = option_and_then after_name (quoted_in bytes)
+
+-- the name of `model "name"`
+unfoldable pub opening_in : Bytes → Option Bytes
+opening_in line = option_and_then after_model (after_token (codes "model") (skip_blanks line))
+
+unfoldable pub is_end : Bytes → Bool
+is_end line = is_some (after_token (codes "end-model") (skip_blanks line))
+
+unfoldable pub is_blank_line : Bytes → Bool
+is_blank_line line = length (skip_blanks line) == 0
+
+-- a string's text, if it may stand in one
+abbrev pub string_in : Bytes → Option Bytes
+string_in text = if is_string text then Some text else None
+
+-- the name of the model in its first line
+unfoldable pub name_in : Bytes → Option Bytes
+name_in line = option_and_then string_in (opening_in line)
+
+-- the statement that prints this text, if it is a string of at most 1,000,000 bytes
+abbrev pub writeln_of : ℕ → Bytes → Option Statement
+writeln_of number text = if nat_le (length text) 1000000 && is_string text then Some (statement.Call number (codes "writeln") (expr.Text text ∷ [])) else None
+
+-- the statement of a line
+unfoldable pub statement_in : ℕ → Bytes → Option Statement
+statement_in number line = option_and_then (writeln_of number) (writeln_in line)
+
+-- what a line does to the lines behind it
+unfoldable pub step_of : ℕ → Bytes → Step
+step_of number line = if is_end line then Ends else (if is_blank_line line || is_some (statement_in number line) then Goes else Wrong)
+
+abbrev pub top_of : Option Statement → List Top
+top_of None = []
+top_of (Some said) = top.Statement said ∷ []
+
+-- what a line adds to the tree
+unfoldable pub tops_of : ℕ → Bytes → List Top
+tops_of number line = if is_end line || is_blank_line line then [] else top_of (statement_in number line)
+
+abbrev pub onto : List Top → Result (List Top) ℕ → Result (List Top) ℕ
+onto tops (Ok more) = Ok (tops ++ more)
+onto tops (Err line) = Err line
+
+abbrev pub next : Step → ℕ → List Top → Result (List Top) ℕ → Result (List Top) ℕ
+next Goes number tops more = onto tops more
+next Ends number tops more = Ok tops
+next Wrong number tops more = Err number
+
+-- the statements of the lines from this number on, or the faulty line
+abbrev pub body_in : ℕ → List Bytes → Result (List Top) ℕ
+body_in number [] = Err (number - 1)
+body_in number (line ∷ lines) = next (step_of number line) number (tops_of number line) (body_in (number + 1) lines)
+
+abbrev pub named : Option Bytes → Result (List Top) ℕ → Result Tree ℕ
+named None body = Err 1
+named (Some name) (Ok tops) = Ok (tree_of name tops)
+named (Some name) (Err line) = Err line
+
+abbrev pub reading_of_lines : List Bytes → Result Tree ℕ
+reading_of_lines [] = Err 1
+reading_of_lines (line ∷ lines) = named (name_in line) (body_in 2 lines)
+
+-- the tree of a source, or its faulty line
+unfoldable pub reading_of : Bytes → Result Tree ℕ
+reading_of source = reading_of_lines (lines_of source)
+
+-- an answer of the reader that is this reading, or want of memory
+abbrev pub Reads : {T : Type 0} → Result T ℕ → Result T ReadFault → Type 0
+Reads reading (Ok read) = reading ≡ Ok read
+Reads reading (Err (At line kind)) = (reading ≡ Err line) × (kind ≡ Syntax)
+Reads reading (Err NoMemory) = Unit {0}

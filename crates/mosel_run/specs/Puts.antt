@@ -1,0 +1,79 @@
+-- The files that a journal puts, in order: the master's image first, then each name in order of the
+-- first entry that makes it, with what the last such entry gives it.
+
+use Rattle.std.specs.Prelude.{ℕ, ◌-◌, ◌++◌, Bool, List, [], ◌∷◌, Option, Some, None, nat_eq, length, take, codes, map, unwrap_or, if◌then◌else◌, slice_get}
+use Rattle.std.specs.List.{list_any, filter_map, starts_with}
+use Rattle.std.specs.Str.{bytes_eq}
+use Rattle.mos_text.specs.Content.{Files, put_file}
+use Rattle.job_calls.specs.declared.call.Call.{Call}
+use Rattle.job_calls.specs.declared.call.Call.TheVariants.{Compile, Write}
+use Rattle.job_calls.specs.declared.reply.Reply.{Reply}
+use Rattle.job_calls.specs.declared.reply.Reply.TheVariants.{Code, Unit as Acknowledged}
+use Rattle.job_calls.specs.declared.entry.Entry.{Entry}
+use Rattle.job_calls.specs.declared.entry.Listed.{Listed}
+use Rattle.job_calls.specs.Runs.{Opening, opening, last_given}
+use Rattle.bim_code.specs.declared.image.Image.{Image}
+use Rattle.bim_code.specs.Tables.{image_bytes}
+use Rattle.mos_meaning.specs.Follows.{Model}
+
+-- a name with the bytes that it is given
+pub record Put : Type 0 where
+  pub name : List ℕ
+  pub bytes : List ℕ
+
+-- the name of a source's image: `.bim` in place of `.mos`
+abbrev pub image_name : List ℕ → List ℕ
+image_name source = take (length source - 4) source ++ codes ".bim"
+
+abbrev pub image_of_model : Option (Option Model) → List ℕ
+image_of_model (Some (Some model)) = image_bytes model.image
+image_of_model _ = []
+
+-- the models by the names of their files
+abbrev pub bytes_of_source : List Listed → List (Option Model) → List ℕ → List ℕ
+bytes_of_source [] models name = []
+bytes_of_source (file ∷ files) [] name = []
+bytes_of_source (file ∷ files) (model ∷ models) name =
+    if bytes_eq file.name name then image_of_model (Some model) else bytes_of_source files models name
+
+-- a block of memory is no file
+abbrev pub plain_write : List ℕ → List ℕ → Option Put
+plain_write name bytes = if starts_with nat_eq name (codes "shmem:") then None else Some record { name = name; bytes = bytes }
+
+-- what an entry puts
+abbrev pub put_of : List Listed → List (Option Model) → Call → Reply → Option Put
+put_of files models (Compile src dst) (Code code) =
+    if nat_eq code 0 then Some record { name = dst; bytes = bytes_of_source files models src } else None
+put_of files models (Write name bytes) Acknowledged = plain_write name bytes
+put_of files models call reply = None
+
+-- what a list of puts gives a name last
+abbrev pub named : List ℕ → Put → Option (List ℕ)
+named name put = if bytes_eq put.name name then Some put.bytes else None
+
+abbrev pub bytes_of : List Put → List ℕ → List ℕ
+bytes_of puts name = unwrap_or (last_given (named name) puts) []
+
+-- each name once, in order of its first put
+abbrev pub with_put : List (List ℕ) → Put → List (List ℕ)
+with_put names put = if list_any (bytes_eq put.name) names then names else names ++ put.name ∷ []
+
+abbrev pub names_of : List (List ℕ) → List Put → List (List ℕ)
+names_of names [] = names
+names_of names (put ∷ puts) = names_of (with_put names put) puts
+
+abbrev pub last_puts : List Put → List Put
+last_puts puts = map (λ name. record { name = name; bytes = bytes_of puts name }) (names_of [] puts)
+
+abbrev pub master_put : List Listed → List (Option Model) → List Put
+master_put [] models = []
+master_put (file ∷ files) models = record { name = image_name file.name; bytes = image_of_model (slice_get models 0) } ∷ []
+
+abbrev pub puts_of : Opening → List Entry → List (Option Model) → List Put
+puts_of o journal models =
+    master_put o.files models ++ last_puts (filter_map (λ e. put_of o.files models e.call e.reply) journal)
+
+-- the folder's content after these puts, one after the other
+abbrev pub put_all : Option Files → List Put → Option Files
+put_all content [] = content
+put_all content (put ∷ puts) = put_all (put_file content put.name put.bytes) puts
