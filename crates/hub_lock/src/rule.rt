@@ -1,5 +1,4 @@
 //! What a seat knows, the rule that every step keeps, and the kinds of step.
-ghost use Rattle.std.specs.Prelude.{◌≡◌, ℕ, List};
 
 use crate::story::Story;
 use atomic_table::{Join, Play, Split, TableRule};
