@@ -1,0 +1,7 @@
+use Rattle.std.proofs.Common.{◌≡◌}
+use Rattle.hub_lock.proofs.Waiting.{HasWaited}
+use Rattle.hub_lock.proofs.keep.Keep.act_when_ready.Given as goal
+
+-- the same call is to be made, and the seat has seen other lanes' entries alone since
+abbrev pub invariant-loop : goal.invariant-loop
+invariant-loop g l = (l.call ≡ l.fn.call) × HasWaited l.fn.seat l.seat

@@ -1,0 +1,96 @@
+//! What a seat knows, the rule that every step keeps, and the kinds of step.
+
+use crate::story::Story;
+use atomic_table::{Join, Play, Split, TableRule};
+use std::collections::LinkedList;
+use std::marker::PhantomData;
+use std::snapshot::Snapshot;
+
+/// How far a seat is in a call. A ticket counts from 0 without end; the words of the lock have it modulo 2^64.
+pub enum Stage {
+    Idle,
+    Waits(u64),
+    Holds(u64),
+    Spent,
+}
+
+/// What a seat knows. No value of it is made.
+pub struct View<E> {
+    pub lane: u64,
+    pub seen: LinkedList<E>,
+    pub stage: Stage,
+    pub turns: u64,
+    // Of lane 0's seat: the number of seats made.
+    pub made: u64,
+    // Of lane 0's seat: what the seats of lanes 1, 2 and so on had seen when they were joined.
+    pub joined: LinkedList<LinkedList<E>>,
+}
+
+/// The lock's rule, for the story `S`.
+pub struct Rule<S> {
+    story: PhantomData<S>,
+}
+
+impl<S: Story> TableRule<Option<S>, View<S::Entry>, Snapshot<S>> for Rule<S> {
+    ghost use Rattle.hub_lock.specs.Rule.{HasJournal, starting};
+
+    ghost holds = { λ _. HasJournal S.list S.lane_of S.sound };
+
+    ghost first = { λ about. starting (S.list about.value) };
+}
+
+pub struct Draw;
+
+impl<S, E> Play<Option<S>, View<E>> for Draw {
+    ghost use Rattle.hub_lock.specs.Steps.{drew};
+
+    ghost then = { drew };
+}
+
+pub struct Look<S> {
+    story: PhantomData<S>,
+}
+
+impl<S: Story> Play<Option<S>, View<S::Entry>> for Look<S> {
+    ghost use Rattle.hub_lock.specs.Steps.{looked};
+
+    ghost then = { looked S.list S.lane_of S.sound };
+}
+
+pub struct Count<S> {
+    story: PhantomData<S>,
+}
+
+impl<S: Story> Play<Option<S>, View<S::Entry>> for Count<S> {
+    ghost use Rattle.hub_lock.specs.Steps.{counted};
+
+    ghost then = { counted S.list S.lane_of S.sound };
+}
+
+pub struct Pass;
+
+impl<S, E> Play<Option<S>, View<E>> for Pass {
+    ghost use Rattle.hub_lock.specs.Steps.{passed};
+
+    ghost then = { passed };
+}
+
+pub struct Deal;
+
+impl<E> Split<View<E>> for Deal {
+    ghost use Rattle.hub_lock.specs.Steps.{dealt, fresh};
+
+    ghost left = { dealt };
+
+    ghost right = { fresh };
+}
+
+pub struct Merge;
+
+impl<E> Join<View<E>> for Merge {
+    ghost use Rattle.hub_lock.specs.Steps.{both, spent};
+
+    ghost both = { both };
+
+    ghost spent = { spent };
+}
