@@ -19,3 +19,4 @@ pub mod Outputs
 pub mod Answered
 pub mod Preparing
 pub mod Storing
+pub mod Examples

@@ -4,6 +4,7 @@
 
 mod arithmetic;
 mod compiler;
+mod examples;
 mod halt;
 mod jobs;
 mod machine;
@@ -14,5 +15,7 @@ mod schedule;
 mod status;
 mod top;
 
+pub use examples::{hello_job, refused_jobs};
+pub use reader::first_form_laws;
 pub use status::Status;
 pub use top::tool;
