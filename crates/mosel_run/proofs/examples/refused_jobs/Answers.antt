@@ -33,6 +33,6 @@ returns-clause-too_few_replies c = λ h. h
 pub returns-clause-holds_what_is_put : goal.returns-clause-holds_what_is_put
 returns-clause-holds_what_is_put c = λ files after put h.
     let same : eq_by_cmp (slice_cmp nat_cmp) put.name put.name ≡ true =
-        is_eq-slice_cmp put.name put.name ∙ (bytes_eq-Decides put.name put.name).1 refl in
+    is_eq-slice_cmp put.name put.name ∙ (bytes_eq-Decides put.name put.name).1 refl in
     ap (λ content. known_of content put.name) h
     ∙ ap known_by (get-insert nat_list_cmp_total files put.name (Some put.bytes) put.name ∙ ap (λ b. cond b (Some (Some put.bytes)) (get files put.name)) same)
