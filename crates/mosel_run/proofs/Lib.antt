@@ -17,3 +17,4 @@ pub mod FirstModels
 pub mod Whole
 pub mod WholeJobs
 pub mod Answering
+pub mod Exactness

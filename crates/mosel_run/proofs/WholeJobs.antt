@@ -18,6 +18,7 @@ use Rattle.job_calls.specs.Replies.{AllFit}
 use Rattle.job_calls.specs.Legal.{CanOpen, IsSourceName}
 use Rattle.bim_code.specs.declared.image.Image.{Image}
 use Rattle.bim_code.specs.Tables.{image_bytes}
+use Rattle.bim_code.specs.Limits.{FitsFields}
 use Rattle.mos_meaning.specs.State.{Stop, Stuck, Outcome}
 use Rattle.mos_meaning.specs.Syntax.{Block, statements_of}
 use Rattle.mos_meaning.specs.Meaning.{meaning_of}
@@ -123,12 +124,13 @@ pub is_job : (name source : List ℕ) (lanes : ℕ) (tree : Tree) (image : Image
     → IsSource source tree → IsFit (RunCommand name lanes)
     → image ≡ image_of (statements_of tree) → IsCourse image usual_budget ran → end_of (stop_of ran.halt) ≡ Some end
     → IsJob (opening_on name source lanes) source tree image (schedule_of (opening_on name source lanes) end) (line_of name end ran ∷ [])
-is_job name source lanes tree image ran end form fit is course ends =
+is_job name source lanes tree image ran end form fit is fields course ends =
     let h = first_model source tree form in
     record {
       accepted = form;
       means = λ params replies budget. ap (λ (i : Image). (course_of i params replies budget).outcome) is
           ∙ course_is_meaning (statements_of tree) params replies budget h.built;
+      fields = fields;
       whole = is_whole (opening_on name source lanes) end (can_open name source lanes fit);
       follows = follows_sources name source lanes tree image ran end is h.built course ends;
     }

@@ -20,3 +20,4 @@ pub mod Answered
 pub mod Preparing
 pub mod Storing
 pub mod Examples
+pub mod Exact

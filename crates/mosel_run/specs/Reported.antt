@@ -18,6 +18,7 @@ use Rattle.job_calls.specs.Runs.{Opening, opening, finish_of}
 use Rattle.job_calls.specs.Legal.{IsLegal}
 use Rattle.job_calls.specs.ReportText.{report_text}
 use Rattle.bim_code.specs.declared.image.Image.{Image}
+use Rattle.bim_code.specs.Limits.{FitsFields}
 use Rattle.mos_meaning.specs.Syntax.{statements_of}
 use Rattle.mos_meaning.specs.Follows.{Model, FollowsSources}
 use Rattle.mosel_run.specs.FirstForm.{IsSource}
@@ -47,6 +48,7 @@ model_of tree image = Some record { statements = statements_of tree; image = ima
 pub record IsJob (o : Opening) (source : List ℕ) (tree : Tree) (image : Image) (journal : List Entry) (lines : List RunLine) : Type 0 where
   pub accepted : IsSource source tree
   pub means : Means (statements_of tree) image
+  pub fields : FitsFields image    -- its file can hold it
   pub whole : IsWhole o journal
   pub follows : FollowsSources journal lines (model_of tree image ∷ [])
 

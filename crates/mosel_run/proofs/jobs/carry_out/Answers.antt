@@ -28,11 +28,17 @@ end_by-end-requires c =
     not_stuck (statements_of c.args.tree.now) c.in_ok-image.image c.in_ok-ran.ran _ c.in_ok-image.ensures.image
     (first_model c.args.source.now c.args.tree.now c.requires.form) c.in_ok-ran.ensures.course
 
+pub returns-clause-fields : goal.returns-clause-fields
+returns-clause-fields c =
+    let h = first_model c.args.source.now c.args.tree.now c.requires.form in
+    subst FitsFields (sym c.in_ok-image.ensures.image)
+    (fits_fields (statements_of c.args.tree.now) (let s = h.size in omega (arith, c.requires.small)) h.short)
+
 pub returns-clause-job : goal.returns-clause-job
 returns-clause-job c =
     rw (c.in_ok-journal.ensures, c.in_ok-lines.ensures)
     (is_job c.args.name.now c.args.source.now c.args.lanes c.args.tree.now c.in_ok-image.image c.in_ok-ran.ran c.end_by-end.result
-    c.requires.form c.requires.fit c.in_ok-image.ensures.image c.in_ok-ran.ensures.course c.end_by-end.ensures.end)
+    c.requires.form c.requires.fit c.in_ok-image.ensures.image (returns-clause-fields c) c.in_ok-ran.ensures.course c.end_by-end.ensures.end)
 
 pub returns-clause-puts : goal.returns-clause-puts
 returns-clause-puts c =
@@ -42,9 +48,3 @@ returns-clause-puts c =
 pub returns-clause-finish : goal.returns-clause-finish
 returns-clause-finish c =
     ap (finish_of 0) c.in_ok-journal.ensures ∙ finish_is (opening_on c.args.name.now c.args.source.now c.args.lanes) c.end_by-end.result
-
-pub returns-clause-fields : goal.returns-clause-fields
-returns-clause-fields c =
-    let h = first_model c.args.source.now c.args.tree.now c.requires.form in
-    subst FitsFields (sym c.in_ok-image.ensures.image)
-    (fits_fields (statements_of c.args.tree.now) (let s = h.size in omega (arith, c.requires.small)) h.short)

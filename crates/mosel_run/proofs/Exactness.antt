@@ -1,0 +1,157 @@
+-- Each status comes in its own way alone, so that the words and the file tell it.
+
+use Rattle.std.proofs.Common.{◌≡◌, ◌≤◌, ◌<◌, ℕ, List, [], Option, Some, None, length, refl, sym, ap, ◌∙◌, subst, inl, inr, Ok, Err, arith}
+use Rattle.mos_text.specs.Content.{Files, Known, Unknown, Absent, Holds, known_of}
+use Rattle.mos_text.specs.Gets.{Answers}
+use Rattle.mos_text.specs.declared.folder.Got.{Got}
+use Rattle.mos_text.specs.declared.folder.Got.TheVariants.{Bytes, Missing as NotThere, TooLarge as TooLong}
+use Rattle.mos_text.specs.declared.kind.Kind.TheVariants.{Syntax}
+use Rattle.mos_tree.specs.declared.source.Tree.{Tree}
+use Rattle.mos_words.specs.Words.{command_of}
+use Rattle.mos_words.specs.declared.words.commands.Command.{Command}
+use Rattle.mos_words.specs.declared.words.commands.Command.TheVariants.{Run}
+use Rattle.mosel_run.specs.declared.status.Status.{Status}
+use Rattle.mosel_run.specs.declared.status.Status.TheVariants.{Done, Usage, Refused, Missing, TooLarge, FolderFault, SinkFault, StartRefused, MasterFailed, MasterSpent, Stalled, BadInput, NoMemory, RunNoMemory}
+use Rattle.mosel_run.specs.Answered.{Disk, Paper, Runs, source_limit, Answered}
+use Rattle.mosel_run.specs.Exact.{Hides, IsReported, Only, ExactUsage, ExactMissing, ExactTooLarge, ExactRefused, ExactReport}
+use Rattle.mosel_run.specs.FirstForm.{IsSource, IsFaultyLine}
+use Rattle.mosel_run.proofs.SourceForms.{reading-is, reading-fault}
+
+one_line : (source : List ℕ) (first second : ℕ) → IsFaultyLine source first → IsFaultyLine source second → first ≡ second
+one_line source first second h k =
+    let both : Err first ≡ Err second = sym (reading-fault source first h) ∙ reading-fault source second k in cc
+
+never_both : (source : List ℕ) (tree : Tree) (line : ℕ) → IsSource source tree → IsFaultyLine source line → ⊥
+never_both source tree line h k =
+    let both : Ok tree ≡ Err line = sym (reading-is source tree h) ∙ reading-fault source line k in cc
+
+no_run : (words : List (List ℕ)) (name : List ℕ) (lanes : ℕ) → Runs words name lanes → command_of words ≡ None → ⊥
+no_run words name lanes runs none = let e : Some (Run name lanes) ≡ None = sym runs ∙ none in cc
+
+one_name : (words : List (List ℕ)) (name other : List ℕ) (lanes others : ℕ) → Runs words name lanes → Runs words other others → other ≡ name
+one_name words name other lanes others runs again =
+    let e : Some (Run other others) ≡ Some (Run name lanes) = sym again ∙ runs in cc
+
+-- what the folder may answer at the one name that the words run
+at_name : (words : List (List ℕ)) (content : Option Files) (name other : List ℕ) (lanes others : ℕ) (known : Known) (got : Got)
+  → Runs words name lanes → Runs words other others → known_of content name ≡ known
+  → Answers (known_of content other) source_limit got → Answers known source_limit got
+at_name words content name other lanes others known got runs again is h =
+    subst (λ (k : Known). Answers k source_limit got) is
+      (subst (λ (n : List ℕ). Answers (known_of content n) source_limit got) (one_name words name other lanes others runs again) h)
+
+pub exact_usage : (words : List (List ℕ)) (before after : Disk) (paper paper_after : Paper) (status : Status)
+  → Answered words before after paper paper_after status → ExactUsage words status
+exact_usage words before after paper paper_after Done h none = absurd (no_run words h.name h.lanes h.runs none)
+exact_usage words before after paper paper_after MasterFailed h none = absurd (no_run words h.name h.lanes h.runs none)
+exact_usage words before after paper paper_after MasterSpent h none = absurd (no_run words h.name h.lanes h.runs none)
+exact_usage words before after paper paper_after Usage h none = inl refl
+exact_usage words before after paper paper_after (Refused line kind) h none = absurd (no_run words h.line.name h.line.lanes h.line.runs none)
+exact_usage words before after paper paper_after (Missing name) h none = absurd (no_run words name h.line.0.lanes h.line.0.runs none)
+exact_usage words before after paper paper_after (TooLarge name) h none = absurd (no_run words name h.line.0.lanes h.line.0.runs none)
+exact_usage words before after paper paper_after (FolderFault name) h none = inr tt
+exact_usage words before after paper paper_after SinkFault h none = inr tt
+exact_usage words before after paper paper_after NoMemory h none = inr tt
+exact_usage words before after paper paper_after status h none = absurd h.line
+
+pub exact_missing : (words : List (List ℕ)) (before after : Disk) (paper paper_after : Paper) (status : Status)
+  → Answered words before after paper paper_after status → ExactMissing words before.content status
+exact_missing words before after paper paper_after Done h name lanes runs absent =
+    absurd (at_name words before.content name h.name lanes h.lanes Absent (Bytes h.reported.source) runs h.runs absent h.reported.source_is)
+exact_missing words before after paper paper_after MasterFailed h name lanes runs absent =
+    absurd (at_name words before.content name h.name lanes h.lanes Absent (Bytes h.reported.source) runs h.runs absent h.reported.source_is)
+exact_missing words before after paper paper_after MasterSpent h name lanes runs absent =
+    absurd (at_name words before.content name h.name lanes h.lanes Absent (Bytes h.reported.source) runs h.runs absent h.reported.source_is)
+exact_missing words before after paper paper_after Usage h name lanes runs absent = absurd (no_run words name lanes runs h.line.0)
+exact_missing words before after paper paper_after (Refused line kind) h name lanes runs absent =
+    absurd (at_name words before.content name h.line.name lanes h.line.lanes Absent (Bytes h.line.source) runs h.line.runs absent h.line.source_is)
+exact_missing words before after paper paper_after (Missing other) h name lanes runs absent =
+    inl (ap Missing (one_name words name other lanes h.line.0.lanes runs h.line.0.runs))
+exact_missing words before after paper paper_after (TooLarge other) h name lanes runs absent =
+    absurd (at_name words before.content name other lanes h.line.0.lanes Absent TooLong runs h.line.0.runs absent h.line.1)
+exact_missing words before after paper paper_after (FolderFault other) h name lanes runs absent = inr tt
+exact_missing words before after paper paper_after SinkFault h name lanes runs absent = inr tt
+exact_missing words before after paper paper_after NoMemory h name lanes runs absent = inr tt
+exact_missing words before after paper paper_after status h name lanes runs absent = absurd h.line
+
+-- bytes above the limit are not given
+not_given : (bytes source : List ℕ) → source_limit < length bytes → Answers (Holds bytes) source_limit (Bytes source) → ⊥
+not_given bytes source long h = let few = h.1 in absurd (omega arith)
+
+pub exact_too_large : (words : List (List ℕ)) (before after : Disk) (paper paper_after : Paper) (status : Status)
+  → Answered words before after paper paper_after status → ExactTooLarge words before.content status
+exact_too_large words before after paper paper_after Done h name lanes bytes runs is long =
+    absurd (not_given bytes h.reported.source long (at_name words before.content name h.name lanes h.lanes (Holds bytes) (Bytes h.reported.source) runs h.runs is h.reported.source_is))
+exact_too_large words before after paper paper_after MasterFailed h name lanes bytes runs is long =
+    absurd (not_given bytes h.reported.source long (at_name words before.content name h.name lanes h.lanes (Holds bytes) (Bytes h.reported.source) runs h.runs is h.reported.source_is))
+exact_too_large words before after paper paper_after MasterSpent h name lanes bytes runs is long =
+    absurd (not_given bytes h.reported.source long (at_name words before.content name h.name lanes h.lanes (Holds bytes) (Bytes h.reported.source) runs h.runs is h.reported.source_is))
+exact_too_large words before after paper paper_after Usage h name lanes bytes runs is long = absurd (no_run words name lanes runs h.line.0)
+exact_too_large words before after paper paper_after (Refused line kind) h name lanes bytes runs is long =
+    absurd (not_given bytes h.line.source long (at_name words before.content name h.line.name lanes h.line.lanes (Holds bytes) (Bytes h.line.source) runs h.line.runs is h.line.source_is))
+exact_too_large words before after paper paper_after (Missing other) h name lanes bytes runs is long =
+    absurd (at_name words before.content name other lanes h.line.0.lanes (Holds bytes) NotThere runs h.line.0.runs is h.line.1)
+exact_too_large words before after paper paper_after (TooLarge other) h name lanes bytes runs is long =
+    inl (ap TooLarge (one_name words name other lanes h.line.0.lanes runs h.line.0.runs))
+exact_too_large words before after paper paper_after (FolderFault other) h name lanes bytes runs is long = inr tt
+exact_too_large words before after paper paper_after SinkFault h name lanes bytes runs is long = inr tt
+exact_too_large words before after paper paper_after NoMemory h name lanes bytes runs is long = inr tt
+exact_too_large words before after paper paper_after status h name lanes bytes runs is long = absurd h.line
+
+-- the source that was read is the one that the folder holds
+same_source : (words : List (List ℕ)) (content : Option Files) (name other : List ℕ) (lanes others : ℕ) (source read : List ℕ)
+  → Runs words name lanes → Runs words other others → known_of content name ≡ Holds source
+  → Answers (known_of content other) source_limit (Bytes read) → read ≡ source
+same_source words content name other lanes others source read runs again is h =
+    (at_name words content name other lanes others (Holds source) (Bytes read) runs again is h).0
+
+-- a source with a faulty line is not reported
+no_report : (words : List (List ℕ)) (content : Option Files) (name other : List ℕ) (lanes others : ℕ) (source read : List ℕ) (line : ℕ) (tree : Tree)
+  → Runs words name lanes → Runs words other others → known_of content name ≡ Holds source
+  → Answers (known_of content other) source_limit (Bytes read) → IsFaultyLine source line → IsSource read tree → ⊥
+no_report words content name other lanes others source read line tree runs again is h faulty form =
+    never_both source tree line (subst (λ (s : List ℕ). IsSource s tree) (same_source words content name other lanes others source read runs again is h) form) faulty
+
+-- a file that is in size is not too long
+in_size : (bytes : List ℕ) → length bytes ≤ source_limit → Answers (Holds bytes) source_limit TooLong → ⊥
+in_size bytes few long = absurd (omega arith)
+
+pub exact_refused : (words : List (List ℕ)) (before after : Disk) (paper paper_after : Paper) (status : Status)
+  → Answered words before after paper paper_after status → ExactRefused words before.content status
+exact_refused words before after paper paper_after Done h name lanes source line runs is few faulty =
+    absurd (no_report words before.content name h.name lanes h.lanes source h.reported.source line h.reported.tree runs h.runs is h.reported.source_is faulty h.reported.job.accepted)
+exact_refused words before after paper paper_after MasterFailed h name lanes source line runs is few faulty =
+    absurd (no_report words before.content name h.name lanes h.lanes source h.reported.source line h.reported.tree runs h.runs is h.reported.source_is faulty h.reported.job.accepted)
+exact_refused words before after paper paper_after MasterSpent h name lanes source line runs is few faulty =
+    absurd (no_report words before.content name h.name lanes h.lanes source h.reported.source line h.reported.tree runs h.runs is h.reported.source_is faulty h.reported.job.accepted)
+exact_refused words before after paper paper_after Usage h name lanes source line runs is few faulty = absurd (no_run words name lanes runs h.line.0)
+exact_refused words before after paper paper_after (Refused at kind) h name lanes source line runs is few faulty =
+    let read = same_source words before.content name h.line.name lanes h.line.lanes source h.line.source runs h.line.runs is h.line.source_is in
+    let same : at ≡ line = one_line source at line (subst (λ (s : List ℕ). IsFaultyLine s at) read h.line.faulty) faulty in
+    inl (ap (λ n. Refused n kind) same ∙ ap (Refused line) h.line.kind_is)
+exact_refused words before after paper paper_after (Missing other) h name lanes source line runs is few faulty =
+    absurd (at_name words before.content name other lanes h.line.0.lanes (Holds source) NotThere runs h.line.0.runs is h.line.1)
+exact_refused words before after paper paper_after (TooLarge other) h name lanes source line runs is few faulty =
+    absurd (in_size source few (at_name words before.content name other lanes h.line.0.lanes (Holds source) TooLong runs h.line.0.runs is h.line.1))
+exact_refused words before after paper paper_after (FolderFault other) h name lanes source line runs is few faulty = inr tt
+exact_refused words before after paper paper_after SinkFault h name lanes source line runs is few faulty = inr tt
+exact_refused words before after paper paper_after NoMemory h name lanes source line runs is few faulty = inr tt
+exact_refused words before after paper paper_after status h name lanes source line runs is few faulty = absurd h.line
+
+pub exact_report : (words : List (List ℕ)) (before after : Disk) (paper paper_after : Paper) (status : Status)
+  → Answered words before after paper paper_after status → ExactReport words before.content status
+exact_report words before after paper paper_after Done h name lanes source tree runs is few form = inl tt
+exact_report words before after paper paper_after MasterFailed h name lanes source tree runs is few form = inl tt
+exact_report words before after paper paper_after MasterSpent h name lanes source tree runs is few form = inl tt
+exact_report words before after paper paper_after Usage h name lanes source tree runs is few form = absurd (no_run words name lanes runs h.line.0)
+exact_report words before after paper paper_after (Refused at kind) h name lanes source tree runs is few form =
+    let read = same_source words before.content name h.line.name lanes h.line.lanes source h.line.source runs h.line.runs is h.line.source_is in
+    absurd (never_both source tree at form (subst (λ (s : List ℕ). IsFaultyLine s at) read h.line.faulty))
+exact_report words before after paper paper_after (Missing other) h name lanes source tree runs is few form =
+    absurd (at_name words before.content name other lanes h.line.0.lanes (Holds source) NotThere runs h.line.0.runs is h.line.1)
+exact_report words before after paper paper_after (TooLarge other) h name lanes source tree runs is few form =
+    absurd (in_size source few (at_name words before.content name other lanes h.line.0.lanes (Holds source) TooLong runs h.line.0.runs is h.line.1))
+exact_report words before after paper paper_after (FolderFault other) h name lanes source tree runs is few form = inr tt
+exact_report words before after paper paper_after SinkFault h name lanes source tree runs is few form = inr tt
+exact_report words before after paper paper_after NoMemory h name lanes source tree runs is few form = inr tt
+exact_report words before after paper paper_after status h name lanes source tree runs is few form = absurd h.line
