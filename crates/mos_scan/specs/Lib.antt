@@ -1,0 +1,5 @@
+pub mod Characters
+pub mod Cuts
+pub mod Fronts
+pub mod Tokens
+pub mod Words

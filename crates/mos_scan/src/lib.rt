@@ -1,0 +1,13 @@
+//! Tokens and pieces: how the bytes of a source are cut.
+//!
+//! A source is cut into tokens, blanks and comments; tokens are cut into pieces, which are what the
+//! grammar is about: a statement, a heading, an item, a word that opens or closes a block.
+#![tactic(auto)]
+
+mod character;
+mod front;
+mod symbol;
+mod token;
+mod word;
+
+pub use token::{Token, TokenKind};
