@@ -1,1 +1,6 @@
+pub mod Ends
+pub mod Lists
+pub mod Looks
 pub mod Numbers
+pub mod One
+pub mod Scans

@@ -55,12 +55,15 @@ is_newline b = b == 10
 abbrev pub newlines : List ℕ → ℕ
 newlines text = count_by is_newline text
 
+-- the token of these bytes that begins at this place on this line
+abbrev pub token_of : ℕ → ℕ → TokenKind → List ℕ → Token
+token_of at line kind text = record { kind = kind; line = line; from = at; to = at + length text }
+
 -- the tokens among the parts, which begin at this place on this line
 abbrev pub tokens_from : ℕ → ℕ → List Part → List Token
 tokens_from at line [] = []
 tokens_from at line (gap text ∷ xs) = tokens_from (at + length text) (line + newlines text) xs
-tokens_from at line (token kind text ∷ xs) =
-    record { kind = kind; line = line; from = at; to = at + length text } ∷ tokens_from (at + length text) (line + newlines text) xs
+tokens_from at line (token kind text ∷ xs) = token_of at line kind text ∷ tokens_from (at + length text) (line + newlines text) xs
 
 -- the token list of a source: how it is cut, where what is read is UTF-8
 pub record IsTokenList (bytes : List ℕ) (tokens : List Token) : Type 0 where

@@ -1,9 +1,9 @@
-use Rattle.std.specs.Prelude.{◌≡◌, ℕ, ◌+◌, ◌≤◌, Bool, false, if◌then◌else◌, List, [], ◌∷◌, take, Option, Some, None, unwrap_or}
+use Rattle.std.specs.Prelude.{◌≡◌, ℕ, ◌≢◌, ◌+◌, ◌<◌, ◌≤◌, ◌++◌, length, Bool, false, if◌then◌else◌, List, [], ◌∷◌, take, Option, Some, None, unwrap_or}
 use Rattle.std.specs.List.{prefix_len}
 use Rattle.std.specs.Char.{is_ascii_digit}
 use Rattle.mos_scan.specs.Characters.{begins_name, is_word, is_quote}
 use Rattle.mos_scan.specs.Words.{end_at, plain_word}
-use Rattle.mos_scan.specs.Tokens.{closing, one_byte, two_bytes, gap_at, fault_at}
+use Rattle.mos_scan.specs.Tokens.{closing, one_byte, two_bytes, gap_at, fault_at, kind_of}
 use Rattle.mos_scan.specs.declared.token.TokenKind.{TokenKind}
 use Rattle.mos_scan.specs.declared.token.TokenKind.TheVariants as t
 use Rattle.mos_scan.specs.declared.front.Wrong.{Wrong}
@@ -49,8 +49,24 @@ gap_or_else None bs = fault_or_token (fault_at bs) (token_at bs)
 unfoldable pub front : List ℕ → Front
 front bs = gap_or_else (gap_at bs) bs
 
+-- a text at the front that is the longest token there
+pub record Longest (bytes : List ℕ) (kind : TokenKind) (n : ℕ) : Type 0 where
+  pub text : List ℕ
+  pub rest : List ℕ
+  pub parts : bytes ≡ text ++ rest
+  pub long : length text ≡ n
+  pub some : 0 < n
+  pub form : kind_of text ≡ Some kind
+  pub longest : (more after : List ℕ) → rest ≡ more ++ after → more ≢ [] → kind_of (text ++ more) ≡ None
+
+-- what stands at the front of the bytes
+abbrev pub Stands : List ℕ → Front → Type 0
+Stands bytes (f.Gap n) = (gap_at bytes ≡ Some n) × (0 < n) × (n ≤ length bytes)
+Stands bytes (f.Token kind n) = (gap_at bytes ≡ None) × (fault_at bytes ≡ None) × Longest bytes kind n
+Stands bytes (f.Fault wrong far) = (gap_at bytes ≡ None) × (fault_at bytes ≡ Some (wrong, far))
+
 -- what stands at the front lies within so many bytes
 abbrev pub Within : Front → ℕ → Type 0
-Within (f.Gap n) length = n ≤ length
-Within (f.Token kind n) length = n ≤ length
-Within (f.Fault wrong far) length = far ≤ length
+Within (f.Gap n) size = n ≤ size
+Within (f.Token kind n) size = n ≤ size
+Within (f.Fault wrong far) size = far ≤ size

@@ -1,5 +1,6 @@
 pub mod Characters
 pub mod Cuts
 pub mod Fronts
+pub mod Scans
 pub mod Tokens
 pub mod Words

@@ -1,4 +1,4 @@
-ghost use Rattle.std.specs.Prelude.{◌≡◌, ◌≤◌, ◌<◌, ◌+◌, false, None, nat_lt, length, IfSome};
+ghost use Rattle.std.specs.Prelude.{◌≡◌, ◌≤◌, ◌<◌, ◌+◌, ◌≢◌, [], false, None, nat_lt, length, IfSome};
 ghost use Rattle.mos_scan.specs.Tokens as spec;
 ghost use Rattle.mos_scan.specs.Fronts as fronts;
 
@@ -262,9 +262,8 @@ fn token_at(text: &[u8]) -> (TokenKind, usize)
     }
 }
 
-/// What stands at the front.
 #[tactic(auto, unfolding(crate::specs::Fronts::front))]
-pub(crate) fn look(text: &[u8]) -> Front
+fn front_of(text: &[u8]) -> Front
     ensures value { result ≡ fronts.front text.now }
     ensures within { fronts.Within result (length text.now) }
 {
@@ -276,4 +275,13 @@ pub(crate) fn look(text: &[u8]) -> Front
     }
     let (kind, length) = token_at(text);
     Front::Token(kind, length)
+}
+
+/// What stands at the front.
+pub(crate) fn look(text: &[u8]) -> Front
+    requires { text.now ≢ [] }
+    ensures stands { fronts.Stands text.now result }
+    ensures within { fronts.Within result (length text.now) }
+{
+    front_of(text)
 }

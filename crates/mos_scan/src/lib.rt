@@ -5,9 +5,12 @@
 #![tactic(auto)]
 
 mod character;
+mod fault;
 mod front;
+mod scanner;
 mod symbol;
 mod token;
 mod word;
 
+pub use fault::LexFault;
 pub use token::{Token, TokenKind};
