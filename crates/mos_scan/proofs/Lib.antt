@@ -4,3 +4,4 @@ pub mod Looks
 pub mod Numbers
 pub mod One
 pub mod Scans
+pub mod Verdicts

@@ -112,10 +112,14 @@ line_of bytes place = 1 + newlines (take place bytes)
 abbrev pub is_continuation : ℕ → Bool
 is_continuation b = not (nat_lt b 128) && nat_lt b 192
 
--- the column behind these bytes, which begin at this column: each character counts one
+-- the column behind one byte more: each character counts one
+abbrev pub column_behind : ℕ → ℕ → ℕ
+column_behind column b = if is_newline b then 1 else (if is_continuation b then column else column + 1)
+
+-- the column behind these bytes, which begin at this column
 abbrev pub column_from : ℕ → List ℕ → ℕ
 column_from column [] = column
-column_from column (b ∷ bs) = column_from (if is_newline b then 1 else (if is_continuation b then column else column + 1)) bs
+column_from column (b ∷ bs) = column_from (column_behind column b) bs
 
 -- the column of a place in its line, from 1
 abbrev pub column_of : List ℕ → ℕ → ℕ

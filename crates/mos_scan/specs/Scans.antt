@@ -38,6 +38,11 @@ pub record IsFaultAt (bytes : List ℕ) (line column : ℕ) (kind : Kind) : Type
   pub line_is : line ≡ line_of bytes place
   pub column_is : column ≡ column_of bytes place
 
+-- the fault of this place and kind
+abbrev pub IsAt : LexFault → List ℕ → ℕ → Kind → Type 0
+IsAt (l.At line column k) bytes place kind = (line ≡ line_of bytes place) × (column ≡ column_of bytes place) × (k ≡ kind)
+IsAt l.NoMemory bytes place kind = ⊥
+
 abbrev pub IsFaultOf : List ℕ → LexFault → Type 0
 IsFaultOf bytes (l.At line column kind) = IsFaultAt bytes line column kind
 IsFaultOf bytes l.NoMemory = Unit {0}

@@ -13,4 +13,5 @@ mod token;
 mod word;
 
 pub use fault::LexFault;
+pub use scanner::scan;
 pub use token::{Token, TokenKind};
