@@ -1,6 +1,7 @@
 pub mod Characters
 pub mod Cuts
 pub mod Fronts
+pub mod Pieces
 pub mod Scans
 pub mod Tokens
 pub mod Words

@@ -7,11 +7,13 @@
 mod character;
 mod fault;
 mod front;
+mod piece;
 mod scanner;
 mod symbol;
 mod token;
 mod word;
 
 pub use fault::LexFault;
+pub use piece::{Piece, pieces};
 pub use scanner::scan;
 pub use token::{Token, TokenKind};
