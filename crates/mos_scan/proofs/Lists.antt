@@ -28,22 +28,22 @@ pub run_of : (p : ℕ → Bool) (bytes : List ℕ) → Run p bytes
 run_of p [] = record { front = []; back = []; parts = refl; long = refl; passes = refl; stops = tt }
 run_of p (b ∷ bs) =
     on_bool (p b)
-      (λ e. let r : Run p bs = run_of p bs in record {
-        front = b ∷ r.front;
-        back = r.back;
-        parts = ap (λ xs. b ∷ xs) r.parts;
-        long = rw e (omega (arith, r.long));
-        passes = rw e r.passes;
-        stops = r.stops
-      })
-      (λ e. record {
-        front = [];
-        back = b ∷ bs;
-        parts = refl;
-        long = rw e refl;
-        passes = refl;
-        stops = e
-      })
+    (λ e. let r : Run p bs = run_of p bs in record {
+      front = b ∷ r.front;
+      back = r.back;
+      parts = ap (λ xs. b ∷ xs) r.parts;
+      long = rw e (omega (arith, r.long));
+      passes = rw e r.passes;
+      stops = r.stops;
+    })
+    (λ e. record {
+      front = [];
+      back = b ∷ bs;
+      parts = refl;
+      long = rw e refl;
+      passes = refl;
+      stops = e;
+    })
 
 -- a longer text than a run has a byte that fails
 pub run_over : (p : ℕ → Bool) (front back more after : List ℕ) → StopsAt p back → back ≡ more ++ after → more ≢ [] → list_all p (front ++ more) ≡ false

@@ -36,28 +36,28 @@ closed : (quote : ℕ) (escaped : Bool) (at : ℕ) (bytes : List ℕ) (n : ℕ) 
 closed quote escaped at [] n e = cc
 closed quote escaped at (b ∷ bs) n e =
     on_bool (nat_eq b 10)
-      (λ line. let x : None ≡ Some n = rw line at e in cc)
-      (λ line.
-        on_bool (not escaped && nat_eq b quote)
-          (λ here.
-            let it : Some (at + 1) ≡ Some n = rw (line, here) at e in
-            let long : at + 1 ≡ n = ap (λ x. unwrap_or x 0) it in
-            record {
-              inside = b ∷ [];
-              rest = bs;
-              parts = refl;
-              long = omega arith;
-              same = λ more. closing_here quote escaped at b more n line here long
-            })
-          (λ here.
-            let r : Closed quote (not escaped && nat_eq quote 34 && nat_eq b 92) (at + 1) bs n = closed quote (not escaped && nat_eq quote 34 && nat_eq b 92) (at + 1) bs n (rw (line, here) at e) in
-            record {
-              inside = b ∷ r.inside;
-              rest = r.rest;
-              parts = ap (λ xs. b ∷ xs) r.parts;
-              long = omega (arith, r.long);
-              same = λ more. closing_on quote escaped at b (r.inside ++ more) line here ∙ r.same more
-            }))
+    (λ line. let x : None ≡ Some n = rw line at e in cc)
+    (λ line.
+    on_bool (not escaped && nat_eq b quote)
+    (λ here.
+    let it : Some (at + 1) ≡ Some n = rw (line, here) at e in
+    let long : at + 1 ≡ n = ap (λ x. unwrap_or x 0) it in
+    record {
+      inside = b ∷ [];
+      rest = bs;
+      parts = refl;
+      long = omega arith;
+      same = λ more. closing_here quote escaped at b more n line here long;
+    })
+    (λ here.
+    let r : Closed quote (not escaped && nat_eq quote 34 && nat_eq b 92) (at + 1) bs n = closed quote (not escaped && nat_eq quote 34 && nat_eq b 92) (at + 1) bs n (rw (line, here) at e) in
+    record {
+      inside = b ∷ r.inside;
+      rest = r.rest;
+      parts = ap (λ xs. b ∷ xs) r.parts;
+      long = omega (arith, r.long);
+      same = λ more. closing_on quote escaped at b (r.inside ++ more) line here ∙ r.same more;
+    }))
 
 not_same : (n m : ℕ) → n ≢ m → nat_eq n m ≡ false
 not_same n m h = ne_eqb n m h
@@ -77,14 +77,14 @@ text_longest a bs w d q n e =
       some = omega arith;
       form = rw (w, d, q, whole', long) refl;
       longest = λ more after e' some.
-        let same : closing a false 0 (r.inside ++ more) ≡ Some n = r.same more in
-        let short : nat_eq n (length (r.inside ++ more)) ≡ false = not_same _ _ (longer r.inside more n r.long some) in
-        rw (w, d, q, same, short) refl
+          let same : closing a false 0 (r.inside ++ more) ≡ Some n = r.same more in
+          let short : nat_eq n (length (r.inside ++ more)) ≡ false = not_same _ _ (longer r.inside more n r.long some) in
+          rw (w, d, q, same, short) refl;
     }
-    where
-      longer : (xs ys : List ℕ) (n : ℕ) → 0 + length xs ≡ n → ys ≢ [] → n ≢ length (xs ++ ys)
-      longer xs [] n e some h = some refl
-      longer xs (y ∷ ys) n e some h = omega (arith, h, length-append xs (y ∷ ys))
+  where
+    longer : (xs ys : List ℕ) (n : ℕ) → 0 + length xs ≡ n → ys ≢ [] → n ≢ length (xs ++ ys)
+    longer xs [] n e some h = some refl
+    longer xs (y ∷ ys) n e some h = omega (arith, h, length-append xs (y ∷ ys))
 
 -- ---- digits
 
@@ -100,8 +100,8 @@ number_longest a bs w d =
       some = omega arith;
       form = rw (w, d, r.passes) refl;
       longest = λ more after e some.
-        let over : list_all is_ascii_digit (r.front ++ more) ≡ false = run_over is_ascii_digit r.front r.back more after r.stops e some in
-        rw (w, d, over) refl
+          let over : list_all is_ascii_digit (r.front ++ more) ≡ false = run_over is_ascii_digit r.front r.back more after r.stops e some in
+          rw (w, d, over) refl;
     }
 
 -- ---- words
@@ -140,7 +140,7 @@ end_longest a bs w kind n e =
       long = length-take-le n (a ∷ bs) r.fits;
       some = r.some;
       form = from_end (take n (a ∷ bs)) kind b r.is.form;
-      longest = λ more after e' some. mixed_none (take n (a ∷ bs) ++ more) (begins a bs w n r.some more) (r.is.over more some) (r.is.mixed more)
+      longest = λ more after e' some. mixed_none (take n (a ∷ bs) ++ more) (begins a bs w n r.some more) (r.is.over more some) (r.is.mixed more);
     }
 
 all_words : (a : ℕ) (bs : List ℕ) → begins_name a ≡ true → list_all is_word bs ≡ true → list_all is_word (a ∷ bs) ≡ true
@@ -176,10 +176,10 @@ word_longest a bs w n f =
       some = omega (arith, long);
       form = subst (λ x. kind_of (a ∷ r.front) ≡ Some (plain_word x)) (sym it) form;
       longest = λ more after e some.
-        let whole : a ∷ bs ≡ (a ∷ (r.front ++ more)) ++ after = parts ∙ ap (λ x. (a ∷ r.front) ++ x) e ∙ sym (append_assoc (a ∷ r.front) more after) in
-        let b' : Begins (a ∷ (r.front ++ more)) = w in
-        mixed_none (a ∷ (r.front ++ more)) b' (no_end (a ∷ bs) (a ∷ (r.front ++ more)) after whole n)
-          (not_all_words a (r.front ++ more) w (run_over is_word r.front r.back more after r.stops e some))
+          let whole : a ∷ bs ≡ (a ∷ (r.front ++ more)) ++ after = parts ∙ ap (λ x. (a ∷ r.front) ++ x) e ∙ sym (append_assoc (a ∷ r.front) more after) in
+          let b' : Begins (a ∷ (r.front ++ more)) = w in
+          mixed_none (a ∷ (r.front ++ more)) b' (no_end (a ∷ bs) (a ∷ (r.front ++ more)) after whole n)
+          (not_all_words a (r.front ++ more) w (run_over is_word r.front r.back more after r.stops e some));
     }
 
 -- ---- symbols
@@ -199,34 +199,34 @@ symbol_kind a bs plain = rw (plain.no_name, plain.no_digit, plain.no_quote) refl
 
 one_longest : (a : ℕ) (bs : List ℕ) → NoWord a → (kind : TokenKind) → one_byte a ≡ Some kind → ((b : ℕ) (rest : List ℕ) → bs ≡ b ∷ rest → two_bytes a b ≡ None) → Longest (a ∷ bs) kind 1
 one_longest a bs plain kind e two = record {
-      text = a ∷ [];
-      rest = bs;
-      parts = refl;
-      long = refl;
-      some = omega arith;
-      form = symbol_kind a [] plain ∙ e;
-      longest = longest
-    }
-    where
-      longest : (more after : List ℕ) → bs ≡ more ++ after → more ≢ [] → kind_of (a ∷ [] ++ more) ≡ None
-      longest [] after e' some = absurd (some refl)
-      longest (m ∷ []) after e' some = symbol_kind a (m ∷ []) plain ∙ two m after e'
-      longest (m ∷ x ∷ ms) after e' some = symbol_kind a (m ∷ x ∷ ms) plain
+  text = a ∷ [];
+  rest = bs;
+  parts = refl;
+  long = refl;
+  some = omega arith;
+  form = symbol_kind a [] plain ∙ e;
+  longest = longest;
+}
+  where
+    longest : (more after : List ℕ) → bs ≡ more ++ after → more ≢ [] → kind_of (a ∷ [] ++ more) ≡ None
+    longest [] after e' some = absurd (some refl)
+    longest (m ∷ []) after e' some = symbol_kind a (m ∷ []) plain ∙ two m after e'
+    longest (m ∷ x ∷ ms) after e' some = symbol_kind a (m ∷ x ∷ ms) plain
 
 two_longest : (a b : ℕ) (bs : List ℕ) → NoWord a → (kind : TokenKind) → two_bytes a b ≡ Some kind → Longest (a ∷ b ∷ bs) kind 2
 two_longest a b bs plain kind e = record {
-      text = a ∷ b ∷ [];
-      rest = bs;
-      parts = refl;
-      long = refl;
-      some = omega arith;
-      form = symbol_kind a (b ∷ []) plain ∙ e;
-      longest = longest
-    }
-    where
-      longest : (more after : List ℕ) → bs ≡ more ++ after → more ≢ [] → kind_of (a ∷ b ∷ [] ++ more) ≡ None
-      longest [] after e' some = absurd (some refl)
-      longest (m ∷ ms) after e' some = symbol_kind a (b ∷ m ∷ ms) plain
+  text = a ∷ b ∷ [];
+  rest = bs;
+  parts = refl;
+  long = refl;
+  some = omega arith;
+  form = symbol_kind a (b ∷ []) plain ∙ e;
+  longest = longest;
+}
+  where
+    longest : (more after : List ℕ) → bs ≡ more ++ after → more ≢ [] → kind_of (a ∷ b ∷ [] ++ more) ≡ None
+    longest [] after e' some = absurd (some refl)
+    longest (m ∷ ms) after e' some = symbol_kind a (b ∷ m ∷ ms) plain
 
 abbrev IsLongest : List ℕ → TokenKind × ℕ → Type 0
 IsLongest bytes found = Longest bytes found.0 found.1
@@ -238,11 +238,11 @@ symbol_longest : (a : ℕ) (bs : List ℕ) → NoWord a → (kind : TokenKind) �
 symbol_longest a [] plain kind e = none_is_one a [] kind e (one_longest a [] plain kind e (λ b rest h. cc))
 symbol_longest a (b ∷ bs) plain kind e =
     on_option (two_bytes a b)
-      (λ none.
-        let two : (b' : ℕ) (rest : List ℕ) → b ∷ bs ≡ b' ∷ rest → two_bytes a b' ≡ None =
-          λ b' rest h. let same : b ≡ b' = cc in subst (λ x. two_bytes a x ≡ None) same none in
-        subst (λ o. IsLongest (a ∷ b ∷ bs) (two_or_one o a)) (sym none) (none_is_one a (b ∷ bs) kind e (one_longest a (b ∷ bs) plain kind e two)))
-      (λ kind' some. subst (λ o. IsLongest (a ∷ b ∷ bs) (two_or_one o a)) (sym some) (two_longest a b bs plain kind' some))
+    (λ none.
+    let two : (b' : ℕ) (rest : List ℕ) → b ∷ bs ≡ b' ∷ rest → two_bytes a b' ≡ None =
+    λ b' rest h. let same : b ≡ b' = cc in subst (λ x. two_bytes a x ≡ None) same none in
+    subst (λ o. IsLongest (a ∷ b ∷ bs) (two_or_one o a)) (sym none) (none_is_one a (b ∷ bs) kind e (one_longest a (b ∷ bs) plain kind e two)))
+    (λ kind' some. subst (λ o. IsLongest (a ∷ b ∷ bs) (two_or_one o a)) (sym some) (two_longest a b bs plain kind' some))
 
 -- ---- all tokens
 
@@ -254,40 +254,40 @@ word_case : (a : ℕ) (bs : List ℕ) → begins_name a ≡ true → word_fault 
 unfolding word_at
 word_case a bs w f =
     on_option (end_at (a ∷ bs))
-      (λ none. subst (λ o. IsLongest (a ∷ bs) (end_or_word o (a ∷ bs))) (sym none) (word_longest a bs w none (not_refused (a ∷ bs) f)))
-      (λ x some. subst (λ o. IsLongest (a ∷ bs) (end_or_word o (a ∷ bs))) (sym some) (end_longest a bs w x.0 x.1 some))
+    (λ none. subst (λ o. IsLongest (a ∷ bs) (end_or_word o (a ∷ bs))) (sym none) (word_longest a bs w none (not_refused (a ∷ bs) f)))
+    (λ x some. subst (λ o. IsLongest (a ∷ bs) (end_or_word o (a ∷ bs))) (sym some) (end_longest a bs w x.0 x.1 some))
 
 text_case : (a : ℕ) (bs : List ℕ) → begins_name a ≡ false → is_ascii_digit a ≡ false → is_quote a ≡ true → text_fault a bs ≡ None → IsLongest (a ∷ bs) (quoted_at a bs)
 unfolding text_fault
 text_case a bs n d q f =
     on_option (closing a false 0 bs)
-      (λ none. let x : Some (w.Text, 0) ≡ None = rw none at f in cc)
-      (λ x some. subst (λ o. Longest (a ∷ bs) t.Text (unwrap_or o 0 + 1)) (sym some) (text_longest a bs n d q x some))
+    (λ none. let x : Some (w.Text, 0) ≡ None = rw none at f in cc)
+    (λ x some. subst (λ o. Longest (a ∷ bs) t.Text (unwrap_or o 0 + 1)) (sym some) (text_longest a bs n d q x some))
 
 symbol_case : (a : ℕ) (bs : List ℕ) → NoWord a → symbol_fault a bs ≡ None → IsLongest (a ∷ bs) (symbol_at a bs)
 symbol_case a bs plain f =
     on_bool (nat_eq a 40 && begins_with 33 bs)
-      (λ c. let x : Some (w.Comment, 0) ≡ None = rw c at f in cc)
-      (λ c.
-        on_option (one_byte a)
-          (λ none. let x : Some (w.Char, 0) ≡ None = rw (c, none) at f in cc)
-          (λ kind some. symbol_longest a bs plain kind some))
+    (λ c. let x : Some (w.Comment, 0) ≡ None = rw c at f in cc)
+    (λ c.
+    on_option (one_byte a)
+    (λ none. let x : Some (w.Char, 0) ≡ None = rw (c, none) at f in cc)
+    (λ kind some. symbol_longest a bs plain kind some))
 
 pub longest_at : (bytes : List ℕ) → bytes ≢ [] → fault_at bytes ≡ None → IsLongest bytes (token_at bytes)
 unfolding fault_at token_at
 longest_at [] some f = absurd (some refl)
 longest_at (a ∷ bs) some f =
     on_bool (begins_name a)
-      (λ n. let f' : word_fault (a ∷ bs) ≡ None = rw n at f in rw n (word_case a bs n f'))
-      (λ n.
-        on_bool (is_ascii_digit a)
-          (λ d. rw (n, d) (number_longest a bs n d))
-          (λ d.
-            on_bool (is_quote a)
-              (λ q. let f' : text_fault a bs ≡ None = rw (n, d, q) at f in rw (n, d, q) (text_case a bs n d q f'))
-              (λ q.
-                let f' : symbol_fault a bs ≡ None = rw (n, d, q) at f in
-                rw (n, d, q) (symbol_case a bs (record { no_name = n; no_digit = d; no_quote = q }) f'))))
+    (λ n. let f' : word_fault (a ∷ bs) ≡ None = rw n at f in rw n (word_case a bs n f'))
+    (λ n.
+    on_bool (is_ascii_digit a)
+    (λ d. rw (n, d) (number_longest a bs n d))
+    (λ d.
+    on_bool (is_quote a)
+    (λ q. let f' : text_fault a bs ≡ None = rw (n, d, q) at f in rw (n, d, q) (text_case a bs n d q f'))
+    (λ q.
+    let f' : symbol_fault a bs ≡ None = rw (n, d, q) at f in
+    rw (n, d, q) (symbol_case a bs (record { no_name = n; no_digit = d; no_quote = q }) f'))))
 
 -- ---- gaps
 
@@ -295,56 +295,56 @@ comment_fits : (at : ℕ) (bs : List ℕ) (n : ℕ) → comment_end at bs ≡ So
 comment_fits at [] n e = cc
 comment_fits at (b ∷ bs) n e =
     on_bool (nat_eq b 33 && begins_with 41 bs)
-      (λ c.
-        let it : Some (at + 2) ≡ Some n = rw c at e in
-        let long : at + 2 ≡ n = ap (λ x. unwrap_or x 0) it in
-        let two : 1 ≤ length bs = second bs (and_parts (nat_eq b 33) (begins_with 41 bs) c).1 in
-        (omega (arith, long), omega (arith, long, two)))
-      (λ c.
-        let r : (at + 1 < n) × (n ≤ at + 1 + length bs) = comment_fits (at + 1) bs n (rw c at e) in
-        (omega (arith, r.0), omega (arith, r.1)))
-    where
-      second : (xs : List ℕ) → begins_with 41 xs ≡ true → 1 ≤ length xs
-      second [] h = cc
-      second (x ∷ xs) h = omega arith
+    (λ c.
+    let it : Some (at + 2) ≡ Some n = rw c at e in
+    let long : at + 2 ≡ n = ap (λ x. unwrap_or x 0) it in
+    let two : 1 ≤ length bs = second bs (and_parts (nat_eq b 33) (begins_with 41 bs) c).1 in
+    (omega (arith, long), omega (arith, long, two)))
+    (λ c.
+    let r : (at + 1 < n) × (n ≤ at + 1 + length bs) = comment_fits (at + 1) bs n (rw c at e) in
+    (omega (arith, r.0), omega (arith, r.1)))
+  where
+    second : (xs : List ℕ) → begins_with 41 xs ≡ true → 1 ≤ length xs
+    second [] h = cc
+    second (x ∷ xs) h = omega arith
 
 pub gap_fits : (bytes : List ℕ) (n : ℕ) → gap_at bytes ≡ Some n → (0 < n) × (n ≤ length bytes)
 unfolding gap_at
 gap_fits [] n e = cc
 gap_fits (a ∷ bs) n e =
     on_bool (is_blank a)
-      (λ c. let it : 1 ≡ n = ap (λ x. unwrap_or x 0) (rw c at e) in (omega (arith, it), omega (arith, it)))
-      (λ c.
-        on_bool (nat_eq a 33)
-          (λ d.
-            let it : prefix_len is_inside bs + 1 ≡ n = ap (λ x. unwrap_or x 0) (rw (c, d) at e) in
-            (omega (arith, it), omega (arith, it, prefix_len-le-length is_inside bs)))
-          (λ d.
-            on_bool (nat_eq a 40 && begins_with 33 bs)
-              (λ f.
-                let it : comment_end 2 (drop 1 bs) ≡ Some n = rw (c, d, f) at e in
-                let r : (2 < n) × (n ≤ 2 + length (drop 1 bs)) = comment_fits 2 (drop 1 bs) n it in
-                let two : 1 ≤ length bs = second bs (and_parts (nat_eq a 40) (begins_with 33 bs) f).1 in
-                (omega (arith, r.0), omega (arith, r.1, two, length-drop 1 bs)))
-              (λ f. let x : None ≡ Some n = rw (c, d, f) at e in cc)))
-    where
-      second : (xs : List ℕ) → begins_with 33 xs ≡ true → 1 ≤ length xs
-      second [] h = cc
-      second (x ∷ xs) h = omega arith
+    (λ c. let it : 1 ≡ n = ap (λ x. unwrap_or x 0) (rw c at e) in (omega (arith, it), omega (arith, it)))
+    (λ c.
+    on_bool (nat_eq a 33)
+    (λ d.
+    let it : prefix_len is_inside bs + 1 ≡ n = ap (λ x. unwrap_or x 0) (rw (c, d) at e) in
+    (omega (arith, it), omega (arith, it, prefix_len-le-length is_inside bs)))
+    (λ d.
+    on_bool (nat_eq a 40 && begins_with 33 bs)
+    (λ f.
+    let it : comment_end 2 (drop 1 bs) ≡ Some n = rw (c, d, f) at e in
+    let r : (2 < n) × (n ≤ 2 + length (drop 1 bs)) = comment_fits 2 (drop 1 bs) n it in
+    let two : 1 ≤ length bs = second bs (and_parts (nat_eq a 40) (begins_with 33 bs) f).1 in
+    (omega (arith, r.0), omega (arith, r.1, two, length-drop 1 bs)))
+    (λ f. let x : None ≡ Some n = rw (c, d, f) at e in cc)))
+  where
+    second : (xs : List ℕ) → begins_with 33 xs ≡ true → 1 ≤ length xs
+    second [] h = cc
+    second (x ∷ xs) h = omega arith
 
 -- what is seen at the front stands there
 pub front_stands : (bytes : List ℕ) → bytes ≢ [] → Stands bytes (front bytes)
 unfolding front
 front_stands bytes some =
     on_option (gap_at bytes)
-      (λ no_gap.
-        on_option (fault_at bytes)
-          (λ no_fault.
-            subst (λ o. Stands bytes (gap_or_else o bytes)) (sym no_gap)
-              (subst (λ o. Stands bytes (fault_or_token o (token_at bytes))) (sym no_fault) (no_gap, no_fault, longest_at bytes some no_fault)))
-          (λ x wrong.
-            subst (λ o. Stands bytes (gap_or_else o bytes)) (sym no_gap)
-              (subst (λ o. Stands bytes (fault_or_token o (token_at bytes))) (sym wrong) (no_gap, wrong))))
-      (λ n gap.
-        let fits : (0 < n) × (n ≤ length bytes) = gap_fits bytes n gap in
-        subst (λ o. Stands bytes (gap_or_else o bytes)) (sym gap) (gap, fits.0, fits.1))
+    (λ no_gap.
+    on_option (fault_at bytes)
+    (λ no_fault.
+    subst (λ o. Stands bytes (gap_or_else o bytes)) (sym no_gap)
+    (subst (λ o. Stands bytes (fault_or_token o (token_at bytes))) (sym no_fault) (no_gap, no_fault, longest_at bytes some no_fault)))
+    (λ x wrong.
+    subst (λ o. Stands bytes (gap_or_else o bytes)) (sym no_gap)
+    (subst (λ o. Stands bytes (fault_or_token o (token_at bytes))) (sym wrong) (no_gap, wrong))))
+    (λ n gap.
+    let fits : (0 < n) × (n ≤ length bytes) = gap_fits bytes n gap in
+    subst (λ o. Stands bytes (gap_or_else o bytes)) (sym gap) (gap, fits.0, fits.1))

@@ -22,7 +22,7 @@ overlap (x ∷ xs) ys (u ∷ us) vs e =
     let head : x ≡ u = cc in
     let tail : xs ++ ys ≡ us ++ vs = cc in
     elim (overlap xs ys us vs tail) [
-      inl a ↦ inl (a.0, (let h : u ∷ us ≡ x ∷ (xs ++ a.0) = cc in h), a.2)
+      | inl a ↦ inl (a.0, (let h : u ∷ us ≡ x ∷ (xs ++ a.0) = cc in h), a.2)
       | inr b ↦ inr (b.0, (let h : x ∷ xs ≡ u ∷ (us ++ b.0) = cc in h), b.2)
     ]
 
@@ -51,16 +51,16 @@ append-none (x ∷ xs) = ap (λ ys. x ∷ ys) (append-none xs)
 one_token : (kind other : TokenKind) (xs ys us vs : List ℕ) → xs ++ ys ≡ us ++ vs → IsToken kind xs ys → IsToken other us vs → Same (token kind xs) ys (token other us) vs
 one_token kind other xs ys us vs e s t =
     elim (overlap xs ys us vs e) [
-      inl a ↦
-        (let n : a.0 ≡ [] = longer_not kind other xs ys us vs a.0 s t a.1 a.2 in
-        let p : us ≡ xs = a.1 ∙ ap (λ m. xs ++ m) n ∙ append-none xs in
-        let q : ys ≡ vs = a.2 ∙ ap (λ m. m ++ vs) n in
-        same_tokens kind other xs ys us vs s t (sym p) q)
+      | inl a ↦
+          (let n : a.0 ≡ [] = longer_not kind other xs ys us vs a.0 s t a.1 a.2 in
+          let p : us ≡ xs = a.1 ∙ ap (λ m. xs ++ m) n ∙ append-none xs in
+          let q : ys ≡ vs = a.2 ∙ ap (λ m. m ++ vs) n in
+          same_tokens kind other xs ys us vs s t (sym p) q)
       | inr b ↦
-        (let n : b.0 ≡ [] = longer_not other kind us vs xs ys b.0 t s b.1 b.2 in
-        let p : xs ≡ us = b.1 ∙ ap (λ m. us ++ m) n ∙ append-none us in
-        let q : vs ≡ ys = b.2 ∙ ap (λ m. m ++ ys) n in
-        same_tokens kind other xs ys us vs s t p (sym q))
+          (let n : b.0 ≡ [] = longer_not other kind us vs xs ys b.0 t s b.1 b.2 in
+          let p : xs ≡ us = b.1 ∙ ap (λ m. us ++ m) n ∙ append-none us in
+          let q : vs ≡ ys = b.2 ∙ ap (λ m. m ++ ys) n in
+          same_tokens kind other xs ys us vs s t p (sym q))
     ]
 
 none_left : (more : List ℕ) (xs us : List ℕ) → us ≡ xs ++ more → length xs ≡ length us → more ≡ []
@@ -70,14 +70,14 @@ none_left (m ∷ ms) xs us e h = absurd (omega (arith, h, ap length e, length-ap
 one_gap : (xs ys us vs : List ℕ) → xs ++ ys ≡ us ++ vs → length xs ≡ length us → Same (gap xs) ys (gap us) vs
 one_gap xs ys us vs e h =
     elim (overlap xs ys us vs e) [
-      inl a ↦
-        (let n : a.0 ≡ [] = none_left a.0 xs us a.1 h in
-        let p : us ≡ xs = a.1 ∙ ap (λ m. xs ++ m) n ∙ append-none xs in
-        (ap (λ z. gap z) (sym p), a.2 ∙ ap (λ m. m ++ vs) n))
+      | inl a ↦
+          (let n : a.0 ≡ [] = none_left a.0 xs us a.1 h in
+          let p : us ≡ xs = a.1 ∙ ap (λ m. xs ++ m) n ∙ append-none xs in
+          (ap (λ z. gap z) (sym p), a.2 ∙ ap (λ m. m ++ vs) n))
       | inr b ↦
-        (let n : b.0 ≡ [] = none_left b.0 us xs b.1 (sym h) in
-        let p : xs ≡ us = b.1 ∙ ap (λ m. us ++ m) n ∙ append-none us in
-        (ap (λ z. gap z) p, sym (b.2 ∙ ap (λ m. m ++ ys) n)))
+          (let n : b.0 ≡ [] = none_left b.0 us xs b.1 (sym h) in
+          let p : xs ≡ us = b.1 ∙ ap (λ m. us ++ m) n ∙ append-none us in
+          (ap (λ z. gap z) p, sym (b.2 ∙ ap (λ m. m ++ ys) n)))
     ]
 
 length_of_some : Option ℕ → ℕ

@@ -55,11 +55,11 @@ token_more : (at line : ℕ) (xs : List Part) (kind : TokenKind) (text : List �
 token_more at line [] kind text = same_token at line (at + 0) (line + 0) kind text (omega arith) (omega arith)
 token_more at line (gap t ∷ ys) kind text =
     token_more (at + length t) (line + newlines t) ys kind text
-      ∙ ap (λ ts. tokens_from (at + length t) (line + newlines t) ys ++ ts) (same_token (at + length t + size ys) (line + newlines t + lines ys) (at + (length t + size ys)) (line + (newlines t + lines ys)) kind text (omega arith) (omega arith))
+    ∙ ap (λ ts. tokens_from (at + length t) (line + newlines t) ys ++ ts) (same_token (at + length t + size ys) (line + newlines t + lines ys) (at + (length t + size ys)) (line + (newlines t + lines ys)) kind text (omega arith) (omega arith))
 token_more at line (token k t ∷ ys) kind text =
     ap (λ ts. token_of at line k t ∷ ts)
-      (token_more (at + length t) (line + newlines t) ys kind text
-        ∙ ap (λ ts. tokens_from (at + length t) (line + newlines t) ys ++ ts) (same_token (at + length t + size ys) (line + newlines t + lines ys) (at + (length t + size ys)) (line + (newlines t + lines ys)) kind text (omega arith) (omega arith)))
+    (token_more (at + length t) (line + newlines t) ys kind text
+    ∙ ap (λ ts. tokens_from (at + length t) (line + newlines t) ys ++ ts) (same_token (at + length t + size ys) (line + newlines t + lines ys) (at + (length t + size ys)) (line + (newlines t + lines ys)) kind text (omega arith) (omega arith)))
 
 pub end_model : (kind : TokenKind) → is_end_model kind ≡ true → kind ≡ EndModel
 end_model EndModel e = refl
@@ -82,7 +82,7 @@ scanned_gap bytes rest at line tokens s n stands text after te ae k ke =
       at_is = omega (arith, s.at_is, size_more s.parts (gap text), long);
       line_is = omega (arith, s.line_is, lines_more s.parts (gap text), ke);
       room = omega (arith, s.room, left, long);
-      few = omega (arith, s.few, few_lines text, ke, long)
+      few = omega (arith, s.few, few_lines text, ke, long);
     }
 
 -- the text of a token at the front
@@ -104,8 +104,8 @@ fronted rest kind n text after stands te ae =
         no_gap = subst (λ x. gap_at x ≡ None) parts stands.0;
         no_fault = subst (λ x. fault_at x ≡ None) parts stands.1;
         form = rw it l.form;
-        longest = λ more later e some. rw it (l.longest more later (sym behind ∙ e) some)
-      }
+        longest = λ more later e some. rw it (l.longest more later (sym behind ∙ e) some);
+      };
     }
 
 pushed : (at line n : ℕ) (tokens : List Token) (xs : List Part) (kind : TokenKind) (text : List ℕ) → tokens ≡ tokens_from 0 1 xs → at ≡ size xs → line ≡ 1 + lines xs → length text ≡ n → tokens ++ record { kind = kind; line = line; from = at; to = at + n } ∷ [] ≡ tokens_from 0 1 (xs ++ token kind text ∷ [])
@@ -126,7 +126,7 @@ scanned_token bytes rest at line tokens s kind n stands more text after te ae k 
       at_is = omega (arith, s.at_is, size_more s.parts (token kind text), t.long);
       line_is = omega (arith, s.line_is, lines_more s.parts (token kind text), ke);
       room = omega (arith, s.room, left, t.long);
-      few = omega (arith, s.few, few_lines text, ke, t.long)
+      few = omega (arith, s.few, few_lines text, ke, t.long);
     }
 
 -- `end-model` ends all
@@ -143,7 +143,7 @@ scanned_end bytes rest at line tokens s kind n stands end =
       left = after;
       whole = subst (λ x. Whole bytes after (s.parts ++ token x text ∷ [])) (sym (end_model kind end)) whole;
       are = pushed at line n tokens s.parts kind text s.are s.at_is s.line_is t.long;
-      reach = omega (arith, s.room, left, t.long)
+      reach = omega (arith, s.room, left, t.long);
     }
 
 nothing : (xs : List ℕ) → length xs ≡ 0 → xs ≡ []
@@ -152,9 +152,9 @@ nothing (x ∷ xs) e = absurd (omega arith)
 
 pub scanned_whole : (bytes rest : List ℕ) (at line : ℕ) (tokens : List Token) → Scanned bytes rest at line tokens → length rest ≡ 0 → IsWholeCut bytes tokens at
 scanned_whole bytes rest at line tokens s e = record {
-      parts = s.parts;
-      left = [];
-      whole = up_to_the_end s.parts (subst (λ x. Cuts bytes s.parts x) (nothing rest e) s.cuts) refl;
-      are = s.are;
-      reach = omega (arith, s.room, e)
-    }
+  parts = s.parts;
+  left = [];
+  whole = up_to_the_end s.parts (subst (λ x. Cuts bytes s.parts x) (nothing rest e) s.cuts) refl;
+  are = s.are;
+  reach = omega (arith, s.room, e);
+}

@@ -22,15 +22,15 @@ use Rattle.mos_scan.proofs.Looks.{take_front, drop_front}
 small : (x : ℕ) → is_word x ≡ true → x < 128
 small x h =
     elim (or_cases (begins_name x) (is_ascii_digit x) h) [
-      inl w ↦
-        elim (or_cases (is_ascii_alphabetic x) (nat_eq x 95) w) [
-          inl a ↦
-            elim (or_cases (nat_le 65 x && nat_le x 90) (nat_le 97 x && nat_le x 122) a) [
-              inl b ↦ omega (arith, leb-true x 90 (and_parts (nat_le 65 x) (nat_le x 90) b).1)
-              | inr b ↦ omega (arith, leb-true x 122 (and_parts (nat_le 97 x) (nat_le x 122) b).1)
-            ]
-          | inr u ↦ omega (arith, eqb-true x 95 u)
-        ]
+      | inl w ↦
+          elim (or_cases (is_ascii_alphabetic x) (nat_eq x 95) w) [
+            | inl a ↦
+                elim (or_cases (nat_le 65 x && nat_le x 90) (nat_le 97 x && nat_le x 122) a) [
+                  | inl b ↦ omega (arith, leb-true x 90 (and_parts (nat_le 65 x) (nat_le x 90) b).1)
+                  | inr b ↦ omega (arith, leb-true x 122 (and_parts (nat_le 97 x) (nat_le x 122) b).1)
+                ]
+            | inr u ↦ omega (arith, eqb-true x 95 u)
+          ]
       | inr d ↦ omega (arith, leb-true x 57 (and_parts (nat_le 48 x) (nat_le x 57) d).1)
     ]
 
@@ -48,12 +48,12 @@ word_is_text xs =
 
 pub whole_list : (bytes : List ℕ) (tokens : List Token) (read valid : ℕ) → IsWholeCut bytes tokens read → valid ≡ utf8_valid_len bytes → read ≤ valid → IsTokenList bytes tokens
 whole_list bytes tokens read valid w e h = record {
-      parts = w.parts;
-      left = w.left;
-      whole = w.whole;
-      utf8 = omega (arith, w.reach, e, h);
-      are = w.are
-    }
+  parts = w.parts;
+  left = w.left;
+  whole = w.whole;
+  utf8 = omega (arith, w.reach, e, h);
+  are = w.are;
+}
 
 pub whole_fault : (bytes : List ℕ) (tokens : List Token) (read valid : ℕ) → IsWholeCut bytes tokens read → valid ≡ utf8_valid_len bytes → valid < read → IsLexicalFault bytes valid k.Utf8
 whole_fault bytes tokens read valid w e h =
@@ -77,16 +77,16 @@ left_is bytes at far wrong s =
 
 stops : (bytes : List ℕ) (at far : ℕ) (wrong : Wrong) (kind : Kind) → IsStoppedCut bytes at far wrong → kind ≡ kind_of_fault wrong (drop at bytes) → Stops bytes (at + far) kind
 stops bytes at far wrong kind s e = record {
-      parts = s.parts;
-      left = s.left;
-      cuts = s.cuts;
-      no_gap = s.no_gap;
-      wrong = wrong;
-      far = far;
-      fault = s.fault;
-      there = omega (arith, s.reach);
-      named = subst (λ x. kind ≡ kind_of_fault wrong x) (left_is bytes at far wrong s) e
-    }
+  parts = s.parts;
+  left = s.left;
+  cuts = s.cuts;
+  no_gap = s.no_gap;
+  wrong = wrong;
+  far = far;
+  fault = s.fault;
+  there = omega (arith, s.reach);
+  named = subst (λ x. kind ≡ kind_of_fault wrong x) (left_is bytes at far wrong s) e;
+}
 
 pub stopped_text : (bytes : List ℕ) (at far valid : ℕ) (wrong : Wrong) → IsStoppedCut bytes at far wrong → valid ≡ utf8_valid_len bytes → valid ≤ at + far → IsLexicalFault bytes valid k.Utf8
 stopped_text bytes at far valid wrong s e h =
@@ -101,9 +101,9 @@ stopped_fault bytes at far valid wrong kind s e h n =
 
 pub fault_is : (fault : LexFault) (bytes : List ℕ) (place : ℕ) (kind : Kind) → IsAt fault bytes place kind → IsLexicalFault bytes place kind → IsFaultOf bytes fault
 fault_is (l.At line column kind') bytes place kind is f = record {
-      place = place;
-      fault = subst (λ x. IsLexicalFault bytes place x) (sym is.2) f;
-      line_is = is.0;
-      column_is = is.1
-    }
+  place = place;
+  fault = subst (λ x. IsLexicalFault bytes place x) (sym is.2) f;
+  line_is = is.0;
+  column_is = is.1;
+}
 fault_is l.NoMemory bytes place kind is f = absurd is

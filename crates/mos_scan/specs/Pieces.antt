@@ -81,11 +81,11 @@ in_initializations before _ = before
 
 unfoldable pub behind_next : Behind → TokenKind → Behind
 behind_next behind kind = record {
-    depth = depth_behind behind.depth kind;
-    goes_on = goes_on kind;
-    declarations = in_declarations behind.declarations kind;
-    parameters = in_parameters behind.parameters kind;
-    initializations = in_initializations behind.initializations kind
+  depth = depth_behind behind.depth kind;
+  goes_on = goes_on kind;
+  declarations = in_declarations behind.declarations kind;
+  parameters = in_parameters behind.parameters kind;
+  initializations = in_initializations behind.initializations kind;
 }
 
 -- ---- the piece that is read
@@ -116,12 +116,12 @@ open_at place = record { from = place; to = place; line = 0; opening = o.Nothing
 
 unfoldable pub open_with : Open → Token → Open
 open_with piece token = record {
-    from = piece.from;
-    to = piece.to + 1;
-    line = if piece.from == piece.to then token.line else piece.line;
-    opening = opening_with piece.opening token.kind;
-    depth = depth_behind piece.depth token.kind;
-    last = token.kind
+  from = piece.from;
+  to = piece.to + 1;
+  line = if piece.from == piece.to then token.line else piece.line;
+  opening = opening_with piece.opening token.kind;
+  depth = depth_behind piece.depth token.kind;
+  last = token.kind;
 }
 
 -- ---- where a piece ends

@@ -4,11 +4,7 @@ use mos_text::{Kind, NoMemory};
 #[derive(Debug, Drop)]
 pub enum LexFault {
     /// The first fault, with its line and its column in characters, both from 1.
-    At {
-        line: u32,
-        column: u32,
-        kind: Kind,
-    },
+    At { line: u32, column: u32, kind: Kind },
     NoMemory,
 }
 

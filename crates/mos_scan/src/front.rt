@@ -4,7 +4,8 @@ ghost use Rattle.mos_scan.specs.Fronts as fronts;
 
 use crate::TokenKind;
 use crate::character::{
-    begins_name, begins_with, digits_length, is_blank, is_escape, is_quote, line_length, word_length,
+    begins_name, begins_with, digits_length, is_blank, is_escape, is_quote, line_length,
+    word_length,
 };
 use crate::symbol::{one_byte, two_bytes};
 use crate::word::{end_at, is_refused, plain_word};
@@ -167,7 +168,11 @@ fn word_fault(text: &[u8]) -> Option<(Wrong, usize)>
     ensures within { IfSome result (λ x. x.1 ≤ length text.now) }
 {
     let (word, _) = text.split_at(word_length(text));
-    if is_refused(word) { Some((Wrong::Out, 0)) } else { None }
+    if is_refused(word) {
+        Some((Wrong::Out, 0))
+    } else {
+        None
+    }
 }
 
 fn symbol_fault(first: u8, rest: &[u8]) -> Option<(Wrong, usize)>

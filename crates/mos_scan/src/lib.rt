@@ -17,3 +17,6 @@ pub use fault::LexFault;
 pub use piece::{Piece, pieces};
 pub use scanner::scan;
 pub use token::{Token, TokenKind};
+
+#[cfg(test)]
+mod tests;

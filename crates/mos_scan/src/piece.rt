@@ -237,7 +237,11 @@ fn open_with(piece: Open, token: &Token) -> Open
     Open {
         from: piece.from,
         to: piece.to + 1,
-        line: if piece.from == piece.to { token.line } else { piece.line },
+        line: if piece.from == piece.to {
+            token.line
+        } else {
+            piece.line
+        },
         opening: opening_with(piece.opening, token.kind),
         depth: depth_behind(piece.depth, token.kind),
         last: token.kind,
@@ -331,8 +335,10 @@ fn ends_by_opening(behind: &Behind, piece: &Open) -> bool
 {
     match piece.opening {
         Opening::Nothing => false,
-        Opening::Bracket => piece.depth == 0 || (is_colon(piece.last) && ends_at_colon(behind, piece.opening)),
-        Opening::Case => is_of(piece.last) || (is_colon(piece.last) && ends_at_colon(behind, piece.opening)),
+        Opening::Bracket => piece.depth == 0
+            || (is_colon(piece.last) && ends_at_colon(behind, piece.opening)),
+        Opening::Case => is_of(piece.last)
+            || (is_colon(piece.last) && ends_at_colon(behind, piece.opening)),
         _ => is_colon(piece.last) && ends_at_colon(behind, piece.opening),
     }
 }
@@ -380,7 +386,12 @@ fn starts(behind: &Behind, piece: &Open, kind: TokenKind) -> bool
 }
 
 /// Takes a token more: what was open is closed before it, or goes on with it.
-fn take_token(found: &mut Vec<Piece>, behind: &Behind, piece: Open, token: &Token) -> Result<Open, NoMemory>
+fn take_token(
+    found: &mut Vec<Piece>,
+    behind: &Behind,
+    piece: Open,
+    token: &Token,
+) -> Result<Open, NoMemory>
     requires depth { piece.depth < 2 ^ 32 - 1 }
     requires place { piece.to < 2 ^ 32 - 1 }
     ensures value { IfOk result (λ next. (ts : List token_type) → found.new.items ++ spec.pieces_from (spec.behind_next behind.now token.now.kind) next ts ≡ found.old.items ++ spec.pieces_from behind.now piece (token.now ∷ ts)) }

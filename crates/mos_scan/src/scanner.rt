@@ -57,7 +57,12 @@ fn cut_all(alloc: Global, bytes: &[u8]) -> Result<Cut, NoMemory>
             Front::Token(kind, length) => {
                 let (text, after) = rest.split_at(length);
                 let to = at + length as u32;
-                tokens.push(Token { kind, line, from: at, to })?;
+                tokens.push(Token {
+                    kind,
+                    line,
+                    from: at,
+                    to,
+                })?;
                 if is_end_model(kind) {
                     return Ok(Cut::Whole(tokens, to));
                 }

@@ -204,7 +204,11 @@ pub(crate) fn end_at(text: &[u8]) -> Option<(TokenKind, usize)>
     match text {
         [e, n, d, b'-', ..] => {
             let head = [*e, *n, *d];
-            if same_word(&head, b"end") { front_end(&ENDS, text) } else { None }
+            if same_word(&head, b"end") {
+                front_end(&ENDS, text)
+            } else {
+                None
+            }
         }
         _ => None,
     }

@@ -11,12 +11,12 @@ loop-rest-preserved-in-Gap c = scanned_gap _ c.loop-rest.rest.now _ _ _ c.loop-r
 pub loop-rest-preserved : goal.loop-rest-preserved
 loop-rest-preserved c =
     subst (λ (ts : List Token). Scanned c.args.bytes.now c.split_at-in-Token.result.1.now (c.loop-rest.at + c.in-Token.length) (c.loop-rest.line + c.newlines-in-Token.result) ts) (sym c.in_ok-push-in-Token.ensures.items)
-      (scanned_token c.args.bytes.now c.loop-rest.rest.now c.loop-rest.at c.loop-rest.line c.loop-rest.tokens.items c.loop-rest.invariant c.in-Token.kind c.in-Token.length c.in-Token.ensures.stands (sym c.if-is_end_model.ensures) c.split_at-in-Token.result.0.now c.split_at-in-Token.result.1.now c.split_at-in-Token.ensures.front c.split_at-in-Token.ensures.back c.newlines-in-Token.result c.newlines-in-Token.ensures.value)
+    (scanned_token c.args.bytes.now c.loop-rest.rest.now c.loop-rest.at c.loop-rest.line c.loop-rest.tokens.items c.loop-rest.invariant c.in-Token.kind c.in-Token.length c.in-Token.ensures.stands (sym c.if-is_end_model.ensures) c.split_at-in-Token.result.0.now c.split_at-in-Token.result.1.now c.split_at-in-Token.ensures.front c.split_at-in-Token.ensures.back c.newlines-in-Token.result c.newlines-in-Token.ensures.value)
 
 pub returns-then-is_end_model : goal.returns-then-is_end_model
 returns-then-is_end_model c =
     subst (λ (ts : List Token). IsWholeCut c.args.bytes.now ts (c.loop-rest.at + c.in-Token.length)) (sym c.in_ok-push-in-Token.ensures.items)
-      (scanned_end c.args.bytes.now c.loop-rest.rest.now c.loop-rest.at c.loop-rest.line c.loop-rest.tokens.items c.loop-rest.invariant c.in-Token.kind c.in-Token.length c.in-Token.ensures.stands (sym c.if-is_end_model.ensures))
+    (scanned_end c.args.bytes.now c.loop-rest.rest.now c.loop-rest.at c.loop-rest.line c.loop-rest.tokens.items c.loop-rest.invariant c.in-Token.kind c.in-Token.length c.in-Token.ensures.stands (sym c.if-is_end_model.ensures))
 
 pub returns : goal.returns
 returns c = scanned_whole _ c.loop-rest.rest.now _ _ _ c.loop-rest.invariant (eqb-true _ _ (sym c.loop-rest-test.ensures))

@@ -19,4 +19,4 @@ pub returns-in_ok-kind-in-Stopped-clause-fault : goal.returns-in_ok-kind-in-Stop
 returns-in_ok-kind-in-Stopped-clause-fault c =
     let s : IsStoppedCut c.args.bytes.now c.in-Stopped.at c.in-Stopped.far c.in-Stopped.wrong = subst (IsCut c.args.bytes.now) c.in-Stopped.is c.in_ok-tokens.ensures in
     fault_is _ _ _ _ c.fault_at-in-Stopped.ensures
-      (stopped_fault c.args.bytes.now _ _ _ _ _ s c.valid_length-valid.ensures.value c.if-valid-place.false (c.in_ok-kind-in-Stopped.ensures ∙ ap (λ x. kind_of_fault c.in-Stopped.wrong x) c.split_at.ensures.back))
+    (stopped_fault c.args.bytes.now _ _ _ _ _ s c.valid_length-valid.ensures.value c.if-valid-place.false (c.in_ok-kind-in-Stopped.ensures ∙ ap (λ x. kind_of_fault c.in-Stopped.wrong x) c.split_at.ensures.back))
