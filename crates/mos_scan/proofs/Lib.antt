@@ -4,4 +4,5 @@ pub mod Looks
 pub mod Numbers
 pub mod One
 pub mod Scans
+pub mod Texts
 pub mod Verdicts

@@ -8,6 +8,7 @@ mod character;
 mod fault;
 mod front;
 mod piece;
+mod reading;
 mod scanner;
 mod symbol;
 mod token;
@@ -15,6 +16,7 @@ mod word;
 
 pub use fault::LexFault;
 pub use piece::{Piece, pieces};
+pub use reading::{Word, words};
 pub use scanner::scan;
 pub use token::{Token, TokenKind};
 

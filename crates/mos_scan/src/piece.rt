@@ -163,7 +163,7 @@ fn in_initializations(before: bool, kind: TokenKind) -> bool
 
 /// What is known behind a token more.
 #[tactic(auto, unfolding(crate::specs::Pieces::behind_next))]
-fn behind_next(behind: Behind, kind: TokenKind) -> Behind
+pub(crate) fn behind_next(behind: Behind, kind: TokenKind) -> Behind
     requires { behind.depth < 2 ^ 32 - 1 }
     ensures value { result ≡ spec.behind_next behind kind }
     ensures near { result.depth ≤ behind.depth + 1 }
@@ -174,6 +174,19 @@ fn behind_next(behind: Behind, kind: TokenKind) -> Behind
         declarations: in_declarations(behind.declarations, kind),
         parameters: in_parameters(behind.parameters, kind),
         initializations: in_initializations(behind.initializations, kind),
+    }
+}
+
+/// What is known before all tokens.
+pub(crate) fn nothing_behind() -> Behind
+    ensures { result ≡ spec.nothing_behind }
+{
+    Behind {
+        depth: 0,
+        goes_on: false,
+        declarations: false,
+        parameters: false,
+        initializations: false,
     }
 }
 
@@ -353,7 +366,7 @@ fn ends_piece(behind: &Behind, piece: &Open) -> bool
 
 /// Whether the token belongs to no piece.
 #[tactic(auto, unfolding(crate::specs::Pieces::separates))]
-fn separates(behind: &Behind, kind: TokenKind) -> bool
+pub(crate) fn separates(behind: &Behind, kind: TokenKind) -> bool
     ensures { result ≡ spec.separates behind.now kind }
 {
     match kind {
@@ -417,13 +430,7 @@ pub fn pieces(alloc: Global, tokens: &[Token]) -> Result<Vec<Piece>, NoMemory>
     ensures { IfOk result (λ v. v.items ≡ spec.pieces_of tokens.now) }
 {
     let mut found = Vec::new(alloc);
-    let mut behind = Behind {
-        depth: 0,
-        goes_on: false,
-        declarations: false,
-        parameters: false,
-        initializations: false,
-    };
+    let mut behind = nothing_behind();
     let mut piece = open_at(0);
     for token in tokens {
         piece = take_token(&mut found, &behind, piece, token)?;

@@ -1,4 +1,4 @@
-use crate::{LexFault, pieces, scan};
+use crate::{LexFault, pieces, scan, words};
 use std::alloc::Global;
 
 /// A source, the line and column of its fault, and the word for it.
@@ -110,4 +110,27 @@ fn no_utf8(rt: HostRuntime) {
     assert_eq!(rt; found.0, 2);
     assert_eq!(rt; found.1, 2);
     assert_eq!(rt; found.2, "UTF8");
+}
+
+/// The words of the tokens, where memory suffices.
+fn words_count(alloc: Global, source: &[u8]) -> usize {
+    if source.len() > 1048576 {
+        return 9999;
+    }
+    let Ok(tokens) = scan(alloc, source) else {
+        return 9999;
+    };
+    if tokens.len() > 1048576 {
+        return 9999;
+    }
+    match words(alloc, source, &tokens) {
+        Ok(found) => found.len(),
+        Err(_) => 9999,
+    }
+}
+
+#[test]
+fn idle_newlines_are_no_words(rt: HostRuntime) {
+    assert_eq!(rt; words_count(rt.alloc(), b"x:=1+\n2\ny"), 7);
+    assert_eq!(rt; words_count(rt.alloc(), b"f(1\n,'a\\'\n)"), 6);
 }
