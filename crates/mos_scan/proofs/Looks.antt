@@ -1,5 +1,5 @@
-use Rattle.std.proofs.Common.{◌≡◌, ◌≢◌, ℕ, zero, suc, ◌+◌, ◌-◌, ◌<◌, ◌≤◌, nat_eq, Bool, true, false, not, ◌&&◌, ◌||◌, cond, if◌then◌else◌, List, [], ◌∷◌, ◌++◌, length, take, drop, Option, Some, None, unwrap_or, refl, sym, ◌∙◌, ap, subst, arith, append_assoc, length-append}
-use Rattle.std.proofs.lemmas.Bool.{and_parts, and_from, and_left, eqb-true, eqb-false, ne_eqb, eq-eqb}
+use Rattle.std.proofs.Common.{◌≡◌, ◌≢◌, ℕ, zero, suc, ◌+◌, ◌<◌, ◌≤◌, nat_eq, Bool, true, false, not, ◌&&◌, List, [], ◌∷◌, ◌++◌, length, take, drop, Option, Some, None, unwrap_or, refl, sym, ◌∙◌, ap, subst, arith, append_assoc, length-append}
+use Rattle.std.proofs.lemmas.Bool.{and_parts, ne_eqb, eq-eqb}
 use Rattle.std.proofs.lemmas.List.{take-append-drop, append-nil, length-take-le, length-drop}
 use Rattle.std.proofs.lemmas.List.Sums.{prefix_len-le-length}
 use Rattle.std.proofs.Math.Seq.{take-append_seam, drop-append_seam}
@@ -7,13 +7,12 @@ use Rattle.std.specs.List.{list_all, prefix_len}
 use Rattle.std.specs.Char.{is_ascii_digit}
 use Rattle.mos_scan.specs.declared.token.TokenKind.{TokenKind}
 use Rattle.mos_scan.specs.declared.token.TokenKind.TheVariants as t
-use Rattle.mos_scan.specs.declared.front.Wrong.{Wrong}
 use Rattle.mos_scan.specs.declared.front.Wrong.TheVariants as w
 use Rattle.mos_scan.specs.Characters.{begins_name, is_word, is_quote, is_blank, is_inside}
 use Rattle.mos_scan.specs.Words.{end_word, end_at, plain_word, is_refused}
-use Rattle.mos_scan.specs.Tokens.{when, begins_with, comment_end, closing, one_byte, two_bytes, symbol, end_or_plain, is_length, kind_of, gap_at, fault_at, word_fault, text_fault, closed_or_wrong, symbol_fault, escape_fault}
+use Rattle.mos_scan.specs.Tokens.{begins_with, comment_end, closing, one_byte, two_bytes, symbol, kind_of, gap_at, fault_at, word_fault, text_fault, symbol_fault}
 use Rattle.mos_scan.specs.Fronts.{Longest, Stands, front, gap_or_else, fault_or_token, token_at, word_at, end_or_word, two_or_one, symbol_at, quoted_at}
-use Rattle.mos_scan.proofs.Lists.{on_bool, not_both, Run, run_of, run_over, StopsAt}
+use Rattle.mos_scan.proofs.Lists.{on_bool, Run, run_of, run_over}
 use Rattle.mos_scan.proofs.Ends.{EndAt, end_token, no_end, word_is_no_end}
 
 -- ---- texts in quotes

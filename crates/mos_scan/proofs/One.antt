@@ -1,5 +1,4 @@
-use Rattle.std.proofs.Common.{◌≡◌, ◌≢◌, ℕ, ◌+◌, ◌<◌, ◌≤◌, ◌⊎◌, inl, inr, Bool, true, false, List, [], ◌∷◌, ◌++◌, length, Option, Some, None, Result, Ok, Err, IfOk, IfErr, refl, sym, ◌∙◌, ap, subst, arith, append_assoc, length-append}
-use Rattle.std.specs.Str.Lossy.{utf8_valid_len}
+use Rattle.std.proofs.Common.{◌≡◌, ℕ, ◌⊎◌, inl, inr, true, false, List, [], ◌∷◌, ◌++◌, length, Option, Some, None, Result, Ok, Err, IfOk, IfErr, refl, sym, ◌∙◌, ap, subst, arith, length-append}
 use Rattle.mos_text.specs.declared.kind.Kind.{Kind}
 use Rattle.mos_scan.specs.declared.token.TokenKind.{TokenKind}
 use Rattle.mos_scan.specs.declared.token.TokenKind.TheVariants.{EndModel}
@@ -7,9 +6,9 @@ use Rattle.mos_scan.specs.declared.token.Token.{Token}
 use Rattle.mos_scan.specs.declared.front.Wrong.{Wrong}
 use Rattle.mos_scan.specs.declared.fault.LexFault.{LexFault}
 use Rattle.mos_scan.specs.declared.fault.LexFault.TheVariants as l
-use Rattle.mos_scan.specs.Scans.{IsFaultAt, IsFaultOf, IsNoMemory}
+use Rattle.mos_scan.specs.Scans.{IsFaultOf, IsNoMemory}
 use Rattle.mos_scan.specs.Tokens.{gap_at, fault_at, kind_of}
-use Rattle.mos_scan.specs.Cuts.{Part, gap, token, text_of, is_end, IsPart, IsToken, Cuts, Whole, up_to_the_end, up_to_end_model, tokens_from, Stops, IsRead, read_whole, read_to_fault, IsTokenList, IsLexicalFault, no_utf8, no_token}
+use Rattle.mos_scan.specs.Cuts.{Part, gap, token, text_of, is_end, IsPart, IsToken, Cuts, Whole, up_to_the_end, up_to_end_model, tokens_from, Stops, read_whole, read_to_fault, IsTokenList, IsLexicalFault, no_utf8, no_token}
 
 -- two ways to cut one text: one front goes on behind the other
 abbrev Ahead : List ℕ → List ℕ → List ℕ → List ℕ → Type 0

@@ -1,5 +1,4 @@
-use Rattle.std.proofs.Common.{◌≡◌, ◌≢◌, ℕ, ◌+◌, ◌-◌, ◌<◌, ◌≤◌, Bool, true, false, List, [], ◌∷◌, ◌++◌, length, take, drop, Option, Some, None, refl, sym, ◌∙◌, ap, subst, arith, append_assoc, length-append, add_assoc}
-use Rattle.std.proofs.Math.Seq.{take-append_seam}
+use Rattle.std.proofs.Common.{◌≡◌, ℕ, ◌+◌, ◌≤◌, true, false, List, [], ◌∷◌, ◌++◌, length, take, drop, Some, None, refl, sym, ◌∙◌, ap, subst, arith, length-append}
 use Rattle.mos_scan.specs.declared.token.TokenKind.{TokenKind}
 use Rattle.mos_scan.specs.declared.token.Token.{Token}
 use Rattle.mos_scan.specs.declared.token.TokenKind.TheVariants.{EndModel}
@@ -9,7 +8,7 @@ use Rattle.mos_scan.specs.Scans.{IsWholeCut}
 use Rattle.mos_scan.proofs.Looks.{take_front, drop_front}
 use Rattle.std.proofs.lemmas.List.{take-append-drop, length-take-le}
 use Rattle.std.proofs.lemmas.List.Sums.{count_by-le-length}
-use Rattle.mos_scan.specs.Tokens.{gap_at, fault_at, kind_of}
+use Rattle.mos_scan.specs.Tokens.{gap_at, fault_at}
 use Rattle.mos_scan.specs.Cuts.{Part, gap, token, text_of, is_end, is_end_model, IsPart, IsToken, Cuts, Whole, up_to_the_end, up_to_end_model, is_newline, newlines, token_of, tokens_from}
 
 abbrev pub size : List Part → ℕ

@@ -1,8 +1,7 @@
-use Rattle.std.proofs.Common.{◌≡◌, ℕ, pos, min, ◌<◌, ◌≤◌, nat_eq, true, List, length, refl, sym, ◌∙◌, ap, arith}
+use Rattle.std.proofs.Common.{◌≡◌, ℕ, pos, min, ◌<◌, true, List, refl, ap, arith}
 use Rattle.std.proofs.lemmas.Bool.{eq-eqb}
 use Rattle.std.proofs.lemmas.Str.{utf8_valid_len-IsUtf8}
 use Rattle.std.specs.Str.{IsUtf8}
-use Rattle.std.specs.Str.Lossy.{utf8_valid_len}
 use Rattle.mos_scan.specs.declared.reading.Word.TheVariants as w
 use Rattle.mos_scan.specs.Tokens.{number_from}
 use Rattle.mos_scan.specs.Reading.{literal, is_text, named, text_of}

@@ -1,4 +1,4 @@
-use Rattle.std.proofs.Common.{◌≡◌, ℕ, zero, suc, ◌+◌, ◌<◌, ◌≤◌, ◌⊎◌, inl, inr, nat_eq, nat_le, Bool, true, false, ◌||◌, ◌&&◌, List, [], ◌∷◌, ◌++◌, length, take, drop, slice_index, Option, Some, None, refl, sym, ◌∙◌, ap, subst, arith, append_assoc, length-append}
+use Rattle.std.proofs.Common.{◌≡◌, ℕ, zero, suc, ◌+◌, ◌<◌, ◌≤◌, inl, inr, nat_eq, nat_le, true, ◌&&◌, List, [], ◌∷◌, ◌++◌, length, take, drop, refl, sym, ◌∙◌, ap, subst, arith, append_assoc, length-append}
 use Rattle.std.proofs.lemmas.Bool.{or_cases, and_parts, leb-true, eqb-true}
 use Rattle.std.proofs.lemmas.Str.{IsUtf8-from_ascii}
 use Rattle.std.specs.Str.{IsAscii, IsUtf8}
@@ -12,8 +12,8 @@ use Rattle.mos_scan.specs.declared.front.Wrong.{Wrong}
 use Rattle.mos_scan.specs.declared.fault.LexFault.{LexFault}
 use Rattle.mos_scan.specs.declared.fault.LexFault.TheVariants as l
 use Rattle.mos_scan.specs.Characters.{is_word, begins_name}
-use Rattle.mos_scan.specs.Cuts.{Part, text_of, Cuts, Whole, Stops, IsRead, read_whole, read_to_fault, IsTokenList, IsLexicalFault, no_utf8, no_token, kind_of_fault}
-use Rattle.mos_scan.specs.Scans.{IsWholeCut, IsStoppedCut, IsFaultAt, IsFaultOf, IsAt, IsNoMemory}
+use Rattle.mos_scan.specs.Cuts.{Part, text_of, Cuts, Stops, read_whole, read_to_fault, IsTokenList, IsLexicalFault, no_utf8, no_token, kind_of_fault}
+use Rattle.mos_scan.specs.Scans.{IsWholeCut, IsStoppedCut, IsFaultOf, IsAt}
 use Rattle.mos_scan.proofs.Lists.{Run, run_of, all_head, all_tail}
 use Rattle.mos_scan.proofs.Looks.{take_front, drop_front}
 

@@ -1,4 +1,4 @@
-use Rattle.std.specs.Prelude.{ℕ, Bool, ◌&&◌, ◌||◌, ◌==◌, not}
+use Rattle.std.specs.Prelude.{ℕ, Bool, ◌||◌, ◌==◌, not}
 use Rattle.std.specs.Char.{is_ascii_alphabetic, is_ascii_digit}
 
 -- space, tab, carriage return

@@ -1,4 +1,4 @@
-use Rattle.std.specs.Prelude.{◌≡◌, ℕ, ◌+◌, ◌-◌, Bool, true, false, not, ◌&&◌, ◌||◌, if◌then◌else◌, ◌==◌, nat_lt, List, [], ◌∷◌, ◌++◌}
+use Rattle.std.specs.Prelude.{ℕ, ◌+◌, ◌-◌, Bool, true, false, not, ◌&&◌, ◌||◌, if◌then◌else◌, ◌==◌, nat_lt, List, [], ◌∷◌, ◌++◌}
 use Rattle.mos_scan.specs.declared.token.TokenKind.{TokenKind}
 use Rattle.mos_scan.specs.declared.token.TokenKind.TheVariants.{Newline, Semicolon, Colon, Of, Plus, Minus, Times, Equal, Less, Greater, NotEqual, AtMost, AtLeast, DotDot, Comma, Assign, AddAssign, TakeAssign, Fill, Bar, Dot, OpenRound, OpenSquare, OpenCurly, CloseRound, CloseSquare, CloseCurly, And, Or, Not, In, Div, Mod, Union, Inter, Declarations, EndDeclarations, Parameters, EndParameters, Initializations, EndInitializations, Forall, While, Case, Procedure, Function, Forward, Elif, Else, Until, EndCase, EndDo, EndFunction, EndIf, EndModel, EndProcedure, EndRecord, Then, Do, Repeat, Record}
 use Rattle.mos_scan.specs.declared.token.Token.{Token}

@@ -1,4 +1,4 @@
-use Rattle.std.specs.Prelude.{◌≡◌, ℕ, ℤ, pos, ◌+◌, ◌-◌, ◌*◌, min, Bool, true, false, not, if◌then◌else◌, ◌==◌, List, [], ◌∷◌, ◌++◌, length, take, drop}
+use Rattle.std.specs.Prelude.{ℕ, ℤ, pos, ◌-◌, min, Bool, true, false, not, if◌then◌else◌, ◌==◌, List, [], ◌∷◌, length, take, drop}
 use Rattle.std.specs.Str.Lossy.{utf8_valid_len}
 use Rattle.mos_scan.specs.Tokens.{number_from}
 use Rattle.mos_scan.specs.Pieces.{separates, behind_next, nothing_behind}

@@ -1,6 +1,6 @@
-use Rattle.std.specs.Prelude.{◌≡◌, ◌≢◌, ℕ, ◌+◌, ◌<◌, ◌≤◌, List, [], length, Option, Some, None}
+use Rattle.std.specs.Prelude.{◌≡◌, ℕ, ◌+◌, ◌≤◌, List, length, Some, None}
 use Rattle.mos_scan.specs.Tokens.{gap_at, fault_at}
-use Rattle.mos_scan.specs.Cuts.{Part, Cuts, Whole, tokens_from, IsTokenList, IsLexicalFault, line_of, column_of}
+use Rattle.mos_scan.specs.Cuts.{Part, Cuts, Whole, tokens_from, IsLexicalFault, line_of, column_of}
 use Rattle.mos_text.specs.declared.kind.Kind.{Kind}
 use Rattle.mos_scan.specs.declared.token.Token.{Token}
 use Rattle.mos_scan.specs.declared.front.Wrong.{Wrong}

@@ -1,5 +1,4 @@
-use Rattle.std.proofs.Common.{◌+◌, sym, subst, ap, ◌∙◌}
-use Rattle.mos_text.specs.declared.kind.Kind.TheVariants as k
+use Rattle.std.proofs.Common.{subst, ap, ◌∙◌}
 use Rattle.mos_scan.specs.Cuts.{kind_of_fault}
 use Rattle.mos_scan.specs.Scans.{IsCut, IsWholeCut, IsStoppedCut}
 use Rattle.mos_scan.proofs.Verdicts.{whole_fault, stopped_text, stopped_fault, fault_is}
