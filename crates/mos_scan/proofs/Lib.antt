@@ -3,6 +3,7 @@ pub mod Lists
 pub mod Looks
 pub mod Numbers
 pub mod One
+pub mod Laid
 pub mod Scans
 pub mod Texts
 pub mod Verdicts

@@ -1,4 +1,4 @@
-use Rattle.std.specs.Prelude.{ℕ, ◌+◌, ◌-◌, Bool, true, false, not, ◌&&◌, ◌||◌, if◌then◌else◌, ◌==◌, nat_lt, List, [], ◌∷◌, ◌++◌}
+use Rattle.std.specs.Prelude.{◌≡◌, ℕ, ◌+◌, ◌-◌, Bool, true, false, not, ◌&&◌, ◌||◌, if◌then◌else◌, ◌==◌, nat_lt, List, [], ◌∷◌, ◌++◌, length}
 use Rattle.mos_scan.specs.declared.token.TokenKind.{TokenKind}
 use Rattle.mos_scan.specs.declared.token.TokenKind.TheVariants.{Newline, Semicolon, Colon, Of, Plus, Minus, Times, Equal, Less, Greater, NotEqual, AtMost, AtLeast, DotDot, Comma, Assign, AddAssign, TakeAssign, Fill, Bar, Dot, OpenRound, OpenSquare, OpenCurly, CloseRound, CloseSquare, CloseCurly, And, Or, Not, In, Div, Mod, Union, Inter, Declarations, EndDeclarations, Parameters, EndParameters, Initializations, EndInitializations, Forall, While, Case, Procedure, Function, Forward, Elif, Else, Until, EndCase, EndDo, EndFunction, EndIf, EndModel, EndProcedure, EndRecord, Then, Do, Repeat, Record}
 use Rattle.mos_scan.specs.declared.token.Token.{Token}
@@ -214,3 +214,17 @@ nothing_behind = record { depth = 0; goes_on = false; declarations = false; para
 
 abbrev pub pieces_of : List Token → List Piece
 pieces_of tokens = pieces_from nothing_behind (open_at 0) tokens
+
+-- ---- what pieces are to the tokens
+
+-- a token that can stand between pieces
+abbrev pub IsBetween : TokenKind → Type 0
+IsBetween Semicolon = Unit {0}
+IsBetween Newline = Unit {0}
+IsBetween _ = ⊥
+
+-- the tokens from a place on are these pieces in order, each with a token, and nothing but separators between them
+pub data AreLaid : ℕ → List Token → List Piece → Type 0 where
+  laid_end : (at : ℕ) → AreLaid at [] []
+  laid_separator : (at : ℕ) (t : Token) (ts : List Token) (ps : List Piece) → IsBetween t.kind → AreLaid (at + 1) ts ps → AreLaid at (t ∷ ts) ps
+  laid_piece : (at to : ℕ) (t : Token) (xs ts : List Token) (ps : List Piece) → to ≡ at + length xs + 1 → AreLaid to ts ps → AreLaid at (t ∷ (xs ++ ts)) (record { from = at; to = to; line = t.line } ∷ ps)

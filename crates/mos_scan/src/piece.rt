@@ -422,10 +422,7 @@ fn take_token(
     Ok(open_with(piece, token))
 }
 
-/// The pieces that the tokens are cut into: at each semicolon and each newline that ends something, before
-/// and behind the words that open, part or close a block, behind what a loop or `case` is over, and behind
-/// a label of `case`.
-pub fn pieces(alloc: Global, tokens: &[Token]) -> Result<Vec<Piece>, NoMemory>
+fn all_pieces(alloc: Global, tokens: &[Token]) -> Result<Vec<Piece>, NoMemory>
     requires { length tokens.now ≤ 1048576 }
     ensures { IfOk result (λ v. v.items ≡ spec.pieces_of tokens.now) }
 {
@@ -438,4 +435,15 @@ pub fn pieces(alloc: Global, tokens: &[Token]) -> Result<Vec<Piece>, NoMemory>
     }
     close(&mut found, &piece)?;
     Ok(found)
+}
+
+/// The pieces that the tokens are cut into: at each semicolon and each newline that ends something, before
+/// and behind the words that open, part or close a block, behind what a loop or `case` is over, and behind
+/// a label of `case`.
+pub fn pieces(alloc: Global, tokens: &[Token]) -> Result<Vec<Piece>, NoMemory>
+    requires { length tokens.now ≤ 1048576 }
+    ensures exact { IfOk result (λ v. v.items ≡ spec.pieces_of tokens.now) }
+    ensures laid { IfOk result (λ v. spec.AreLaid 0 tokens.now v.items) }
+{
+    all_pieces(alloc, tokens)
 }

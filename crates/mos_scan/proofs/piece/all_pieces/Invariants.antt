@@ -1,6 +1,6 @@
 use Rattle.std.proofs.Common.{◌≡◌, ◌≤◌, ◌++◌, drop}
 use Rattle.mos_scan.specs.Pieces as spec
-use Rattle.mos_scan.proofs.piece.pieces.Given as goal
+use Rattle.mos_scan.proofs.piece.all_pieces.Given as goal
 
 abbrev pub invariant-loop-token : goal.invariant-loop-token
 invariant-loop-token l = record {
