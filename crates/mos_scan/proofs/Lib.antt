@@ -5,5 +5,6 @@ pub mod Numbers
 pub mod One
 pub mod Laid
 pub mod Scans
+pub mod Tables
 pub mod Texts
 pub mod Verdicts

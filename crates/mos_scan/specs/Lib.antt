@@ -5,4 +5,5 @@ pub mod Pieces
 pub mod Reading
 pub mod Scans
 pub mod Tokens
+pub mod Vocabulary
 pub mod Words

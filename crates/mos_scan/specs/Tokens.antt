@@ -5,7 +5,7 @@ use Rattle.mos_scan.specs.Characters.{is_blank, begins_name, is_word, is_quote, 
 use Rattle.mos_scan.specs.Words.{end_word, plain_word, is_refused}
 use Rattle.mos_scan.specs.declared.token.TokenKind.{TokenKind}
 use Rattle.mos_scan.specs.declared.token.TokenKind.TheVariants as t
-use Rattle.mos_scan.specs.declared.symbol.TheConstants.{SYMBOLS, PAIRS}
+use Rattle.mos_scan.specs.Vocabulary.{symbols, pairs}
 use Rattle.mos_scan.specs.declared.front.Wrong.{Wrong}
 use Rattle.mos_scan.specs.declared.front.Wrong.TheVariants as w
 
@@ -60,10 +60,10 @@ look_up_two [] a b = None
 look_up_two (k ∷ ks) a b = if k.0 == a && k.1 == b then Some k.2 else look_up_two ks a b
 
 unfoldable pub one_byte : ℕ → Option TokenKind
-one_byte a = look_up_one SYMBOLS a
+one_byte a = look_up_one symbols a
 
 unfoldable pub two_bytes : ℕ → ℕ → Option TokenKind
-two_bytes a b = look_up_two PAIRS a b
+two_bytes a b = look_up_two pairs a b
 
 -- the symbol that these bytes are, as a whole
 abbrev pub symbol : ℕ → List ℕ → Option TokenKind

@@ -1,13 +1,10 @@
-use Rattle.std.specs.Prelude.{ℕ, ◌+◌, Bool, true, false, not, ◌&&◌, ◌||◌, if◌then◌else◌, ◌==◌, nat_le, List, [], ◌∷◌, length, map, take, drop, Option, Some, None, unwrap_or, codes}
+use Rattle.std.specs.Prelude.{ℕ, ◌+◌, Bool, true, false, not, ◌&&◌, ◌||◌, if◌then◌else◌, ◌==◌, nat_le, List, [], ◌∷◌, length, take, drop, Option, Some, None, unwrap_or, codes}
 use Rattle.std.specs.List.{list_any}
 use Rattle.std.specs.Char.{is_ascii_lowercase, is_ascii_uppercase}
 use Rattle.std.specs.Str.{str_eq_ignore_ascii_case}
 use Rattle.mos_scan.specs.declared.token.TokenKind.{TokenKind}
 use Rattle.mos_scan.specs.declared.token.TokenKind.TheVariants.{Name}
-use Rattle.mos_scan.specs.declared.word.TheConstants.{RESERVED, ENDS, REFUSED}
-
-abbrev pub Table : Type 0
-Table = List (List ℕ × TokenKind)
+use Rattle.mos_scan.specs.Vocabulary.{Table, reserved_words, ends, refused_words}
 
 -- the same word but for the case of letters
 unfoldable pub same_word : List ℕ → List ℕ → Bool
@@ -26,16 +23,13 @@ abbrev pub contains : List (List ℕ) → List ℕ → Bool
 contains [] word = false
 contains (k ∷ ks) word = if same_word k word then true else contains ks word
 
-abbrev pub ends : Table
-ends = map (λ k. (k.0.now, k.1)) ENDS
-
 -- a word that is left out, in one case
 unfoldable pub is_refused : List ℕ → Bool
-is_refused word = in_one_case word && contains (map (λ k. k.now) REFUSED) word
+is_refused word = in_one_case word && contains refused_words word
 
 -- a word without `end-`: a reserved word in one case, or a name
 unfoldable pub plain_word : List ℕ → TokenKind
-plain_word word = if in_one_case word then unwrap_or (look_up (map (λ k. (k.0.now, k.1)) RESERVED) word) Name else Name
+plain_word word = if in_one_case word then unwrap_or (look_up reserved_words word) Name else Name
 
 -- the `end-` word that a text is, as a whole: `end-` and a word of the table, in one case
 unfoldable pub end_word : List ℕ → Option TokenKind

@@ -2,6 +2,7 @@ ghost use Rattle.std.specs.Prelude.{◌≡◌, ◌≤◌, ◌+◌, length, map, 
 ghost use Rattle.std.specs.List.{list_any};
 ghost use Rattle.std.specs.Char.{is_ascii_lowercase, is_ascii_uppercase};
 ghost use Rattle.mos_scan.specs.Words as spec;
+ghost use Rattle.mos_scan.specs.Vocabulary.{reserved_words, refused_words, ends};
 
 use crate::TokenKind;
 
@@ -146,12 +147,24 @@ fn contains(mut table: &[&[u8]], word: &[u8]) -> bool
     false
 }
 
+fn is_left_out(word: &[u8]) -> bool
+    ensures { result ≡ spec.contains refused_words word.now }
+{
+    contains(&REFUSED, word)
+}
+
 /// Whether the word is one that is left out.
 #[tactic(auto, unfolding(crate::specs::Words::is_refused))]
 pub(crate) fn is_refused(word: &[u8]) -> bool
     ensures { result ≡ spec.is_refused word.now }
 {
-    in_one_case(word) && contains(&REFUSED, word)
+    in_one_case(word) && is_left_out(word)
+}
+
+fn reserved(word: &[u8]) -> Option<TokenKind>
+    ensures { result ≡ spec.look_up reserved_words word.now }
+{
+    look_up(&RESERVED, word)
 }
 
 /// What a word without `end-` is: reserved, or a name.
@@ -160,7 +173,7 @@ pub(crate) fn plain_word(word: &[u8]) -> TokenKind
     ensures { result ≡ spec.plain_word word.now }
 {
     if in_one_case(word) {
-        look_up(&RESERVED, word).unwrap_or(TokenKind::Name)
+        reserved(word).unwrap_or(TokenKind::Name)
     } else {
         TokenKind::Name
     }
@@ -195,6 +208,14 @@ fn is_front(tail: &[u8], text: &[u8]) -> bool
     same_word(tail, rest) && in_one_case(word)
 }
 
+fn end_word(text: &[u8]) -> Option<(TokenKind, usize)>
+    requires { 4 ≤ length text.now }
+    ensures value { result ≡ spec.front_end ends text.now }
+    ensures within { IfSome result (λ x. (4 ≤ x.1) × (x.1 ≤ length text.now)) }
+{
+    front_end(&ENDS, text)
+}
+
 /// The `end-` word with which the text begins, and its length.
 #[tactic(auto, unfolding(crate::specs::Words::end_at))]
 pub(crate) fn end_at(text: &[u8]) -> Option<(TokenKind, usize)>
@@ -205,7 +226,7 @@ pub(crate) fn end_at(text: &[u8]) -> Option<(TokenKind, usize)>
         [e, n, d, b'-', ..] => {
             let head = [*e, *n, *d];
             if same_word(&head, b"end") {
-                front_end(&ENDS, text)
+                end_word(text)
             } else {
                 None
             }
