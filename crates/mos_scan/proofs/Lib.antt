@@ -1,0 +1,10 @@
+pub mod Ends
+pub mod Lists
+pub mod Looks
+pub mod Numbers
+pub mod One
+pub mod Laid
+pub mod Scans
+pub mod Tables
+pub mod Texts
+pub mod Verdicts

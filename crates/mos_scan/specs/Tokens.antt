@@ -1,0 +1,137 @@
+use Rattle.std.specs.Prelude.{ℕ, ◌+◌, ◌*◌, ◌-◌, Bool, true, false, not, ◌&&◌, ◌||◌, if◌then◌else◌, ◌==◌, nat_lt, List, [], ◌∷◌, length, take, drop, Option, Some, None, is_none}
+use Rattle.std.specs.List.{list_all, prefix_len}
+use Rattle.std.specs.Char.{is_ascii_digit}
+use Rattle.mos_scan.specs.Characters.{is_blank, begins_name, is_word, is_quote, is_inside, is_escape}
+use Rattle.mos_scan.specs.Words.{end_word, plain_word, is_refused}
+use Rattle.mos_scan.specs.declared.token.TokenKind.{TokenKind}
+use Rattle.mos_scan.specs.declared.token.TokenKind.TheVariants as t
+use Rattle.mos_scan.specs.Vocabulary.{symbols, pairs}
+use Rattle.mos_scan.specs.declared.front.Wrong.{Wrong}
+use Rattle.mos_scan.specs.declared.front.Wrong.TheVariants as w
+
+abbrev pub when : {A : Type 0} → Bool → A → Option A
+when true x = Some x
+when false x = None
+
+-- the byte at the front is this one
+abbrev pub begins_with : ℕ → List ℕ → Bool
+begins_with b [] = false
+begins_with b (a ∷ bs) = a == b
+
+-- ---- gaps
+
+-- the place behind the first `!)`, for bytes that begin at `at`
+abbrev pub comment_end : ℕ → List ℕ → Option ℕ
+comment_end at [] = None
+comment_end at (a ∷ bs) = if a == 33 && begins_with 41 bs then Some (at + 2) else comment_end (at + 1) bs
+
+-- the blank or comment that begins here, by its length: `!` to the end of the line, `(!` to the next `!)`
+unfoldable pub gap_at : List ℕ → Option ℕ
+gap_at [] = None
+gap_at (a ∷ bs) =
+    if is_blank a then Some 1
+    else (if a == 33 then Some (prefix_len is_inside bs + 1)
+    else (if a == 40 && begins_with 33 bs then comment_end 2 (drop 1 bs) else None))
+
+-- ---- texts in quotes
+
+-- the place behind the closing quote on this line, for bytes that begin at `at`;
+-- in double quotes a backslash and what follows it go together
+abbrev pub closing : ℕ → Bool → ℕ → List ℕ → Option ℕ
+closing quote escaped at [] = None
+closing quote escaped at (b ∷ bs) =
+    if b == 10 then None
+    else (if not escaped && b == quote then Some (at + 1)
+    else closing quote (not escaped && quote == 34 && b == 92) (at + 1) bs)
+
+-- the place of the first byte that makes no escape with the backslash before it
+abbrev pub bad_escape : Bool → ℕ → List ℕ → Option ℕ
+bad_escape escaped at [] = None
+bad_escape escaped at (b ∷ bs) = if escaped && not (is_escape b) then Some at else bad_escape (not escaped && b == 92) (at + 1) bs
+
+-- ---- tokens
+
+abbrev pub look_up_one : List (ℕ × TokenKind) → ℕ → Option TokenKind
+look_up_one [] a = None
+look_up_one (k ∷ ks) a = if k.0 == a then Some k.1 else look_up_one ks a
+
+abbrev pub look_up_two : List (ℕ × ℕ × TokenKind) → ℕ → ℕ → Option TokenKind
+look_up_two [] a b = None
+look_up_two (k ∷ ks) a b = if k.0 == a && k.1 == b then Some k.2 else look_up_two ks a b
+
+unfoldable pub one_byte : ℕ → Option TokenKind
+one_byte a = look_up_one symbols a
+
+unfoldable pub two_bytes : ℕ → ℕ → Option TokenKind
+two_bytes a b = look_up_two pairs a b
+
+-- the symbol that these bytes are, as a whole
+abbrev pub symbol : ℕ → List ℕ → Option TokenKind
+symbol a [] = one_byte a
+symbol a (b ∷ []) = two_bytes a b
+symbol a (b ∷ c ∷ bs) = None
+
+abbrev pub end_or_plain : Option TokenKind → List ℕ → Option TokenKind
+end_or_plain (Some kind) text = Some kind
+end_or_plain None text = when (list_all is_word text && not (is_refused text)) (plain_word text)
+
+abbrev pub is_length : Option ℕ → ℕ → Bool
+is_length None n = false
+is_length (Some m) n = m == n
+
+-- the token that a text is, as a whole
+unfoldable pub kind_of : List ℕ → Option TokenKind
+kind_of [] = None
+kind_of (a ∷ bs) =
+    if begins_name a then end_or_plain (end_word (a ∷ bs)) (a ∷ bs)
+    else (if is_ascii_digit a then when (list_all is_ascii_digit bs) t.Number
+    else (if is_quote a then when (is_length (closing a false 0 bs) (length bs)) t.Text
+    else symbol a bs))
+
+-- ---- faults
+
+-- the value of decimal digits behind those whose value is `n`
+abbrev pub number_from : ℕ → List ℕ → ℕ
+number_from n [] = n
+number_from n (d ∷ ds) = number_from (n * 10 + (d - 48)) ds
+
+-- what is wrong with digits that these bytes follow
+abbrev pub spoils : List ℕ → Option Wrong
+spoils [] = None
+spoils (b ∷ bs) =
+    if b == 101 || b == 69 then Some w.Real
+    else (if begins_name b then Some w.Char
+    else (if b == 46 && not (begins_with 46 bs) then Some w.Real else None))
+
+abbrev pub spoilt_or_large : Option Wrong → List ℕ → Option (Wrong × ℕ)
+spoilt_or_large (Some wrong) digits = Some (wrong, 0)
+spoilt_or_large None digits = when (nat_lt 2147483647 (number_from 0 digits)) (w.Number, 0)
+
+unfoldable pub number_fault : List ℕ → Option (Wrong × ℕ)
+number_fault text = spoilt_or_large (spoils (drop (prefix_len is_ascii_digit text) text)) (take (prefix_len is_ascii_digit text) text)
+
+abbrev pub escape_fault : Option ℕ → Option (Wrong × ℕ)
+escape_fault None = None
+escape_fault (Some far) = Some (w.Char, far)
+
+-- a text that is not closed is wrong at its quote, and else at the first backslash that makes no escape
+abbrev pub closed_or_wrong : ℕ → Option ℕ → List ℕ → Option (Wrong × ℕ)
+closed_or_wrong quote None bs = Some (w.Text, 0)
+closed_or_wrong quote (Some n) bs = if quote == 34 then escape_fault (bad_escape false 0 (take n bs)) else None
+
+unfoldable pub text_fault : ℕ → List ℕ → Option (Wrong × ℕ)
+text_fault quote bs = closed_or_wrong quote (closing quote false 0 bs) bs
+
+unfoldable pub word_fault : List ℕ → Option (Wrong × ℕ)
+word_fault bs = when (is_refused (take (prefix_len is_word bs) bs)) (w.Out, 0)
+
+abbrev pub symbol_fault : ℕ → List ℕ → Option (Wrong × ℕ)
+symbol_fault a bs = if a == 40 && begins_with 33 bs then Some (w.Comment, 0) else when (is_none (one_byte a)) (w.Char, 0)
+
+-- the fault of a place where no gap begins, and how far behind the place its first byte is
+unfoldable pub fault_at : List ℕ → Option (Wrong × ℕ)
+fault_at [] = None
+fault_at (a ∷ bs) =
+    if begins_name a then word_fault (a ∷ bs)
+    else (if is_ascii_digit a then number_fault (a ∷ bs)
+    else (if is_quote a then text_fault a bs else symbol_fault a bs))

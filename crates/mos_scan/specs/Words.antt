@@ -1,0 +1,52 @@
+use Rattle.std.specs.Prelude.{ℕ, ◌+◌, Bool, true, false, not, ◌&&◌, ◌||◌, if◌then◌else◌, ◌==◌, nat_le, List, [], ◌∷◌, length, take, drop, Option, Some, None, unwrap_or, codes}
+use Rattle.std.specs.List.{list_any}
+use Rattle.std.specs.Char.{is_ascii_lowercase, is_ascii_uppercase}
+use Rattle.std.specs.Str.{str_eq_ignore_ascii_case}
+use Rattle.mos_scan.specs.declared.token.TokenKind.{TokenKind}
+use Rattle.mos_scan.specs.declared.token.TokenKind.TheVariants.{Name}
+use Rattle.mos_scan.specs.Vocabulary.{Table, reserved_words, ends, refused_words}
+
+-- the same word but for the case of letters
+unfoldable pub same_word : List ℕ → List ℕ → Bool
+same_word a b = str_eq_ignore_ascii_case a b
+
+-- all letters are small, or all are capital
+abbrev pub in_one_case : List ℕ → Bool
+in_one_case text = not (list_any is_ascii_uppercase text) || not (list_any is_ascii_lowercase text)
+
+-- what stands beside the word in the table, in whatever case
+abbrev pub look_up : Table → List ℕ → Option TokenKind
+look_up [] word = None
+look_up (k ∷ ks) word = if same_word k.0 word then Some k.1 else look_up ks word
+
+abbrev pub contains : List (List ℕ) → List ℕ → Bool
+contains [] word = false
+contains (k ∷ ks) word = if same_word k word then true else contains ks word
+
+-- a word that is left out, in one case
+unfoldable pub is_refused : List ℕ → Bool
+is_refused word = in_one_case word && contains refused_words word
+
+-- a word without `end-`: a reserved word in one case, or a name
+unfoldable pub plain_word : List ℕ → TokenKind
+plain_word word = if in_one_case word then unwrap_or (look_up reserved_words word) Name else Name
+
+-- the `end-` word that a text is, as a whole: `end-` and a word of the table, in one case
+unfoldable pub end_word : List ℕ → Option TokenKind
+end_word (e ∷ n ∷ d ∷ dash ∷ tail) =
+    if dash == 45 && same_word (e ∷ n ∷ d ∷ []) (codes "end") && in_one_case (e ∷ n ∷ d ∷ dash ∷ tail) then look_up ends tail else None
+end_word _ = None
+
+-- whether the text begins with four bytes and this word, in one case
+abbrev pub is_front : List ℕ → List ℕ → Bool
+is_front tail text = nat_le (length tail + 4) (length text) && same_word tail (drop 4 (take (length tail + 4) text)) && in_one_case (take (length tail + 4) text)
+
+abbrev pub front_end : Table → List ℕ → Option (TokenKind × ℕ)
+front_end [] text = None
+front_end (k ∷ ks) text = if is_front k.0 text then Some (k.1, length k.0 + 4) else front_end ks text
+
+-- the `end-` word with which a text begins, and its length
+unfoldable pub end_at : List ℕ → Option (TokenKind × ℕ)
+end_at (e ∷ n ∷ d ∷ dash ∷ tail) =
+    if dash == 45 && same_word (e ∷ n ∷ d ∷ []) (codes "end") then front_end ends (e ∷ n ∷ d ∷ dash ∷ tail) else None
+end_at _ = None

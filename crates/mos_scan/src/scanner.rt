@@ -1,0 +1,213 @@
+ghost use Rattle.std.specs.Prelude.{◌≡◌, ◌≤◌, ◌<◌, ◌+◌, ◌-◌, ◌^◌, ℕ, List, take, length, IfOk, IfErr, IsUtf8};
+ghost use Rattle.std.specs.List.{prefix_len};
+ghost use Rattle.mos_scan.specs.Characters.{is_word};
+ghost use Rattle.std.specs.Str.Lossy.{utf8_valid_len};
+ghost use Rattle.mos_scan.specs.Cuts as spec;
+ghost use Rattle.mos_scan.specs.Scans as scans;
+ghost use Rattle.mos_scan.specs.declared.token.Token.{Token as token_type};
+
+use crate::character::word_length;
+use crate::front::{Front, Wrong, look};
+use crate::{LexFault, Token, TokenKind};
+use mos_text::{Kind, NoMemory, Text, TextFault};
+use std::alloc::Global;
+
+/// How a source is cut.
+#[derive(Debug, Drop)]
+enum Cut {
+    /// All that is read, and the place behind it.
+    Whole(Vec<Token>, u32),
+    /// The place up to which it is cut, and how far from there the fault is.
+    Stopped(u32, u32, Wrong),
+}
+
+fn is_end_model(kind: TokenKind) -> bool
+    ensures { result ≡ spec.is_end_model kind }
+{
+    match kind {
+        TokenKind::EndModel => true,
+        _ => false,
+    }
+}
+
+fn newlines(text: &[u8]) -> usize
+    ensures value { result ≡ spec.newlines text.now }
+    ensures within { result ≤ length text.now }
+{
+    text.iter().filter(|byte| **byte == b'\n').count()
+}
+
+fn cut_all(alloc: Global, bytes: &[u8]) -> Result<Cut, NoMemory>
+    requires { length bytes.now ≤ 1048576 }
+    ensures { IfOk result (scans.IsCut bytes.now) }
+{
+    let mut tokens = Vec::new(alloc);
+    let mut rest = bytes;
+    let mut at: u32 = 0;
+    let mut line: u32 = 1;
+    while !rest.is_empty() {
+        match look(rest) {
+            Front::Fault(wrong, far) => return Ok(Cut::Stopped(at, far as u32, wrong)),
+            Front::Gap(length) => {
+                let (text, after) = rest.split_at(length);
+                line += newlines(text) as u32;
+                at += length as u32;
+                rest = after;
+            }
+            Front::Token(kind, length) => {
+                let (text, after) = rest.split_at(length);
+                let to = at + length as u32;
+                tokens.push(Token {
+                    kind,
+                    line,
+                    from: at,
+                    to,
+                })?;
+                if is_end_model(kind) {
+                    return Ok(Cut::Whole(tokens, to));
+                }
+                line += newlines(text) as u32;
+                at = to;
+                rest = after;
+            }
+        }
+    }
+    Ok(Cut::Whole(tokens, at))
+}
+
+/// How many bytes are UTF-8, from the front.
+fn valid_length(bytes: &[u8]) -> usize
+    ensures value { result ≡ utf8_valid_len bytes.now }
+    ensures within { result ≤ length bytes.now }
+{
+    match std::str::from_utf8(bytes) {
+        Ok(_) => bytes.len(),
+        Err(fault) => fault.valid_up_to(),
+    }
+}
+
+/// The line of a place.
+fn line_of(before: &[u8]) -> u32
+    requires { length before.now ≤ 1048576 }
+    ensures { result ≡ 1 + spec.newlines before.now }
+{
+    newlines(before) as u32 + 1
+}
+
+fn is_continuation(byte: u8) -> bool
+    ensures { result ≡ spec.is_continuation byte }
+{
+    128 <= byte && byte < 192
+}
+
+fn column_behind(column: u32, byte: u8) -> u32
+    requires { column < 2 ^ 32 - 1 }
+    ensures value { result ≡ spec.column_behind column byte }
+    ensures near { result ≤ column + 1 }
+{
+    if byte == b'\n' {
+        1
+    } else if is_continuation(byte) {
+        column
+    } else {
+        column + 1
+    }
+}
+
+/// The column of a place.
+fn column_of(before: &[u8]) -> u32
+    requires { length before.now ≤ 1048576 }
+    ensures { result ≡ spec.column_from 1 before.now }
+{
+    let mut column = 1;
+    for byte in before {
+        column = column_behind(column, *byte);
+    }
+    column
+}
+
+fn fault_at(bytes: &[u8], place: usize, kind: Kind) -> LexFault
+    requires room { length bytes.now ≤ 1048576 }
+    requires within { place ≤ length bytes.now }
+    ensures { scans.IsAt result bytes.now place kind }
+{
+    let (before, _) = bytes.split_at(place);
+    LexFault::At {
+        line: line_of(before),
+        column: column_of(before),
+        kind,
+    }
+}
+
+fn text_of(alloc: Global, word: &[u8]) -> Result<Text, NoMemory>
+    requires { IsUtf8 word.now }
+    ensures { IfOk result (λ text. text ≡ word.now) }
+{
+    match Text::new(alloc, word) {
+        Ok(text) => Ok(text),
+        Err(TextFault::NoMemory) => Err(NoMemory),
+        Err(TextFault::NotText) => unreachable!(),
+    }
+}
+
+/// The word at the front.
+fn word_at(alloc: Global, rest: &[u8]) -> Result<Text, NoMemory>
+    ensures { IfOk result (λ word. word ≡ take (prefix_len is_word rest.now) rest.now) }
+{
+    let (word, _) = rest.split_at(word_length(rest));
+    text_of(alloc, word)
+}
+
+/// The kind of a fault at the front of the bytes.
+fn kind_of(alloc: Global, wrong: Wrong, rest: &[u8]) -> Result<Kind, NoMemory>
+    ensures { IfOk result (λ kind. kind ≡ spec.kind_of_fault wrong rest.now) }
+{
+    Ok(match wrong {
+        Wrong::Char => Kind::Char,
+        Wrong::Real => Kind::Real,
+        Wrong::Number => Kind::Number,
+        Wrong::Text => Kind::Str,
+        Wrong::Comment => Kind::Comment,
+        Wrong::Out => Kind::Out(word_at(alloc, rest)?),
+    })
+}
+
+/// The tokens of a source, up to the first `end-model`; nothing behind it is read.
+///
+/// Refused is the first place that no token list gets over: bytes that are no UTF-8, or a byte, literal,
+/// text, comment or word that is no token.
+pub fn scan(alloc: Global, bytes: &[u8]) -> Result<Vec<Token>, LexFault>
+    requires { length bytes.now ≤ 1048576 }
+    ensures found { IfOk result (λ v. spec.IsTokenList bytes.now v.items) }
+    ensures fault { IfErr result (scans.IsFaultOf bytes.now) }
+    ensures only { (tokens : List token_type) → spec.IsTokenList bytes.now tokens → IfOk result (λ v. v.items ≡ tokens) }
+    ensures taken { (tokens : List token_type) → spec.IsTokenList bytes.now tokens → IfErr result scans.IsNoMemory }
+{
+    scan_all(alloc, bytes)
+}
+
+fn scan_all(alloc: Global, bytes: &[u8]) -> Result<Vec<Token>, LexFault>
+    requires { length bytes.now ≤ 1048576 }
+    ensures found { IfOk result (λ v. spec.IsTokenList bytes.now v.items) }
+    ensures fault { IfErr result (scans.IsFaultOf bytes.now) }
+{
+    let valid = valid_length(bytes);
+    match cut_all(alloc, bytes)? {
+        Cut::Whole(tokens, read) => {
+            if valid < read as usize {
+                Err(fault_at(bytes, valid, Kind::Utf8))
+            } else {
+                Ok(tokens)
+            }
+        }
+        Cut::Stopped(at, far, wrong) => {
+            let place = at as usize + far as usize;
+            if valid <= place {
+                return Err(fault_at(bytes, valid, Kind::Utf8));
+            }
+            let (_, rest) = bytes.split_at(at as usize);
+            let kind = kind_of(alloc, wrong, rest)?;
+            Err(fault_at(bytes, place, kind))
+        }
+    }
+}
