@@ -34,14 +34,14 @@ one_name words name other lanes others runs again =
 
 -- what the folder may answer at the one name that the words run
 at_name : (words : List (List ℕ)) (content : Option Files) (name other : List ℕ) (lanes others : ℕ) (known : Known) (got : Got)
-  → Runs words name lanes → Runs words other others → known_of content name ≡ known
-  → Answers (known_of content other) source_limit got → Answers known source_limit got
+    → Runs words name lanes → Runs words other others → known_of content name ≡ known
+    → Answers (known_of content other) source_limit got → Answers known source_limit got
 at_name words content name other lanes others known got runs again is h =
     subst (λ (k : Known). Answers k source_limit got) is
-      (subst (λ (n : List ℕ). Answers (known_of content n) source_limit got) (one_name words name other lanes others runs again) h)
+    (subst (λ (n : List ℕ). Answers (known_of content n) source_limit got) (one_name words name other lanes others runs again) h)
 
 pub exact_usage : (words : List (List ℕ)) (before after : Disk) (paper paper_after : Paper) (status : Status)
-  → Answered words before after paper paper_after status → ExactUsage words status
+    → Answered words before after paper paper_after status → ExactUsage words status
 exact_usage words before after paper paper_after Done h none = absurd (no_run words h.name h.lanes h.runs none)
 exact_usage words before after paper paper_after MasterFailed h none = absurd (no_run words h.name h.lanes h.runs none)
 exact_usage words before after paper paper_after MasterSpent h none = absurd (no_run words h.name h.lanes h.runs none)
@@ -55,7 +55,7 @@ exact_usage words before after paper paper_after NoMemory h none = inr tt
 exact_usage words before after paper paper_after status h none = absurd h.line
 
 pub exact_missing : (words : List (List ℕ)) (before after : Disk) (paper paper_after : Paper) (status : Status)
-  → Answered words before after paper paper_after status → ExactMissing words before.content status
+    → Answered words before after paper paper_after status → ExactMissing words before.content status
 exact_missing words before after paper paper_after Done h name lanes runs absent =
     absurd (at_name words before.content name h.name lanes h.lanes Absent (Bytes h.reported.source) runs h.runs absent h.reported.source_is)
 exact_missing words before after paper paper_after MasterFailed h name lanes runs absent =
@@ -79,7 +79,7 @@ not_given : (bytes source : List ℕ) → source_limit < length bytes → Answer
 not_given bytes source long h = let few = h.1 in absurd (omega arith)
 
 pub exact_too_large : (words : List (List ℕ)) (before after : Disk) (paper paper_after : Paper) (status : Status)
-  → Answered words before after paper paper_after status → ExactTooLarge words before.content status
+    → Answered words before after paper paper_after status → ExactTooLarge words before.content status
 exact_too_large words before after paper paper_after Done h name lanes bytes runs is long =
     absurd (not_given bytes h.reported.source long (at_name words before.content name h.name lanes h.lanes (Holds bytes) (Bytes h.reported.source) runs h.runs is h.reported.source_is))
 exact_too_large words before after paper paper_after MasterFailed h name lanes bytes runs is long =
@@ -100,15 +100,15 @@ exact_too_large words before after paper paper_after status h name lanes bytes r
 
 -- the source that was read is the one that the folder holds
 same_source : (words : List (List ℕ)) (content : Option Files) (name other : List ℕ) (lanes others : ℕ) (source read : List ℕ)
-  → Runs words name lanes → Runs words other others → known_of content name ≡ Holds source
-  → Answers (known_of content other) source_limit (Bytes read) → read ≡ source
+    → Runs words name lanes → Runs words other others → known_of content name ≡ Holds source
+    → Answers (known_of content other) source_limit (Bytes read) → read ≡ source
 same_source words content name other lanes others source read runs again is h =
     (at_name words content name other lanes others (Holds source) (Bytes read) runs again is h).0
 
 -- a source with a faulty line is not reported
 no_report : (words : List (List ℕ)) (content : Option Files) (name other : List ℕ) (lanes others : ℕ) (source read : List ℕ) (line : ℕ) (tree : Tree)
-  → Runs words name lanes → Runs words other others → known_of content name ≡ Holds source
-  → Answers (known_of content other) source_limit (Bytes read) → IsFaultyLine source line → IsSource read tree → ⊥
+    → Runs words name lanes → Runs words other others → known_of content name ≡ Holds source
+    → Answers (known_of content other) source_limit (Bytes read) → IsFaultyLine source line → IsSource read tree → ⊥
 no_report words content name other lanes others source read line tree runs again is h faulty form =
     never_both source tree line (subst (λ (s : List ℕ). IsSource s tree) (same_source words content name other lanes others source read runs again is h) form) faulty
 
@@ -117,7 +117,7 @@ in_size : (bytes : List ℕ) → length bytes ≤ source_limit → Answers (Hold
 in_size bytes few long = absurd (omega arith)
 
 pub exact_refused : (words : List (List ℕ)) (before after : Disk) (paper paper_after : Paper) (status : Status)
-  → Answered words before after paper paper_after status → ExactRefused words before.content status
+    → Answered words before after paper paper_after status → ExactRefused words before.content status
 exact_refused words before after paper paper_after Done h name lanes source line runs is few faulty =
     absurd (no_report words before.content name h.name lanes h.lanes source h.reported.source line h.reported.tree runs h.runs is h.reported.source_is faulty h.reported.job.accepted)
 exact_refused words before after paper paper_after MasterFailed h name lanes source line runs is few faulty =
@@ -139,7 +139,7 @@ exact_refused words before after paper paper_after NoMemory h name lanes source 
 exact_refused words before after paper paper_after status h name lanes source line runs is few faulty = absurd h.line
 
 pub exact_report : (words : List (List ℕ)) (before after : Disk) (paper paper_after : Paper) (status : Status)
-  → Answered words before after paper paper_after status → ExactReport words before.content status
+    → Answered words before after paper paper_after status → ExactReport words before.content status
 exact_report words before after paper paper_after Done h name lanes source tree runs is few form = inl tt
 exact_report words before after paper paper_after MasterFailed h name lanes source tree runs is few form = inl tt
 exact_report words before after paper paper_after MasterSpent h name lanes source tree runs is few form = inl tt

@@ -122,7 +122,7 @@ follows_sources name source lanes tree image ran end is built course ends =
 -- what `carry_out` promises
 pub is_job : (name source : List ℕ) (lanes : ℕ) (tree : Tree) (image : Image) (ran : Ran) (end : End)
     → IsSource source tree → IsFit (RunCommand name lanes)
-    → image ≡ image_of (statements_of tree) → IsCourse image usual_budget ran → end_of (stop_of ran.halt) ≡ Some end
+    → image ≡ image_of (statements_of tree) → FitsFields image → IsCourse image usual_budget ran → end_of (stop_of ran.halt) ≡ Some end
     → IsJob (opening_on name source lanes) source tree image (schedule_of (opening_on name source lanes) end) (line_of name end ran ∷ [])
 is_job name source lanes tree image ran end form fit is fields course ends =
     let h = first_model source tree form in

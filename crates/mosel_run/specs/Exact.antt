@@ -36,19 +36,19 @@ ExactUsage words status = command_of words ≡ None → Only Usage status
 -- the file is not there
 abbrev pub ExactMissing : List (List ℕ) → Option Files → Status → Type 0
 ExactMissing words content status = (name : List ℕ) (lanes : ℕ) → Runs words name lanes
-  → known_of content name ≡ Absent → Only (Missing name) status
+    → known_of content name ≡ Absent → Only (Missing name) status
 
 -- the file is too long
 abbrev pub ExactTooLarge : List (List ℕ) → Option Files → Status → Type 0
 ExactTooLarge words content status = (name : List ℕ) (lanes : ℕ) (bytes : List ℕ) → Runs words name lanes
-  → known_of content name ≡ Holds bytes → source_limit < length bytes → Only (TooLarge name) status
+    → known_of content name ≡ Holds bytes → source_limit < length bytes → Only (TooLarge name) status
 
 -- the file is there and in size, and not of the form
 abbrev pub ExactRefused : List (List ℕ) → Option Files → Status → Type 0
 ExactRefused words content status = (name : List ℕ) (lanes : ℕ) (source : List ℕ) (line : ℕ) → Runs words name lanes
-  → known_of content name ≡ Holds source → length source ≤ source_limit → IsFaultyLine source line → Only (Refused line Syntax) status
+    → known_of content name ≡ Holds source → length source ≤ source_limit → IsFaultyLine source line → Only (Refused line Syntax) status
 
 -- the file is there, in size and of the form
 abbrev pub ExactReport : List (List ℕ) → Option Files → Status → Type 0
 ExactReport words content status = (name : List ℕ) (lanes : ℕ) (source : List ℕ) (tree : Tree) → Runs words name lanes
-  → known_of content name ≡ Holds source → length source ≤ source_limit → IsSource source tree → IsReported status ⊎ Hides status
+    → known_of content name ≡ Holds source → length source ≤ source_limit → IsSource source tree → IsReported status ⊎ Hides status

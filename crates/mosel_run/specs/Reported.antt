@@ -48,7 +48,7 @@ model_of tree image = Some record { statements = statements_of tree; image = ima
 pub record IsJob (o : Opening) (source : List ℕ) (tree : Tree) (image : Image) (journal : List Entry) (lines : List RunLine) : Type 0 where
   pub accepted : IsSource source tree
   pub means : Means (statements_of tree) image
-  pub fields : FitsFields image    -- its file can hold it
+  pub fields : FitsFields image  -- its file can hold it
   pub whole : IsWhole o journal
   pub follows : FollowsSources journal lines (model_of tree image ∷ [])
 
