@@ -18,3 +18,4 @@ pub mod Whole
 pub mod WholeJobs
 pub mod Answering
 pub mod Exactness
+pub mod PlainImages

@@ -28,7 +28,9 @@ use Rattle.mos_words.specs.Fit.{IsFit}
 use Rattle.mos_words.specs.Words.{is_source_name}
 use Rattle.mos_words.specs.declared.words.commands.Command.TheVariants.{Run as RunCommand}
 use Rattle.mosel_run.specs.declared.runner.Ran.{Ran}
-use Rattle.mosel_run.specs.Compiled.{image_of}
+use Rattle.mosel_run.specs.Compiled.{image_of, texts_in_block}
+use Rattle.mosel_run.specs.Plain.{IsPlain}
+use Rattle.mosel_run.proofs.PlainImages.{is_plain}
 use Rattle.mosel_run.specs.Built.{IsBuiltBlock}
 use Rattle.mosel_run.specs.FirstForm.{IsSource}
 use Rattle.mosel_run.specs.Jobs.{opening_on, listed, line_of, usual_budget}
@@ -122,15 +124,18 @@ follows_sources name source lanes tree image ran end is built course ends =
 -- what `carry_out` promises
 pub is_job : (name source : List ℕ) (lanes : ℕ) (tree : Tree) (image : Image) (ran : Ran) (end : End)
     → IsSource source tree → IsFit (RunCommand name lanes)
-    → image ≡ image_of (statements_of tree) → FitsFields image → IsCourse image usual_budget ran → end_of (stop_of ran.halt) ≡ Some end
+    → image ≡ image_of (statements_of tree) → FitsFields image → length (texts_in_block (statements_of tree)) < 2 ^ 32 → IsCourse image usual_budget ran → end_of (stop_of ran.halt) ≡ Some end
     → IsJob (opening_on name source lanes) source tree image (schedule_of (opening_on name source lanes) end) (line_of name end ran ∷ [])
-is_job name source lanes tree image ran end form fit is fields course ends =
+is_job name source lanes tree image ran end form fit is fields few course ends =
     let h = first_model source tree form in
     record {
       accepted = form;
       means = λ params replies budget. ap (λ (i : Image). (course_of i params replies budget).outcome) is
           ∙ course_is_meaning (statements_of tree) params replies budget h.built;
       fields = fields;
+      plain = subst IsPlain (sym is) (is_plain (statements_of tree) h.texts few);
+      end = end;
+      schedule = refl;
       whole = is_whole (opening_on name source lanes) end (can_open name source lanes fit);
       follows = follows_sources name source lanes tree image ran end is h.built course ends;
     }

@@ -21,3 +21,4 @@ pub mod Preparing
 pub mod Storing
 pub mod Examples
 pub mod Exact
+pub mod Plain

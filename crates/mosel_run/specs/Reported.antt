@@ -24,6 +24,8 @@ use Rattle.mos_meaning.specs.Follows.{Model, FollowsSources}
 use Rattle.mosel_run.specs.FirstForm.{IsSource}
 use Rattle.mosel_run.specs.Jobs.{opening_on}
 use Rattle.mosel_run.specs.Means.{Means}
+use Rattle.mosel_run.specs.Plain.{IsPlain}
+use Rattle.mosel_run.specs.Schedule.{schedule_of}
 use Rattle.mosel_run.specs.Puts.{Put, puts_of, put_all}
 
 -- the last of the entries is a `Claim` answered `Done`
@@ -49,7 +51,10 @@ pub record IsJob (o : Opening) (source : List ℕ) (tree : Tree) (image : Image)
   pub accepted : IsSource source tree
   pub means : Means (statements_of tree) image
   pub fields : FitsFields image  -- its file can hold it
+  pub plain : IsPlain image  -- and does
   pub whole : IsWhole o journal
+  pub end : End
+  pub schedule : journal ≡ schedule_of o end  -- lane by lane, on one thread
   pub follows : FollowsSources journal lines (model_of tree image ∷ [])
 
 -- run 0 ended with code 0; by a fault or with another code; for want of ticks

@@ -1,16 +1,17 @@
 -- a source of the first form is compiled, is never stuck, and its journal is whole
-use Rattle.std.proofs.Common.{◌≡◌, ◌∙◌, ◌∷◌, [], ap, sym, subst, arith}
+use Rattle.std.proofs.Common.{◌≡◌, ◌∙◌, ◌∷◌, [], ap, sym, subst, length, ◌<◌, ◌^◌, arith}
 use Rattle.job_calls.specs.Runs.{finish_of}
 use Rattle.bim_code.specs.Limits.{FitsFields}
 use Rattle.bim_code.specs.declared.image.Image.{Image}
 use Rattle.mos_meaning.specs.Syntax.{statements_of}
 use Rattle.mosel_run.specs.Closed.{IsClosed}
+use Rattle.mosel_run.specs.Compiled.{texts_in_block}
 use Rattle.mosel_run.specs.Jobs.{opening_on}
 use Rattle.mosel_run.specs.Puts.{puts_of}
 use Rattle.mosel_run.specs.Reported.{model_of}
 use Rattle.mosel_run.proofs.Course.{is_closed}
 use Rattle.mosel_run.proofs.FirstModels.{first_model}
-use Rattle.mosel_run.proofs.SizeLemmas.{fits_fields}
+use Rattle.mosel_run.proofs.SizeLemmas.{fits_fields, texts_few_block}
 use Rattle.mosel_run.proofs.Whole.{finish_is}
 use Rattle.mosel_run.proofs.WholeJobs.{not_stuck, is_job, puts_are}
 use Rattle.mosel_run.proofs.jobs.carry_out.Goals as goal
@@ -38,7 +39,9 @@ pub returns-clause-job : goal.returns-clause-job
 returns-clause-job c =
     rw (c.in_ok-journal.ensures, c.in_ok-lines.ensures)
     (is_job c.args.name.now c.args.source.now c.args.lanes c.args.tree.now c.in_ok-image.image c.in_ok-ran.ran c.end_by-end.result
-    c.requires.form c.requires.fit c.in_ok-image.ensures.image (returns-clause-fields c) c.in_ok-ran.ensures.course c.end_by-end.ensures.end)
+    c.requires.form c.requires.fit c.in_ok-image.ensures.image (returns-clause-fields c)
+    (let h = first_model c.args.source.now c.args.tree.now c.requires.form in let s = h.size in omega (arith, texts_few_block (statements_of c.args.tree.now), c.requires.small))
+    c.in_ok-ran.ensures.course c.end_by-end.ensures.end)
 
 pub returns-clause-puts : goal.returns-clause-puts
 returns-clause-puts c =
