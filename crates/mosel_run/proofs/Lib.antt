@@ -8,6 +8,7 @@ pub mod BodyForms
 pub mod LineForms
 pub mod Lines
 pub mod SourceForms
+pub mod Spellings
 pub mod Tokens
 pub mod Steps
 pub mod SizeLemmas

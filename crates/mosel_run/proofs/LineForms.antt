@@ -1,16 +1,19 @@
 -- Lines: what the reader finds of a line is what the form says of it.
-use Rattle.std.proofs.Common.{◌≡◌, ◌==◌, ◌≢◌, ◌≤◌, ℕ, Bool, true, false, [], ◌∷◌, ◌++◌, length, drop, get_or, Option, Some, None, refl, sym, ap, subst, ◌∙◌, cond, nat_le, codes, arith}
+use Rattle.std.proofs.Common.{◌≡◌, ◌==◌, ◌≢◌, ◌≤◌, ℕ, Bool, true, false, [], ◌∷◌, ◌++◌, length, drop, get_or, Option, Some, None, refl, sym, ap, subst, ◌∙◌, cond, nat_le, codes, append_assoc, arith}
 use Rattle.std.specs.Prelude.{option_and_then, is_some, ◌&&◌}
 use Rattle.std.specs.List.{All}
-use Rattle.std.proofs.lemmas.Bool.{leb-true, le-leb, and_parts}
+use Rattle.std.specs.Str.{is_utf8, IsUtf8}
+use Rattle.std.proofs.lemmas.Bool.{leb-true, le-leb, and_parts, eqb-true}
+use Rattle.std.proofs.lemmas.Str.{is_utf8-from_IsUtf8, IsUtf8-from_is_utf8}
 use Rattle.std.proofs.Math.Dec.{eqb-suc-zero}
 use Rattle.mos_tree.specs.declared.expr.Expr.TheVariants as expr
 use Rattle.mos_tree.specs.declared.statement.Statement.{Statement}
 use Rattle.mos_tree.specs.declared.statement.Statement.TheVariants as statement
 use Rattle.mos_tree.specs.declared.source.Top.TheVariants as top
 use Rattle.mosel_run.specs.declared.reader.body.Step.TheVariants.{Goes, Ends, Wrong}
-use Rattle.mosel_run.specs.FirstForm.{Bytes, skip_blanks, quoted, Spells, IsOpening, IsBlankLine, IsEnd, IsWriteln, IsStatement, writeln}
-use Rattle.mosel_run.specs.FirstReading.{after_token, quoted_in, is_string, string_in, at_end, after_text, after_open, after_writeln, writeln_in, writeln_of, after_name, after_model, opening_in, name_in, is_end, is_blank_line, statement_in, step_of, tops_of}
+use Rattle.mosel_run.specs.FirstForm.{Bytes, skip_blanks, quoted, Spells, IsSpelling, IsOpening, IsBlankLine, IsEnd, IsWriteln, IsStatement, writeln}
+use Rattle.mosel_run.specs.FirstReading.{after_token, quoted_in, is_string, at_end, after_text, after_open, after_writeln, writeln_in, writeln_of, text_in, named_by, spelled_in, header_in, name_in, is_end, is_blank_line, statement_in, step_of, tops_of}
+use Rattle.mosel_run.proofs.Spellings.{spelled_in-is, spelled_in-Some}
 use Rattle.mosel_run.proofs.Tokens.{and_then-Some, after_token-Some, after_token-is, quoted_in-Some, quoted_in-is, is_string-is, IsString-is}
 
 at_end-is : (text rest : Bytes) → rest ≡ [] → at_end text rest ≡ Some text
@@ -24,45 +27,59 @@ at_end-Some text (byte ∷ rest) value e =
 
 -- `model "name"`
 
-opening_in-is : (name line : Bytes) → IsOpening name line → opening_in line ≡ Some name
-unfolding opening_in
-opening_in-is name line h =
-    let model = h.tokens in
-    let string = model.2 in
-    let first = after_token-is (codes "model") (skip_blanks line) model.0 model.1 in
-    let second = quoted_in-is name (skip_blanks model.0) string.0 string.1 h.name_is.no_quote in
-    let last = at_end-is name (skip_blanks string.0) string.2 in
-    ap (option_and_then after_model) first ∙ ap (option_and_then after_name) second ∙ last
-
-opening_in-Some : (line name : Bytes) → opening_in line ≡ Some name → All (λ byte. byte ≢ 34) name × Spells (codes "model" ∷ quoted name ∷ []) (skip_blanks line)
-unfolding opening_in
-opening_in-Some line name e =
-    let first = and_then-Some (after_token (codes "model") (skip_blanks line)) after_model name e in
-    let model = after_token-Some (codes "model") (skip_blanks line) first.0 first.1 in
-    let second = and_then-Some (quoted_in first.0) after_name name first.2 in
-    let string = quoted_in-Some first.0 second.0 second.1 in
-    let last = at_end-Some second.0.0 second.0.1 name second.2 in
-    let free = subst (λ (text : Bytes). All (λ byte. byte ≢ 34) text) last.0 string.2 in
-    (free, (model.0, model.1, (string.0, sym model.2 ∙ string.1 ∙ ap (λ text. quoted text ++ string.0) last.0, sym string.3 ∙ last.1)))
+header_in-front : (spelling name rest : Bytes) → IsSpelling spelling name → IsUtf8 name → skip_blanks rest ≡ [] → header_in (quoted spelling ++ rest) ≡ Some name
+unfolding header_in
+header_in-front spelling name rest spells utf8 end =
+    rw (append_assoc spelling (34 ∷ []) rest, spelled_in-is spelling name spells rest, end, is_utf8-from_IsUtf8 name utf8)
 
 -- the reader finds the model's name in a first line of the form
 pub name_in-is : (name line : Bytes) → IsOpening name line → name_in line ≡ Some name
 unfolding name_in
-name_in-is name line h = ap (option_and_then string_in) (opening_in-is name line h) ∙ ap (λ test. cond test (Some name) None) (is_string-is name h.name_is)
+name_in-is name line h =
+    let model = h.tokens in
+    let string = model.2 in
+    let first = after_token-is (codes "model") (skip_blanks line) model.0 model.1 in
+    ap (option_and_then header_in) first ∙ ap header_in string.1 ∙ header_in-front h.spelling name string.0 h.spells h.utf8 string.2
 
-string_in-Some : (text value : Bytes) (test : Bool) → is_string text ≡ test → cond test (Some text) None ≡ Some value → (text ≡ value) × (is_string text ≡ true)
-string_in-Some text value true is e = (cc, is)
-string_in-Some text value false is e = cc
+-- a name that stands alone between its quotes
+abbrev IsHeader : Bytes → Bytes → Type 0
+IsHeader bytes name = (spelling rest : Bytes) × (bytes ≡ quoted spelling ++ rest) × IsSpelling spelling name × IsUtf8 name × (skip_blanks rest ≡ [])
+
+text_in-Some : (text value : Bytes) (test : Bool) → is_utf8 text ≡ test → cond test (Some text) None ≡ Some value → (text ≡ value) × (is_utf8 text ≡ true)
+text_in-Some text value true is e = (cc, is)
+text_in-Some text value false is e = cc
+
+header_in-test : (bytes name : Bytes) (test : Bool) → (get_or bytes 0 0 == 34) ≡ test → cond test (option_and_then named_by (spelled_in false (drop 1 bytes))) None ≡ Some name → IsHeader bytes name
+header_in-test [] name true first e = cc
+header_in-test (byte ∷ bytes) name true first e =
+    let quote : byte ≡ 34 = eqb-true byte 34 first in
+    let second = and_then-Some (spelled_in false bytes) named_by name e in
+    let third = and_then-Some (at_end second.0.0 (skip_blanks second.0.1)) text_in name second.2 in
+    let alone = at_end-Some second.0.0 (skip_blanks second.0.1) third.0 third.1 in
+    let text = text_in-Some third.0 name _ refl third.2 in
+    let it = spelled_in-Some bytes second.0 second.1 in
+    let name_is : second.0.0 ≡ name = alone.0 ∙ text.0 in
+    let whole : bytes ≡ (it.0 ++ 34 ∷ []) ++ second.0.1 = it.1 ∙ sym (append_assoc it.0 (34 ∷ []) second.0.1) in
+    (it.0, second.0.1, ap (λ b. b ∷ bytes) quote ∙ ap (λ bs. 34 ∷ bs) whole, subst (λ (t : Bytes). IsSpelling it.0 t) name_is it.2, subst (λ (t : Bytes). IsUtf8 t) text.0 (IsUtf8-from_is_utf8 third.0 text.1), alone.1)
+header_in-test bytes name false first e = cc
+
+header_in-Some : (bytes name : Bytes) → header_in bytes ≡ Some name → IsHeader bytes name
+unfolding header_in
+header_in-Some bytes name e = header_in-test bytes name _ refl e
 
 -- a first line in which the reader finds a name is of the form
 pub name_in-Some : (line name : Bytes) → name_in line ≡ Some name → IsOpening name line
 unfolding name_in
 name_in-Some line name e =
-    let first = and_then-Some (opening_in line) string_in name e in
-    let text = string_in-Some first.0 name _ refl first.2 in
-    let read = opening_in-Some line first.0 first.1 in
-    let opening : IsOpening first.0 line = record { name_is = IsString-is first.0 text.1 read.0; tokens = read.1 } in
-    subst (λ (found : Bytes). IsOpening found line) text.0 opening
+    let first = and_then-Some (after_token (codes "model") (skip_blanks line)) header_in name e in
+    let model = after_token-Some (codes "model") (skip_blanks line) first.0 first.1 in
+    let header = header_in-Some first.0 name first.2 in
+    record {
+      spelling = header.0;
+      spells = header.3;
+      utf8 = header.4;
+      tokens = (model.0, model.1, (header.1, sym model.2 ∙ header.2, header.5));
+    }
 
 -- `writeln("text")`
 

@@ -1,4 +1,4 @@
-use Rattle.std.specs.Prelude.{◌≡◌, ℕ, ◌+◌, ◌<◌, ◌≤◌, ◌==◌, Bool, ◌||◌, if◌then◌else◌, All, ◌≢◌, List, [], ◌∷◌, ◌++◌, length, codes, count_by, IsUtf8}
+use Rattle.std.specs.Prelude.{◌≡◌, ℕ, ◌+◌, ◌<◌, ◌≤◌, ◌==◌, Bool, ◌||◌, if◌then◌else◌, All, ◌≢◌, List, [], ◌∷◌, ◌++◌, length, codes, count_by, IsUtf8, Option, Some, None}
 use Rattle.std.specs.List.{slice_split}
 use Rattle.mos_tree.specs.declared.expr.Expr.TheVariants as expr
 use Rattle.mos_tree.specs.declared.statement.Statement.{Statement}
@@ -40,10 +40,24 @@ pub record IsString (text : Bytes) : Type 0 where
 abbrev pub quoted : Bytes → Bytes
 quoted text = 34 ∷ text ++ 34 ∷ []
 
--- the first line: `model "name"`
+-- the byte that a backslash and this letter stand for: newline, tab, quote, backslash
+abbrev pub escape_of : ℕ → Option ℕ
+escape_of letter =
+    if letter == 110 then Some 10
+    else (if letter == 116 then Some 9 else (if (letter == 34) || (letter == 92) then Some letter else None))
+
+-- how a text is spelled between quotes: with escapes or without
+pub data IsSpelling : Bytes → Bytes → Type 0 where
+  nothing : IsSpelling [] []
+  plain : (byte : ℕ) (spelling text : Bytes) → byte ≢ 34 → byte ≢ 92 → IsSpelling spelling text → IsSpelling (byte ∷ spelling) (byte ∷ text)
+  escape : (letter byte : ℕ) (spelling text : Bytes) → escape_of letter ≡ Some byte → IsSpelling spelling text → IsSpelling (92 ∷ letter ∷ spelling) (byte ∷ text)
+
+-- the first line: `model "name"`, the name with escapes or without
 pub record IsOpening (name line : Bytes) : Type 0 where
-  pub name_is : IsString name
-  pub tokens : Spells (codes "model" ∷ quoted name ∷ []) (skip_blanks line)
+  pub spelling : Bytes
+  pub spells : IsSpelling spelling name
+  pub utf8 : IsUtf8 name
+  pub tokens : Spells (codes "model" ∷ quoted spelling ∷ []) (skip_blanks line)
 
 -- a line of blanks or of nothing
 abbrev pub IsBlankLine : Bytes → Type 0

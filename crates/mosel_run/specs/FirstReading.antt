@@ -1,4 +1,4 @@
-use Rattle.std.specs.Prelude.{◌≡◌, ℕ, ◌+◌, ◌-◌, ◌==◌, nat_lt, nat_le, Bool, not, ◌&&◌, ◌||◌, if◌then◌else◌, Option, Some, None, is_some, option_and_then, Result, Ok, Err, List, [], ◌∷◌, ◌++◌, length, take, drop, codes, slice_index}
+use Rattle.std.specs.Prelude.{◌≡◌, ℕ, ◌+◌, ◌-◌, ◌==◌, nat_lt, nat_le, Bool, true, false, not, ◌&&◌, ◌||◌, if◌then◌else◌, Option, Some, None, is_some, option_and_then, Result, Ok, Err, List, [], ◌∷◌, ◌++◌, length, take, drop, codes, slice_index}
 use Rattle.std.specs.List.{list_all, position_or_len, before_first, after_first}
 use Rattle.std.specs.Str.{bytes_eq, is_utf8}
 use Rattle.mos_tree.specs.declared.expr.Expr.TheVariants as expr
@@ -12,7 +12,7 @@ use Rattle.mosel_run.specs.declared.reader.fault.ReadFault.{ReadFault}
 use Rattle.mosel_run.specs.declared.reader.fault.ReadFault.TheVariants.{At, NoMemory}
 use Rattle.mosel_run.specs.declared.reader.body.Step.{Step}
 use Rattle.mosel_run.specs.declared.reader.body.Step.TheVariants.{Goes, Ends, Wrong}
-use Rattle.mosel_run.specs.FirstForm.{Bytes, lines_of, skip_blanks, tree_of}
+use Rattle.mosel_run.specs.FirstForm.{Bytes, lines_of, skip_blanks, escape_of, tree_of}
 
 -- The reading of the first form as functions. `IsSource` and `IsFaultyLine` say what the form is; that
 -- these functions find just that is proved of `read_source`.
@@ -56,15 +56,34 @@ after_writeln bytes = option_and_then after_open (after_token (codes "(") bytes)
 unfoldable pub writeln_in : Bytes → Option Bytes
 writeln_in line = option_and_then after_writeln (after_token (codes "writeln") (skip_blanks line))
 
-abbrev pub after_name : Bytes × Bytes → Option Bytes
-after_name found = at_end found.0 found.1
+-- a text that was read, with more before it
+abbrev pub prepended : Bytes → Option (Bytes × Bytes) → Option (Bytes × Bytes)
+prepended text None = None
+prepended text (Some found) = Some (text ++ found.0, found.1)
 
-abbrev pub after_model : Bytes → Option Bytes
-after_model bytes = option_and_then after_name (quoted_in bytes)
+abbrev pub escaped_onto : Option ℕ → Option (Bytes × Bytes) → Option (Bytes × Bytes)
+escaped_onto None found = None
+escaped_onto (Some byte) found = prepended (byte ∷ []) found
 
--- the name of `model "name"`
-unfoldable pub opening_in : Bytes → Option Bytes
-opening_in line = option_and_then after_model (after_token (codes "model") (skip_blanks line))
+-- the text that is spelled up to the closing quote, and what stands behind that; the Bool says that a
+-- backslash stands before
+abbrev pub spelled_in : Bool → Bytes → Option (Bytes × Bytes)
+spelled_in true [] = None
+spelled_in false [] = None
+spelled_in true (byte ∷ bytes) = escaped_onto (escape_of byte) (spelled_in false bytes)
+spelled_in false (byte ∷ bytes) =
+    if byte == 34 then Some ([], bytes)
+    else (if byte == 92 then spelled_in true bytes else prepended (byte ∷ []) (spelled_in false bytes))
+
+abbrev pub text_in : Bytes → Option Bytes
+text_in text = if is_utf8 text then Some text else None
+
+abbrev pub named_by : Bytes × Bytes → Option Bytes
+named_by found = option_and_then text_in (at_end found.0 (skip_blanks found.1))
+
+-- the name between the quotes that stand there alone
+unfoldable pub header_in : Bytes → Option Bytes
+header_in bytes = if slice_index bytes 0 == 34 then option_and_then named_by (spelled_in false (drop 1 bytes)) else None
 
 unfoldable pub is_end : Bytes → Bool
 is_end line = is_some (after_token (codes "end-model") (skip_blanks line))
@@ -78,7 +97,7 @@ string_in text = if is_string text then Some text else None
 
 -- the name of the model in its first line
 unfoldable pub name_in : Bytes → Option Bytes
-name_in line = option_and_then string_in (opening_in line)
+name_in line = option_and_then header_in (after_token (codes "model") (skip_blanks line))
 
 -- the statement that prints this text, if it is a string of at most 1,000,000 bytes
 abbrev pub writeln_of : ℕ → Bytes → Option Statement

@@ -5,6 +5,7 @@
 //! there, and nothing here changes.
 mod body;
 mod fault;
+mod header;
 mod line;
 mod token;
 
@@ -15,7 +16,7 @@ ghost use Rattle.mosel_run.specs.FirstReading.{reading_of, Reads};
 
 use body::{first_line, read_body, syntax_at};
 pub use fault::ReadFault;
-use line::model_name;
+use header::model_name;
 use mos_tree::{ModelName, Tree};
 use sqlite_items::Items;
 use std::alloc::Global;

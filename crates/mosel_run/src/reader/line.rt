@@ -1,10 +1,9 @@
 //! The forms of a line.
-ghost use Rattle.std.specs.Prelude.{◌≡◌, ◌==◌, not, true, false, MatchOption, IfOk, Some, None, codes, [], ◌∷◌, if◌then◌else◌};
+ghost use Rattle.std.specs.Prelude.{◌≡◌, ◌==◌, not, MatchOption, IfOk, Some, None, codes, [], ◌∷◌};
 ghost use Rattle.std.specs.List.{list_all};
-ghost use Rattle.std.specs.Str.{is_utf8};
 ghost use Rattle.mos_tree.specs.declared.expr.Expr.TheVariants as expr;
 ghost use Rattle.mos_tree.specs.declared.statement.Statement.TheVariants as statement;
-ghost use Rattle.mosel_run.specs.FirstReading.{writeln_in, opening_in, is_end, is_blank_line, is_string, string_in, name_in, writeln_of, statement_in};
+ghost use Rattle.mosel_run.specs.FirstReading.{writeln_in, is_end, is_blank_line, is_string, string_in, text_in, writeln_of, statement_in};
 
 use crate::reader::token::{after_token, quoted, skip_blanks};
 use mos_text::{NoMemory, Text, TextFault};
@@ -28,16 +27,6 @@ pub fn is_end(line: &[u8]) -> bool
     ensures { result ≡ is_end line.now }
 {
     after_token(b"end-model", skip_blanks(line)).is_some()
-}
-
-/// The name in `model "name"`, whatever bytes it has.
-#[tactic(auto, unfolding(crate::specs::FirstReading::opening_in))]
-fn opening(line: &[u8]) -> Option<&[u8]>
-    ensures { MatchOption result (opening_in line.now ≡ None) (λ name. opening_in line.now ≡ Some name.now) }
-{
-    let rest = after_token(b"model", skip_blanks(line))?;
-    let (name, rest) = quoted(rest)?;
-    if rest.is_empty() { Some(name) } else { None }
 }
 
 /// The text in `writeln("text")`, whatever bytes it has.
@@ -70,24 +59,14 @@ fn string(alloc: Global, text: &[u8]) -> Result<Option<Text>, NoMemory>
     }
 }
 
-fn utf8_text(alloc: Global, text: &[u8]) -> Result<Option<Text>, NoMemory>
-    ensures { IfOk result (λ found. found ≡ (if is_utf8 text.now then Some text.now else None)) }
+/// The text of these bytes, if they are UTF-8.
+pub fn utf8_text(alloc: Global, text: &[u8]) -> Result<Option<Text>, NoMemory>
+    ensures { IfOk result (λ found. found ≡ text_in text.now) }
 {
     match Text::new(alloc, text) {
         Ok(text) => Ok(Some(text)),
         Err(TextFault::NotText) => Ok(None),
         Err(TextFault::NoMemory) => Err(NoMemory),
-    }
-}
-
-/// The name of the model in its first line, if the line has the form.
-#[tactic(auto, unfolding(crate::specs::FirstReading::name_in))]
-pub fn model_name(alloc: Global, line: &[u8]) -> Result<Option<Text>, NoMemory>
-    ensures { IfOk result (λ name. name ≡ name_in line.now) }
-{
-    match opening(line) {
-        Some(name) => string(alloc, name),
-        None => Ok(None),
     }
 }
 
