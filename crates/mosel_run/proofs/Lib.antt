@@ -7,7 +7,9 @@ pub mod Body
 pub mod BodyForms
 pub mod LineForms
 pub mod Lines
+pub mod Operands
 pub mod SourceForms
+pub mod SumSteps
 pub mod Tokens
 pub mod Steps
 pub mod SizeLemmas

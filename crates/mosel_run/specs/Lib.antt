@@ -12,6 +12,7 @@ pub mod Running
 pub mod FirstForm
 pub mod FirstFormLaws
 pub mod FirstReading
+pub mod Sums
 pub mod Jobs
 pub mod Texts
 pub mod Statuses

@@ -3,9 +3,13 @@
 //!
 //! The form of a line is a function of its own, so that further statements are further alternatives
 //! there, and nothing here changes.
+mod argument;
 mod body;
 mod fault;
 mod line;
+mod operand;
+mod string;
+mod sum;
 mod token;
 
 ghost use Rattle.std.specs.Prelude.{◌≤◌, length, IfOk, IfErr};
