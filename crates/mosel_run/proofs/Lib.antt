@@ -9,6 +9,7 @@ pub mod LineForms
 pub mod Lines
 pub mod Operands
 pub mod SourceForms
+pub mod SumForms
 pub mod SumSteps
 pub mod Tokens
 pub mod Steps

@@ -3,7 +3,7 @@ use Rattle.std.specs.Str.{IsAscii, is_utf8}
 use Rattle.std.proofs.lemmas.Str.Ascii.{IsAscii-cons, IsAscii-nil}
 use Rattle.std.proofs.lemmas.Str.{is_utf8-from_IsUtf8, IsUtf8-from_ascii}
 use Rattle.mosel_run.specs.FirstFormLaws.{hello_source, hello_tree}
-use Rattle.mosel_run.specs.FirstReading.{after_token, closed_in, quoted_in, is_string, writeln_in, opening_in, is_end, is_blank_line, name_in, statement_in, step_of, tops_of, reading_of}
+use Rattle.mosel_run.specs.FirstReading.{after_token, closed_in, quoted_in, is_string, text_in, argument_in, writeln_in, opening_in, is_end, is_blank_line, name_in, statement_in, step_of, tops_of, reading_of}
 use Rattle.mosel_run.proofs.SourceForms.{reading-is, reading-Ok, reading-fault, either-by}
 use Rattle.mosel_run.proofs.reader.first_form_laws.Goals as goal
 
@@ -23,7 +23,7 @@ returns-clause-never_both c source tree line h k =
     let both : Ok tree ≡ Err line = sym (reading-is source tree h) ∙ reading-fault source line k in cc
 
 pub returns-clause-example : goal.returns-clause-example
-unfolding after_token closed_in quoted_in is_string writeln_in opening_in is_end is_blank_line name_in statement_in step_of tops_of reading_of
+unfolding after_token closed_in quoted_in is_string text_in argument_in writeln_in opening_in is_end is_blank_line name_in statement_in step_of tops_of reading_of
 returns-clause-example c =
     let ascii : IsAscii (codes "hello") = IsAscii-cons 104 (codes "ello") (lit< tt) (IsAscii-cons 101 (codes "llo") (lit< tt) (IsAscii-cons 108 (codes "lo") (lit< tt) (IsAscii-cons 108 (codes "o") (lit< tt) (IsAscii-cons 111 [] (lit< tt) IsAscii-nil)))) in
     let utf8 : is_utf8 (codes "hello") ≡ true = is_utf8-from_IsUtf8 (codes "hello") (IsUtf8-from_ascii (codes "hello") ascii) in
