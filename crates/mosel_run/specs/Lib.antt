@@ -13,6 +13,8 @@ pub mod FirstForm
 pub mod FirstFormLaws
 pub mod FirstReading
 pub mod Sums
+pub mod UnknownNames
+pub mod Chains
 pub mod Jobs
 pub mod Texts
 pub mod Statuses

@@ -7,6 +7,7 @@ mod argument;
 mod body;
 mod fault;
 mod line;
+mod names;
 mod operand;
 mod string;
 mod sum;
