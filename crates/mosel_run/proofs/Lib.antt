@@ -5,6 +5,7 @@ pub mod Effects
 pub mod Course
 pub mod Body
 pub mod BodyForms
+pub mod ChainSteps
 pub mod LineForms
 pub mod Lines
 pub mod Operands

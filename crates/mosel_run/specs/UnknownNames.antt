@@ -36,8 +36,8 @@ unknown_of known unbuilt_effect = None
 
 abbrev pub line_step : Statement-F ℕ → ℕ
 line_step (Assign line target operator value) = line
-line_step (Fill line name values) = line
-line_step (Call line name arguments) = line
+line_step (Fill line filled values) = line
+line_step (Call line called all) = line
 line_step (If line arms otherwise) = line
 line_step (Case line value alternatives otherwise) = line
 line_step (Forall line index body) = line
@@ -46,7 +46,7 @@ line_step (Repeat line body until_line condition) = line
 line_step (Do line body) = line
 line_step (Break line) = line
 line_step (Next line) = line
-line_step (Initializations line direction name labels) = line
+line_step (Initializations line direction file labels) = line
 
 -- the line of a statement
 abbrev pub line_of : Statement → ℕ

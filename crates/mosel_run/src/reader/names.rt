@@ -2,7 +2,7 @@
 ghost use Rattle.std.specs.Prelude.{◌≡◌, ℕ, [], IfOk, map, option_copied};
 ghost use Rattle.mos_meaning.specs.Syntax.{expression, arguments, effect, top_effect};
 ghost use Rattle.mosel_run.specs.Chains.{IsLeaf, IsChain, AreChains, HasChains, HaveChains};
-ghost use Rattle.mosel_run.specs.UnknownNames.{unless_known, unknown_in, unknown_in_all, unknown_of, line_of, line_of_top, first_unknown};
+ghost use Rattle.mosel_run.specs.UnknownNames.{or_other, unless_known, unknown_in, unknown_in_all, unknown_of, line_of, line_of_top, first_unknown};
 
 use crate::compiler::names::{has, note_top};
 use mos_text::{NoMemory, Text};
@@ -99,14 +99,18 @@ fn unknown_in<'a>(known: &[Text], value: &'a Expr) -> Option<&'a Text>
     let mut found = None;
     let mut rest = value;
     while let Expr::Binary(BinaryOperator::Plus | BinaryOperator::Minus, left, right) = rest {
-        if let Some(name) = unknown_leaf(known, right.get()) {
-            found = Some(name);
-        }
+        found = or_other(unknown_leaf(known, right.get()), found);
         rest = left.get();
     }
-    match unknown_leaf(known, rest) {
+    or_other(unknown_leaf(known, rest), found)
+}
+
+fn or_other<'a>(first: Option<&'a Text>, other: Option<&'a Text>) -> Option<&'a Text>
+    ensures { option_copied result ≡ or_other (option_copied first.entry) (option_copied other.entry) }
+{
+    match first {
         Some(name) => Some(name),
-        None => found,
+        None => other,
     }
 }
 

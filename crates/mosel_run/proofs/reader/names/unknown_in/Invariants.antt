@@ -9,7 +9,7 @@ use Rattle.mosel_run.proofs.reader.names.unknown_in.Given as goal
 abbrev pub invariant-loop-rest : goal.invariant-loop-rest
 invariant-loop-rest l = record {
   chain : IsChain (expression l.rest);
-  read : or_other (unknown_in l.known (expression l.rest)) l.found ≡ unknown_in l.known (expression l.value);
+  read : or_other (unknown_in l.known (expression l.rest)) (option_copied l.found) ≡ unknown_in l.known (expression l.value);
 }
 
 abbrev pub decreases-loop-rest : goal.decreases-loop-rest
