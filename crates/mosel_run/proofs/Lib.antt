@@ -3,6 +3,7 @@ pub mod Standing
 pub mod Expressions
 pub mod Effects
 pub mod Course
+pub mod AcceptedForms
 pub mod Body
 pub mod BodyForms
 pub mod ChainSteps
@@ -10,6 +11,7 @@ pub mod LineForms
 pub mod Lines
 pub mod Operands
 pub mod SourceForms
+pub mod SumChains
 pub mod SumForms
 pub mod SumSteps
 pub mod Tokens

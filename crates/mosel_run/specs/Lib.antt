@@ -11,6 +11,7 @@ pub mod Reported
 pub mod Running
 pub mod FirstForm
 pub mod FirstFormLaws
+pub mod Accepted
 pub mod FirstReading
 pub mod Sums
 pub mod UnknownNames
