@@ -32,7 +32,7 @@ use Rattle.mosel_run.specs.Compiled.{image_of, texts_in_block}
 use Rattle.mosel_run.specs.Plain.{IsPlain}
 use Rattle.mosel_run.proofs.PlainImages.{is_plain}
 use Rattle.mosel_run.specs.Built.{IsBuiltBlock}
-use Rattle.mosel_run.specs.FirstForm.{IsSource}
+use Rattle.mosel_run.specs.Accepted.{IsAccepted}
 use Rattle.mosel_run.specs.Jobs.{opening_on, listed, line_of, usual_budget}
 use Rattle.mosel_run.specs.Means.{Means}
 use Rattle.mosel_run.specs.Puts.{Put, puts_of, image_name, last_puts, put_of}
@@ -123,11 +123,11 @@ follows_sources name source lanes tree image ran end is built course ends =
 
 -- what `carry_out` promises
 pub is_job : (name source : List ℕ) (lanes : ℕ) (tree : Tree) (image : Image) (ran : Ran) (end : End)
-    → IsSource source tree → IsFit (RunCommand name lanes)
+    → IsAccepted source tree → IsFit (RunCommand name lanes)
     → image ≡ image_of (statements_of tree) → FitsFields image → length (texts_in_block (statements_of tree)) < 2 ^ 32 → IsCourse image usual_budget ran → end_of (stop_of ran.halt) ≡ Some end
     → IsJob (opening_on name source lanes) source tree image (schedule_of (opening_on name source lanes) end) (line_of name end ran ∷ [])
 is_job name source lanes tree image ran end form fit is fields few course ends =
-    let h = first_model source tree form in
+    let h = first_model source tree form.form in
     record {
       accepted = form;
       means = λ params replies budget. ap (λ (i : Image). (course_of i params replies budget).outcome) is

@@ -7,7 +7,6 @@ use Rattle.mos_text.specs.Faults.{Rose}
 use Rattle.mos_text.specs.Gets.{Answers}
 use Rattle.mos_text.specs.SinkBytes.{appended, AppendedPart}
 use Rattle.mos_text.specs.declared.kind.Kind.{Kind}
-use Rattle.mos_text.specs.declared.kind.Kind.TheVariants.{Syntax}
 use Rattle.mos_text.specs.declared.folder.Got.TheVariants.{Bytes, Missing as NotThere, TooLarge as TooLong}
 use Rattle.job_calls.specs.declared.end.End.{End}
 use Rattle.job_calls.specs.ErrorLines.{usage_line, verdict_line, missing_line, too_large_line, read_fault_line}
@@ -16,7 +15,7 @@ use Rattle.mos_words.specs.declared.words.commands.Command.TheVariants.{Run}
 use Rattle.mosel_run.specs.declared.jobs.Output.{Output}
 use Rattle.mosel_run.specs.declared.status.Status.{Status}
 use Rattle.mosel_run.specs.declared.status.Status.TheVariants.{Done, Usage, Refused, Missing, TooLarge, FolderFault, SinkFault, MasterFailed, MasterSpent, NoMemory}
-use Rattle.mosel_run.specs.FirstForm.{IsFaultyLine}
+use Rattle.mosel_run.specs.Accepted.{IsRefusedAt}
 use Rattle.mosel_run.specs.Outputs.{IsOutput}
 use Rattle.mosel_run.specs.Puts.{Put}
 use Rattle.mosel_run.specs.Reported.{HasReported, EndedWell, EndedBadly, EndedSpent, EndedSomehow, AllPut, PutUpTo}
@@ -46,8 +45,7 @@ pub record IsRefused (words : List (List ℕ)) (content : Option Files) (line : 
   pub source : List ℕ
   pub runs : Runs words name lanes
   pub source_is : Answers (known_of content name) source_limit (Bytes source)
-  pub faulty : IsFaultyLine source line
-  pub kind_is : kind ≡ Syntax
+  pub refused : IsRefusedAt source line kind
   pub text_is : text ≡ verdict_line name line kind
 
 -- the command runs this name, whose file cannot be had: the folder answers so

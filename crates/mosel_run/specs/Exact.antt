@@ -3,13 +3,13 @@
 
 use Rattle.std.specs.Prelude.{◌≡◌, ℕ, ◌≤◌, ◌<◌, List, Option, Some, None, length, ◌⊎◌}
 use Rattle.mos_text.specs.Content.{Files, Absent, Holds, known_of}
-use Rattle.mos_text.specs.declared.kind.Kind.TheVariants.{Syntax}
+use Rattle.mos_text.specs.declared.kind.Kind.{Kind}
 use Rattle.mos_tree.specs.declared.source.Tree.{Tree}
 use Rattle.mos_words.specs.Words.{command_of}
 use Rattle.mosel_run.specs.declared.status.Status.{Status}
 use Rattle.mosel_run.specs.declared.status.Status.TheVariants.{Done, Usage, Refused, Missing, TooLarge, FolderFault, SinkFault, MasterFailed, MasterSpent, NoMemory}
 use Rattle.mosel_run.specs.Answered.{Runs, source_limit}
-use Rattle.mosel_run.specs.FirstForm.{IsSource, IsFaultyLine}
+use Rattle.mosel_run.specs.Accepted.{IsAccepted, IsRefusedAt}
 
 -- a device failed, or memory was wanting
 abbrev pub Hides : Status → Type 0
@@ -43,12 +43,12 @@ abbrev pub ExactTooLarge : List (List ℕ) → Option Files → Status → Type 
 ExactTooLarge words content status = (name : List ℕ) (lanes : ℕ) (bytes : List ℕ) → Runs words name lanes
     → known_of content name ≡ Holds bytes → source_limit < length bytes → Only (TooLarge name) status
 
--- the file is there and in size, and not of the form
+-- the file is there and in size, and refused
 abbrev pub ExactRefused : List (List ℕ) → Option Files → Status → Type 0
-ExactRefused words content status = (name : List ℕ) (lanes : ℕ) (source : List ℕ) (line : ℕ) → Runs words name lanes
-    → known_of content name ≡ Holds source → length source ≤ source_limit → IsFaultyLine source line → Only (Refused line Syntax) status
+ExactRefused words content status = (name : List ℕ) (lanes : ℕ) (source : List ℕ) (line : ℕ) (kind : Kind) → Runs words name lanes
+    → known_of content name ≡ Holds source → length source ≤ source_limit → IsRefusedAt source line kind → Only (Refused line kind) status
 
--- the file is there, in size and of the form
+-- the file is there, in size and accepted
 abbrev pub ExactReport : List (List ℕ) → Option Files → Status → Type 0
 ExactReport words content status = (name : List ℕ) (lanes : ℕ) (source : List ℕ) (tree : Tree) → Runs words name lanes
-    → known_of content name ≡ Holds source → length source ≤ source_limit → IsSource source tree → IsReported status ⊎ Hides status
+    → known_of content name ≡ Holds source → length source ≤ source_limit → IsAccepted source tree → IsReported status ⊎ Hides status

@@ -1,12 +1,16 @@
-use Rattle.std.specs.Prelude.{◌≡◌, ℕ, ◌+◌, ◌<◌, ◌≤◌, ◌==◌, Bool, ◌||◌, if◌then◌else◌, All, ◌≢◌, List, [], ◌∷◌, ◌++◌, length, codes, count_by, IsUtf8, Option, Some, None}
+use Rattle.std.specs.Prelude.{◌≡◌, ℕ, ◌+◌, ◌<◌, ◌==◌, Bool, true, ◌||◌, if◌then◌else◌, All, ◌≢◌, List, [], ◌∷◌, ◌++◌, length, codes, count_by, IsUtf8, Option, Some, None}
 use Rattle.std.specs.List.{slice_split}
+use Rattle.mos_tree.specs.declared.expr.Expr.{Expr}
 use Rattle.mos_tree.specs.declared.expr.Expr.TheVariants as expr
+use Rattle.mos_tree.specs.declared.statement.Assignment.TheVariants.{Set}
+use Rattle.mos_tree.specs.declared.statement.Reference.TheVariants as reference
 use Rattle.mos_tree.specs.declared.statement.Statement.{Statement}
 use Rattle.mos_tree.specs.declared.statement.Statement.TheVariants as statement
 use Rattle.mos_tree.specs.declared.source.ModelName.TheVariants.{Quoted}
 use Rattle.mos_tree.specs.declared.source.Top.{Top}
 use Rattle.mos_tree.specs.declared.source.Top.TheVariants as top
 use Rattle.mos_tree.specs.declared.source.Tree.{Tree}
+use Rattle.mosel_run.specs.Sums.{is_name, IsSum}
 
 -- bytes: a source, a line or the spelling of a token
 abbrev pub Bytes : Type 0
@@ -67,15 +71,28 @@ IsBlankLine line = Spells [] (skip_blanks line)
 abbrev pub IsEnd : Bytes → Type 0
 IsEnd line = (rest : Bytes) × (skip_blanks line ≡ codes "end-model" ++ rest)
 
--- `writeln("text")`, of at most 1,000,000 bytes
-pub record IsWriteln (text line : Bytes) : Type 0 where
-  pub text_is : IsString text
-  pub short : length text ≤ 1000000
-  pub tokens : Spells (codes "writeln" ∷ codes "(" ∷ quoted text ∷ codes ")" ∷ []) (skip_blanks line)
+-- the tokens of what `writeln` prints, and its value: a string or a sum
+pub data IsArgument : List Bytes → Expr → Type 0 where
+  text : (text : Bytes) → IsString text → IsArgument (quoted text ∷ []) (expr.Text text)
+  sum : (tokens : List Bytes) (value : Expr) → IsSum tokens value → IsArgument tokens value
+
+-- `writeln(A)`
+pub record IsWriteln (argument : Expr) (line : Bytes) : Type 0 where
+  pub tokens : List Bytes
+  pub argument_is : IsArgument tokens argument
+  pub spelled : Spells (codes "writeln" ∷ codes "(" ∷ tokens ++ codes ")" ∷ []) (skip_blanks line)
+
+-- `NAME:=E`
+pub record IsAssignment (name : Bytes) (value : Expr) (line : Bytes) : Type 0 where
+  pub tokens : List Bytes
+  pub name_is : is_name name ≡ true
+  pub value_is : IsSum tokens value
+  pub spelled : Spells (name ∷ codes ":=" ∷ tokens) (skip_blanks line)
 
 -- a line, by its number, and the statement that it writes
 pub data IsStatement : ℕ → Bytes → Statement → Type 0 where
-  writeln : (number : ℕ) (text line : Bytes) → IsWriteln text line → IsStatement number line (statement.Call number (codes "writeln") (expr.Text text ∷ []))
+  writeln : (number : ℕ) (argument : Expr) (line : Bytes) → IsWriteln argument line → IsStatement number line (statement.Call number (codes "writeln") (argument ∷ []))
+  assigns : (number : ℕ) (name : Bytes) (value : Expr) (line : Bytes) → IsAssignment name value line → IsStatement number line (statement.Assign number (reference.Name name) Set value)
 
 -- the lines from this number on, up to the one that ends the model, and their statements
 pub data IsBody : ℕ → List Bytes → List Top → Type 0 where

@@ -1,5 +1,5 @@
 use Rattle.std.specs.Prelude.{◌≡◌, ℕ, ◌⊎◌, [], ◌∷◌, codes}
-use Rattle.mos_text.specs.declared.kind.Kind.TheVariants.{Syntax}
+use Rattle.mos_text.specs.declared.kind.Kind.{Kind}
 use Rattle.mos_tree.specs.declared.source.Tree.{Tree}
 use Rattle.mosel_run.specs.declared.reader.fault.ReadFault.{ReadFault}
 use Rattle.mosel_run.specs.declared.reader.fault.ReadFault.TheVariants.{At, NoMemory}
@@ -7,6 +7,7 @@ use Rattle.mos_tree.specs.declared.expr.Expr.TheVariants as expr
 use Rattle.mos_tree.specs.declared.statement.Statement.TheVariants as statement
 use Rattle.mos_tree.specs.declared.source.Top.TheVariants as top
 use Rattle.mosel_run.specs.FirstForm.{Bytes, IsSource, IsFaultyLine, tree_of}
+use Rattle.mosel_run.specs.Accepted.{IsAccepted, IsRefusedAt}
 
 -- a source has at most one tree
 abbrev pub OneTree : Type 0
@@ -24,9 +25,25 @@ TreeOrFaultyLine = (source : Bytes) → ((tree : Tree) × IsSource source tree) 
 abbrev pub NeverBoth : Type 0
 NeverBoth = (source : Bytes) (tree : Tree) (line : ℕ) → IsSource source tree → IsFaultyLine source line → ⊥
 
--- a fault at a line says that the source has no tree and that the line is the faulty one
+-- an accepted source has one tree
+abbrev pub OneAccepted : Type 0
+OneAccepted = (source : Bytes) (first second : Tree) → IsAccepted source first → IsAccepted source second → first ≡ second
+
+-- a refused source is refused at one line, for one kind
+abbrev pub OneRefusal : Type 0
+OneRefusal = (source : Bytes) (line other_line : ℕ) (kind other_kind : Kind) → IsRefusedAt source line kind → IsRefusedAt source other_line other_kind → (line ≡ other_line) × (kind ≡ other_kind)
+
+-- a source is accepted or refused
+abbrev pub AcceptedOrRefused : Type 0
+AcceptedOrRefused = (source : Bytes) → ((tree : Tree) × IsAccepted source tree) ⊎ ((line : ℕ) × (kind : Kind) × IsRefusedAt source line kind)
+
+-- no source is both
+abbrev pub NeverAcceptedAndRefused : Type 0
+NeverAcceptedAndRefused = (source : Bytes) (tree : Tree) (line : ℕ) (kind : Kind) → IsAccepted source tree → IsRefusedAt source line kind → ⊥
+
+-- a fault of the reader that is true of the source
 abbrev pub IsRefusal : Bytes → ReadFault → Type 0
-IsRefusal source (At line kind) = (kind ≡ Syntax) × IsFaultyLine source line × ((tree : Tree) → IsSource source tree → ⊥)
+IsRefusal source (At line kind) = IsRefusedAt source line kind
 IsRefusal source NoMemory = Unit {0}
 
 -- an example: the source that prints `hello`, and its tree

@@ -11,7 +11,11 @@ pub mod Reported
 pub mod Running
 pub mod FirstForm
 pub mod FirstFormLaws
+pub mod Accepted
 pub mod FirstReading
+pub mod Sums
+pub mod UnknownNames
+pub mod Chains
 pub mod Jobs
 pub mod Texts
 pub mod Statuses

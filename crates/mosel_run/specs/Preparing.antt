@@ -4,22 +4,21 @@ use Rattle.std.specs.Prelude.{◌≡◌, ℕ, List, ◌⊎◌}
 use Rattle.mos_text.specs.Content.{known_of}
 use Rattle.mos_text.specs.Faults.{Rose}
 use Rattle.mos_text.specs.Gets.{Answers}
-use Rattle.mos_text.specs.declared.kind.Kind.TheVariants.{Syntax}
 use Rattle.mos_text.specs.declared.folder.Got.TheVariants.{Bytes, Missing as NotThere, TooLarge as TooLong}
 use Rattle.job_calls.specs.ErrorLines.{verdict_line, missing_line, too_large_line, read_fault_line}
 use Rattle.mosel_run.specs.declared.prepared.Prepared.{Prepared}
 use Rattle.mosel_run.specs.declared.prepared.Prepared.TheVariants.{Report, Line}
 use Rattle.mosel_run.specs.declared.status.Status.{Status}
 use Rattle.mosel_run.specs.declared.status.Status.TheVariants.{Refused, Missing, TooLarge, FolderFault}
-use Rattle.mosel_run.specs.FirstForm.{IsFaultyLine}
+use Rattle.mosel_run.specs.Accepted.{IsRefusedAt}
 use Rattle.mosel_run.specs.Outputs.{IsOutput}
 use Rattle.mosel_run.specs.Answered.{Disk, source_limit, IsLine, IsReport}
 
--- by the source: the output of its job, or its faulty line
+-- by the source: the output of its job, or where and why it is refused
 abbrev pub PreparesSource : List ℕ → ℕ → List ℕ → Prepared → Type 0
 PreparesSource name lanes source (Report output) = IsOutput name lanes source output
 PreparesSource name lanes source (Line text (Refused line kind)) =
-    IsFaultyLine source line × (kind ≡ Syntax) × (text ≡ verdict_line name line kind)
+    IsRefusedAt source line kind × (text ≡ verdict_line name line kind)
 PreparesSource name lanes source (Line text status) = ⊥
 
 -- a source was read, and what it prepares

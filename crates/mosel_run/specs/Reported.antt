@@ -21,7 +21,7 @@ use Rattle.bim_code.specs.declared.image.Image.{Image}
 use Rattle.bim_code.specs.Limits.{FitsFields}
 use Rattle.mos_meaning.specs.Syntax.{statements_of}
 use Rattle.mos_meaning.specs.Follows.{Model, FollowsSources}
-use Rattle.mosel_run.specs.FirstForm.{IsSource}
+use Rattle.mosel_run.specs.Accepted.{IsAccepted}
 use Rattle.mosel_run.specs.Jobs.{opening_on}
 use Rattle.mosel_run.specs.Means.{Means}
 use Rattle.mosel_run.specs.Plain.{IsPlain}
@@ -48,7 +48,7 @@ model_of tree image = Some record { statements = statements_of tree; image = ima
 
 -- a whole job over one source: the journal follows it, and the image means it
 pub record IsJob (o : Opening) (source : List ℕ) (tree : Tree) (image : Image) (journal : List Entry) (lines : List RunLine) : Type 0 where
-  pub accepted : IsSource source tree
+  pub accepted : IsAccepted source tree
   pub means : Means (statements_of tree) image
   pub fields : FitsFields image  -- its file can hold it
   pub plain : IsPlain image  -- and does

@@ -1,6 +1,6 @@
 //! The image of a model: the code of each form, one behind the other, and the texts as constants.
 mod expressions;
-mod names;
+pub(crate) mod names;
 mod statements;
 
 ghost use Rattle.std.specs.Prelude.{◌≡◌, ◌++◌, ◌∷◌, [], ℕ, ◌<◌, ◌≤◌, ◌+◌, ◌^◌, IfOk, OnOk, length, replicate, pos};

@@ -10,7 +10,7 @@ ghost use Rattle.mos_meaning.specs.Follows.{end_of};
 ghost use Rattle.mos_words.specs.Fit.{IsFit};
 ghost use Rattle.mos_words.specs.Words.{is_source_name};
 ghost use Rattle.mos_words.specs.declared.words.commands.Command.TheVariants.{Run as RunCommand};
-ghost use Rattle.mosel_run.specs.FirstForm.{IsSource};
+ghost use Rattle.mosel_run.specs.Accepted.{IsAccepted};
 ghost use Rattle.mosel_run.specs.Jobs.{opening_on};
 ghost use Rattle.mosel_run.specs.Outputs.{IsOutput, IsOwnEnd};
 ghost use Rattle.mosel_run.specs.Puts.{image_name, puts_of};
@@ -62,7 +62,7 @@ pub(crate) fn make_output(
     source: &[u8],
     tree: &Tree,
 ) -> Result<Output, NoMemory>
-    requires form { IsSource source.now tree.now }
+    requires accepted { IsAccepted source.now tree.now }
     requires small { length source.now ≤ 1048576 }
     requires fit { IsFit (RunCommand name.now lanes) }
     ensures { IfOk result (λ output. IsOutput name.now lanes source.now output) }
@@ -80,7 +80,7 @@ fn carry_out(
     source: &[u8],
     tree: &Tree,
 ) -> Result<Finished, NoMemory>
-    requires form { IsSource source.now tree.now }
+    requires accepted { IsAccepted source.now tree.now }
     requires small { length source.now ≤ 1048576 }
     requires fit { IsFit (RunCommand name.now lanes) }
     ensures job { IfOk result (λ f. IsJob (opening_on name.now source.now lanes) source.now tree.now f.image f.journal f.lines) }

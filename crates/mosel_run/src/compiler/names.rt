@@ -19,7 +19,7 @@ pub(crate) fn variables(alloc: Global, tops: &[Top]) -> Result<Items<Text>, NoMe
     Ok(names)
 }
 
-fn note_top(alloc: Global, names: &mut Items<Text>, top: &Top) -> Result<(), NoMemory>
+pub(crate) fn note_top(alloc: Global, names: &mut Items<Text>, top: &Top) -> Result<(), NoMemory>
     ensures { OnOk result (names.new ≡ names_after names.old (top_effect top.now)) }
 {
     match top {
@@ -55,7 +55,8 @@ fn note(alloc: Global, names: &mut Items<Text>, name: &Text) -> Result<(), NoMem
     Ok(())
 }
 
-fn has(names: &[Text], name: &Text) -> bool
+/// Whether the name is one of these.
+pub(crate) fn has(names: &[Text], name: &Text) -> bool
     ensures { result ≡ has_name name.now names.now }
 {
     names.iter().any(|other| name.as_str() == other.as_str())

@@ -3,7 +3,7 @@ ghost use Rattle.std.specs.Prelude.{◌≡◌, false, MatchOption, IfOk, Some, N
 ghost use Rattle.mosel_run.specs.FirstForm.{escape_of};
 ghost use Rattle.mosel_run.specs.FirstReading.{spelled_in, header_in, name_in};
 
-use crate::reader::line::utf8_text;
+use crate::reader::string::utf8_text;
 use crate::reader::token::{after_token, skip_blanks};
 use mos_text::{NoMemory, Text};
 use std::alloc::Global;

@@ -1,7 +1,7 @@
 use Rattle.std.proofs.Common.{◌≡◌, ℕ, List, Bool, true, false, refl, ap, Some, Err}
 use Rattle.std.specs.Str.{is_utf8, IsUtf8}
 use Rattle.std.proofs.lemmas.Str.{is_utf8-from_IsUtf8, IsUtf8-from_is_utf8}
-use Rattle.mosel_run.proofs.reader.line.utf8_text.Goals as goal
+use Rattle.mosel_run.proofs.reader.string.utf8_text.Goals as goal
 
 by_test : (bytes : List ℕ) (test : Bool) → is_utf8 bytes ≡ test → (IsUtf8 bytes → ⊥) → is_utf8 bytes ≡ false
 by_test bytes true e refused = absurd (refused (IsUtf8-from_is_utf8 bytes e))
