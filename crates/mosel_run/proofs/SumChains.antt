@@ -21,13 +21,13 @@ use Rattle.mosel_run.specs.FirstForm.{Bytes, IsArgument, IsStatement, IsBody, Is
 use Rattle.mosel_run.specs.Chains.{IsLeaf, IsChain, HasChains, HaveChains}
 use Rattle.mosel_run.proofs.ChainSteps.{expression_of_binary}
 
-expression_of_integer : (n : _) → expression (expr.Integer n) ≡ number n
+pub expression_of_integer : (n : _) → expression (expr.Integer n) ≡ number n
 expression_of_integer n = ap expression (sym (expr.rolls-Integer n)) ∙ fold-roll-Expr Expression expression_step (open_expr.Integer n)
 
-expression_of_name : (n : List ℕ) → expression (expr.Name n) ≡ name n
+pub expression_of_name : (n : List ℕ) → expression (expr.Name n) ≡ name n
 expression_of_name n = ap expression (sym (expr.rolls-Name n)) ∙ fold-roll-Expr Expression expression_step (open_expr.Name n)
 
-expression_of_text : (t : List ℕ) → expression (expr.Text t) ≡ text t
+pub expression_of_text : (t : List ℕ) → expression (expr.Text t) ≡ text t
 expression_of_text t = ap expression (sym (expr.rolls-Text t)) ∙ fold-roll-Expr Expression expression_step (open_expr.Text t)
 
 operand-leaf : (word : Bytes) (value : Expr) → IsOperand word value → IsLeaf (expression value)

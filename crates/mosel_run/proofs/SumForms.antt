@@ -237,7 +237,7 @@ word-first : (word behind : Bytes) → list_all is_word_byte word ≡ true → (
 word-first [] behind all some = absurd (some refl)
 word-first (byte ∷ word) behind all some = (and_parts _ _ all).0
 
-operand-some : (word : Bytes) (value : Expr) → IsOperand word value → word ≡ [] → ⊥
+pub operand-some : (word : Bytes) (value : Expr) → IsOperand word value → word ≡ [] → ⊥
 unfolding is_literal is_name
 operand-some _ _ (sums.literal word h small) e = let wrong : is_literal [] ≡ true = sym (ap is_literal e) ∙ h in cc
 operand-some _ _ (sums.name word h) e = let wrong : is_name [] ≡ true = sym (ap is_name e) ∙ h in cc

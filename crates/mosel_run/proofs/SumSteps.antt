@@ -10,7 +10,7 @@ use Rattle.mosel_run.specs.Sums.{operand_of}
 use Rattle.mosel_run.specs.FirstReading.{starts_other, after_token, word_in, after_word, with_rest, operand_in, sign_or, sign_in, with_operand, with_sign, more_in}
 use Rattle.mosel_run.proofs.Tokens.{after_token-Some}
 
-skip_blanks-short : (bytes : Bytes) → length (skip_blanks bytes) ≤ length bytes
+pub skip_blanks-short : (bytes : Bytes) → length (skip_blanks bytes) ≤ length bytes
 skip_blanks-short [] = omega arith
 skip_blanks-short (byte ∷ bytes) = by_test _ (skip_blanks-short bytes)
   where

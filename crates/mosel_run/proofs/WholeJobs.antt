@@ -41,6 +41,7 @@ use Rattle.mosel_run.specs.Running.{IsCourse, outcome_of}
 use Rattle.mosel_run.specs.Schedule.{schedule_of}
 use Rattle.mosel_run.specs.Stepping.{stop_of}
 use Rattle.mosel_run.proofs.Course.{course_is_meaning}
+use Rattle.mosel_run.proofs.SizeLemmas.{variables_few}
 use Rattle.mosel_run.proofs.FirstModels.{IsFirst, first_model}
 use Rattle.mosel_run.proofs.NeverStuck.{never_stuck}
 use Rattle.mosel_run.proofs.Whole.{is_whole, one_run, finish_is, no_calls, no_replies, no_puts}
@@ -72,7 +73,7 @@ means_outcome model image ran is built course =
 pub not_stuck : (model : Block) (image : Image) (ran : Ran) (many : ℕ) → image ≡ image_of model → IsFirst model many
     → IsCourse image usual_budget ran → stop_of ran.halt ≢ Stuck
 not_stuck model image ran many is h course = λ stuck.
-    never_stuck model [] usual_budget h.texts (sym (ap (λ m. m.stop) (means_outcome model image ran is h.built course)) ∙ stuck)
+    never_stuck model [] usual_budget h.works (sym (ap (λ m. m.stop) (means_outcome model image ran is h.built course)) ∙ stuck)
 
 -- the run follows its source
 pub run_follows : (name source : List ℕ) (lanes : ℕ) (model : Block) (image : Image) (ran : Ran) (end : End)
@@ -123,17 +124,17 @@ follows_sources name source lanes tree image ran end is built course ends =
 
 -- what `carry_out` promises
 pub is_job : (name source : List ℕ) (lanes : ℕ) (tree : Tree) (image : Image) (ran : Ran) (end : End)
-    → IsAccepted source tree → IsFit (RunCommand name lanes)
+    → IsAccepted source tree → length source ≤ 1048576 → IsFit (RunCommand name lanes)
     → image ≡ image_of (statements_of tree) → FitsFields image → length (texts_in_block (statements_of tree)) < 2 ^ 32 → IsCourse image usual_budget ran → end_of (stop_of ran.halt) ≡ Some end
     → IsJob (opening_on name source lanes) source tree image (schedule_of (opening_on name source lanes) end) (line_of name end ran ∷ [])
-is_job name source lanes tree image ran end form fit is fields few course ends =
-    let h = first_model source tree form.form in
+is_job name source lanes tree image ran end form small fit is fields few course ends =
+    let h = first_model source tree form small in
     record {
       accepted = form;
       means = λ params replies budget. ap (λ (i : Image). (course_of i params replies budget).outcome) is
           ∙ course_is_meaning (statements_of tree) params replies budget h.built;
       fields = fields;
-      plain = subst IsPlain (sym is) (is_plain (statements_of tree) h.texts few);
+      plain = subst IsPlain (sym is) (is_plain (statements_of tree) h.works (let s = h.size in omega (arith, s, small, variables_few (statements_of tree))) few);
       end = end;
       schedule = refl;
       whole = is_whole (opening_on name source lanes) end (can_open name source lanes fit);

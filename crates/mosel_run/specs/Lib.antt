@@ -17,7 +17,7 @@ pub mod Sums
 pub mod UnknownNames
 pub mod Chains
 pub mod Jobs
-pub mod Texts
+pub mod Working
 pub mod Statuses
 pub mod Outputs
 pub mod Answered

@@ -18,7 +18,7 @@ use Rattle.mosel_run.proofs.jobs.carry_out.Goals as goal
 
 pub compile-requires : goal.compile-requires
 compile-requires c =
-    let h = first_model c.args.source.now c.args.tree.now c.requires.accepted.form in
+    let h = first_model c.args.source.now c.args.tree.now c.requires.accepted c.requires.small in
     record { built = h.built; small = let s = h.size in omega (arith, c.requires.small) }
 
 pub run-requires : goal.run-requires
@@ -27,11 +27,11 @@ run-requires c = subst IsClosed (sym c.in_ok-image.ensures.image) (is_closed (st
 pub end_by-end-requires : goal.end_by-end-requires
 end_by-end-requires c =
     not_stuck (statements_of c.args.tree.now) c.in_ok-image.image c.in_ok-ran.ran _ c.in_ok-image.ensures.image
-    (first_model c.args.source.now c.args.tree.now c.requires.accepted.form) c.in_ok-ran.ensures.course
+    (first_model c.args.source.now c.args.tree.now c.requires.accepted c.requires.small) c.in_ok-ran.ensures.course
 
 pub returns-clause-fields : goal.returns-clause-fields
 returns-clause-fields c =
-    let h = first_model c.args.source.now c.args.tree.now c.requires.accepted.form in
+    let h = first_model c.args.source.now c.args.tree.now c.requires.accepted c.requires.small in
     subst FitsFields (sym c.in_ok-image.ensures.image)
     (fits_fields (statements_of c.args.tree.now) (let s = h.size in omega (arith, c.requires.small)) h.short)
 
@@ -39,8 +39,8 @@ pub returns-clause-job : goal.returns-clause-job
 returns-clause-job c =
     rw (c.in_ok-journal.ensures, c.in_ok-lines.ensures)
     (is_job c.args.name.now c.args.source.now c.args.lanes c.args.tree.now c.in_ok-image.image c.in_ok-ran.ran c.end_by-end.result
-    c.requires.accepted c.requires.fit c.in_ok-image.ensures.image (returns-clause-fields c)
-    (let h = first_model c.args.source.now c.args.tree.now c.requires.accepted.form in let s = h.size in omega (arith, texts_few_block (statements_of c.args.tree.now), c.requires.small))
+    c.requires.accepted c.requires.small c.requires.fit c.in_ok-image.ensures.image (returns-clause-fields c)
+    (let h = first_model c.args.source.now c.args.tree.now c.requires.accepted c.requires.small in let s = h.size in omega (arith, texts_few_block (statements_of c.args.tree.now), c.requires.small))
     c.in_ok-ran.ensures.course c.end_by-end.ensures.end)
 
 pub returns-clause-puts : goal.returns-clause-puts
