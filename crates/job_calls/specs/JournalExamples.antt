@@ -33,3 +33,7 @@ OtherLaneWaits = answer_of opened_only 1 None Claim ≡ NotYet
 -- while run 0 goes on, the job is not done
 abbrev pub NotDoneYet : Type 0
 NotDoneYet = Follows opened_only (entry [] Claim Done) → ⊥
+
+-- a lane that was told that the job is done asks no more: a journal that came to its end has no further entry of it
+abbrev pub AfterTheEnd : Type 0
+AfterTheEnd = Follows hello_entries (entry [] Claim Done) → ⊥

@@ -11,3 +11,4 @@ pub mod ReportText
 pub mod ErrorLines
 pub mod ReportExamples
 pub mod JournalExamples
+pub mod RunExamples

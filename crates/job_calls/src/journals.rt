@@ -1,5 +1,6 @@
 //! Worked examples of journals: functions that do nothing, whose contracts are the examples.
-ghost use Rattle.job_calls.specs.JournalExamples.{HelloIsLegal, UnheldRun, AnotherRun, OtherLaneWaits, NotDoneYet};
+ghost use Rattle.job_calls.specs.JournalExamples.{HelloIsLegal, UnheldRun, AnotherRun, OtherLaneWaits, NotDoneYet, AfterTheEnd};
+ghost use Rattle.job_calls.specs.RunExamples.{TwoRuns, SourceOfMaster, SourceOfChild, ParamsOfMaster, ParamsOfChild, CallsOfMaster, RepliesOfMaster, CallsOfChild, FinishOfChild, FittingReplies, FittingFault, FaultOfItsOwn, ReplyOfAnotherCall, CodeTooLarge};
 
 /// The journal of one run on one lane is legal.
 pub fn hello_journal()
@@ -12,4 +13,27 @@ pub fn refused_entries()
     ensures another_run { AnotherRun }
     ensures other_lane_waits { OtherLaneWaits }
     ensures not_done_yet { NotDoneYet }
+    ensures after_the_end { AfterTheEnd }
+{}
+
+/// What a journal says of a master and of the child that it runs.
+pub fn runs_of_a_journal()
+    ensures two { TwoRuns }
+    ensures source_of_master { SourceOfMaster }
+    ensures source_of_child { SourceOfChild }
+    ensures params_of_master { ParamsOfMaster }
+    ensures params_of_child { ParamsOfChild }
+    ensures calls_of_master { CallsOfMaster }
+    ensures replies_of_master { RepliesOfMaster }
+    ensures calls_of_child { CallsOfChild }
+    ensures finish_of_child { FinishOfChild }
+{}
+
+/// Replies that fit a call, and some that do not.
+pub fn replies_that_fit()
+    ensures fitting { FittingReplies }
+    ensures fault { FittingFault }
+    ensures fault_of_its_own { FaultOfItsOwn }
+    ensures of_another_call { ReplyOfAnotherCall }
+    ensures too_large { CodeTooLarge }
 {}

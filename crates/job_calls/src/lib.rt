@@ -9,7 +9,7 @@
 mod call;
 mod end;
 mod entry;
-mod journals;
+pub mod journals;
 mod reply;
 pub mod report;
 mod run_line;

@@ -67,6 +67,10 @@ HelloCourseSpent = course_of hello_image [] [] 0 ≡ record { outcome = told [] 
 abbrev pub hello_models : List (Option Model)
 hello_models = Some record { statements = hello; image = hello_image } ∷ []
 
+-- the run line of hello follows its source
+abbrev pub HelloFollows : Type 0
+HelloFollows = FollowsSources hello_entries hello_runs hello_models
+
 -- one run line is wanted for each run
 abbrev pub TooFewLines : Type 0
 TooFewLines = FollowsSources hello_entries [] hello_models → ⊥

@@ -1,5 +1,5 @@
 //! Worked examples of the definitions: functions that do nothing, whose contracts are the examples.
-ghost use Rattle.mos_meaning.specs.Examples.{HelloMeans, HelloSpent, HelloRefused, FiveMeans, TooMuchMeans, HelloCourse, HelloCourseSpent, TooFewLines, NoModel, AnotherSource};
+ghost use Rattle.mos_meaning.specs.Examples.{HelloMeans, HelloSpent, HelloRefused, FiveMeans, TooMuchMeans, HelloCourse, HelloCourseSpent, HelloFollows, TooFewLines, NoModel, AnotherSource};
 
 /// What a few models mean.
 pub fn meanings()
@@ -14,6 +14,11 @@ pub fn meanings()
 pub fn courses()
     ensures hello { HelloCourse }
     ensures spent { HelloCourseSpent }
+{}
+
+/// A run line that follows its source.
+pub fn hello_follows()
+    ensures { HelloFollows }
 {}
 
 /// Run lines that do not follow their sources.

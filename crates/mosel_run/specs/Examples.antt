@@ -3,16 +3,19 @@
 use Rattle.std.specs.Prelude.{◌≡◌, ℕ, List, [], ◌∷◌, ◌++◌, Option, Some, None, pos, codes}
 use Rattle.mos_text.specs.Content.{Files, Holds, known_of}
 use Rattle.job_calls.specs.declared.call.Call.{Call}
-use Rattle.job_calls.specs.declared.call.Call.TheVariants.{Open, Claim, Quit, Finish, Wait}
+use Rattle.job_calls.specs.declared.call.Call.TheVariants.{Open, Claim, Quit, Finish, Wait, Compile, Write}
 use Rattle.job_calls.specs.declared.end.End.TheVariants as end
 use Rattle.job_calls.specs.declared.entry.Entry.{Entry}
-use Rattle.job_calls.specs.declared.reply.Reply.TheVariants.{Opened, Claimed, Unit as Acknowledged}
+use Rattle.job_calls.specs.declared.reply.Reply.TheVariants.{Opened, Claimed, Code, Unit as Acknowledged}
 use Rattle.job_calls.specs.Runs.{Opening}
 use Rattle.job_calls.specs.Replies.{AllFit}
 use Rattle.job_calls.specs.ReportExamples.{hello_entries, hello_file, entry}
 use Rattle.bim_code.specs.declared.image.Image.{Image}
 use Rattle.bim_code.specs.Tables.{image_bytes}
 use Rattle.mos_meaning.specs.Examples.{hello, hello_image}
+use Rattle.mos_meaning.specs.Syntax.{statements_of}
+use Rattle.mosel_run.specs.Compiled.{image_of}
+use Rattle.mosel_run.specs.FirstFormLaws.{hello_tree}
 use Rattle.mosel_run.specs.Jobs.{opening_on}
 use Rattle.mosel_run.specs.Puts.{Put, puts_of}
 use Rattle.mosel_run.specs.Reported.{IsWhole, AllPut}
@@ -30,6 +33,44 @@ HelloSchedule = schedule_of hello_opening (end.Code (pos 0)) ≡ hello_entries
 abbrev pub HelloPuts : Type 0
 HelloPuts = puts_of hello_opening hello_entries (Some record { statements = hello; image = hello_image } ∷ [])
     ≡ record { name = codes "hello.bim"; bytes = image_bytes hello_image } ∷ []
+
+-- the bytes of that image, by lines: heading; constants; types, parameters, globals, routines, points; code
+abbrev pub HelloBytes : Type 0
+HelloBytes = image_bytes hello_image ≡
+    0x4d ∷ 0x42 ∷ 0x49 ∷ 0x4d ∷ 0 ∷ 1
+    ∷ 0 ∷ 0 ∷ 0 ∷ 1 ∷ 0 ∷ 0 ∷ 0 ∷ 5 ∷ 0x68 ∷ 0x65 ∷ 0x6c ∷ 0x6c ∷ 0x6f
+    ∷ 0 ∷ 0 ∷ 0 ∷ 0 ∷ 0 ∷ 0 ∷ 0 ∷ 0 ∷ 0 ∷ 0 ∷ 0 ∷ 0 ∷ 0 ∷ 0
+    ∷ 0 ∷ 0 ∷ 0 ∷ 20 ∷ 1 ∷ 5 ∷ 0 ∷ 0 ∷ 0 ∷ 0 ∷ 0x1a ∷ 0x43 ∷ 4 ∷ 0 ∷ 0 ∷ 0 ∷ 1 ∷ 0x44
+    ∷ 3 ∷ 0 ∷ 0 ∷ 0 ∷ 0 ∷ 0x45 ∷ []
+
+-- the statements of its tree, and what they are compiled to
+abbrev pub HelloStatements : Type 0
+HelloStatements = statements_of hello_tree ≡ hello
+
+abbrev pub HelloCompiled : Type 0
+HelloCompiled = image_of hello ≡ hello_image
+
+-- its journal is that of a job that came to its end
+abbrev pub HelloIsWhole : Type 0
+HelloIsWhole = IsWhole hello_opening hello_entries
+
+-- a job that compiles a child twice, and writes a block of memory and a file
+abbrev pub puts_entries : List Entry
+puts_entries =
+    entry (0 ∷ []) (Compile (codes "child.mos") (codes "c.bim")) (Code 0)
+    ∷ entry (0 ∷ []) (Write (codes "shmem:x") (codes "v: 1\n")) Acknowledged
+    ∷ entry (0 ∷ []) (Write (codes "o.dat") (codes "v: 2\n")) Acknowledged
+    ∷ entry (0 ∷ []) (Compile (codes "hello.mos") (codes "c.bim")) (Code 0)
+    ∷ entry (0 ∷ []) (Compile (codes "wrong.mos") (codes "w.bim")) (Code 1)
+    ∷ []
+
+-- of two images under one name the last is put, in the place of the first; the block of memory is no file
+abbrev pub PutsInOrder : Type 0
+PutsInOrder = puts_of hello_opening puts_entries (Some record { statements = hello; image = hello_image } ∷ [])
+    ≡ record { name = codes "hello.bim"; bytes = image_bytes hello_image }
+    ∷ record { name = codes "c.bim"; bytes = image_bytes hello_image }
+    ∷ record { name = codes "o.dat"; bytes = codes "v: 2\n" }
+    ∷ []
 
 -- a whole job has the files that its `Open` lists, by name and bytes, and no others
 abbrev pub ListsItsFiles : Type 0

@@ -1,10 +1,27 @@
 //! Worked examples of the definitions: functions that do nothing, whose contracts are the examples.
-ghost use Rattle.mosel_run.specs.Examples.{HelloSchedule, HelloPuts, ListsItsFiles, UntoldLane, SomeoneQuits, TooFewReplies, HoldsWhatIsPut};
+ghost use Rattle.mosel_run.specs.Examples.{HelloSchedule, HelloPuts, HelloBytes, HelloStatements, HelloCompiled, HelloIsWhole, PutsInOrder, ListsItsFiles, UntoldLane, SomeoneQuits, TooFewReplies, HoldsWhatIsPut};
+
+use job_calls::journals::hello_journal;
 
 /// The job of a model that writes hello on one lane: its journal, and what it puts.
 pub fn hello_job()
     ensures schedule { HelloSchedule }
+    ensures whole { HelloIsWhole }
     ensures puts { HelloPuts }
+{
+    hello_journal();
+}
+
+/// The model that writes hello: its statements, its image, and the bytes of that.
+pub fn hello_model()
+    ensures statements { HelloStatements }
+    ensures compiled { HelloCompiled }
+    ensures bytes { HelloBytes }
+{}
+
+/// What a job with several files puts.
+pub fn several_puts()
+    ensures { PutsInOrder }
 {}
 
 /// What keeps a journal, its replies or a folder from being those of a job.

@@ -13,3 +13,6 @@ returns-clause-other_lane_waits c = refl
 
 pub returns-clause-not_done_yet : goal.returns-clause-not_done_yet
 returns-clause-not_done_yet c = λ h. let a = h.answered in cc
+
+pub returns-clause-after_the_end : goal.returns-clause-after_the_end
+returns-clause-after_the_end c = λ h. let f = h.fit in cc

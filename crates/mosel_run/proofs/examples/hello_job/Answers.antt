@@ -1,9 +1,23 @@
--- by computing
-use Rattle.std.proofs.Common.{refl}
+-- by computing; that the journal is legal is an example of its own
+use Rattle.std.proofs.Common.{◌≡◌, ℕ, zero, suc, ◌<◌, Bool, true, refl, arith, rules}
+use Rattle.job_calls.specs.ReportExamples.{hello_entries}
+use Rattle.job_calls.specs.Words.{own_entries, is_finished}
+use Rattle.mosel_run.specs.Reported.{EndsDone}
 use Rattle.mosel_run.proofs.examples.hello_job.Goals as goal
+
+finished : (run : ℕ) → run < 1 → is_finished run hello_entries ≡ true
+finished zero h = refl
+finished (suc run) h = absurd (omega (arith, h))
+
+done : (lane : ℕ) → lane < 1 → EndsDone (own_entries lane hello_entries)
+done zero h = (refl, refl)
+done (suc lane) h = absurd (omega (arith, h))
 
 pub returns-clause-schedule : goal.returns-clause-schedule
 returns-clause-schedule c = refl
+
+pub returns-clause-whole : goal.returns-clause-whole
+returns-clause-whole c = record { legal = search rules; opened = refl; no_quit = refl; all_finished = finished; all_done = done }
 
 pub returns-clause-puts : goal.returns-clause-puts
 returns-clause-puts c = refl

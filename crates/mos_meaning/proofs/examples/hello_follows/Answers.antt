@@ -1,0 +1,41 @@
+-- the one line, and no other, by computing
+use Rattle.std.proofs.Common.{◌≡◌, ℕ, zero, suc, [], ◌∷◌, Option, Some, None, refl, subst}
+use Rattle.std.specs.Prelude.{slice_get, pos, codes}
+use Rattle.std.specs.Fmt.{digits}
+use Rattle.job_calls.specs.declared.run_line.RunLine.{RunLine}
+use Rattle.job_calls.specs.Runs.{Opening}
+use Rattle.job_calls.specs.ReportExamples.{hello_entries, hello_runs, hello_file}
+use Rattle.mos_meaning.specs.Examples.{hello, hello_image, hello_models}
+use Rattle.mos_meaning.specs.Follows.{Follows}
+use Rattle.mos_meaning.proofs.examples.hello_follows.Goals as goal
+
+abbrev opened : Opening
+opened = record { lanes = 1; budget = 10000000; params = []; files = hello_file ∷ [] }
+
+inside : {A : Type 0} (x y : A) → Some x ≡ Some y → x ≡ y
+inside x y e = cc
+
+each : (run : ℕ) (line : RunLine) → slice_get hello_runs run ≡ Some line → Follows hello_entries opened hello_models run line
+each zero line e = subst (Follows hello_entries opened hello_models 0) (inside _ line e) record {
+  source = 0;
+  params = [];
+  file = hello_file;
+  model = record { statements = hello; image = hello_image };
+  source_is = refl;
+  params_is = refl;
+  file_is = refl;
+  model_is = refl;
+  follows = record {
+    named = refl;
+    replies_fit = tt;
+    calls = refl;
+    ends = (refl, refl);
+    output = refl;
+    ticks = refl;
+    steps = refl;
+  };
+}
+each (suc run) line e = let none : None ≡ Some line = e in cc
+
+pub returns : goal.returns
+returns c = record { opened = opened; opened_is = refl; all_runs = refl; each = each }
