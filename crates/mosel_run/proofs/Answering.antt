@@ -1,20 +1,16 @@
 -- What was prepared, written and put says what the status says.
 
-use Rattle.std.proofs.Common.{◌≡◌, ◌≤◌, ◌+◌, ◌-◌, ◌^◌, ℕ, List, [], ◌∷◌, ◌++◌, Option, Some, None, refl, sym, ap, ◌∙◌, subst, inl, inr, arith}
-use Rattle.mos_text.specs.Content.{Files, put_file, lose_file, SameElsewhere, known_of}
-use Rattle.mos_text.specs.Faults.{Rose}
+use Rattle.std.proofs.Common.{◌≡◌, ◌≤◌, ℕ, List, [], ◌∷◌, Option, Some, refl, sym, ap, ◌∙◌, subst, inr, arith}
+use Rattle.mos_text.specs.Content.{put_file, lose_file, known_of}
 use Rattle.mos_text.specs.SinkBytes.{appended, AppendedPart}
 use Rattle.job_calls.specs.declared.end.End.{End}
-use Rattle.job_calls.specs.Runs.{finish_of}
-use Rattle.job_calls.specs.ReportText.{report_text}
 use Rattle.mosel_run.specs.declared.jobs.Output.{Output}
 use Rattle.mosel_run.specs.declared.status.Status.{Status}
-use Rattle.mosel_run.specs.declared.status.Status.TheVariants.{Done, Usage, Refused, Missing, TooLarge, FolderFault, SinkFault, StartRefused, MasterFailed, MasterSpent, Stalled, BadInput, NoMemory, RunNoMemory}
-use Rattle.mosel_run.specs.Answered.{Disk, Paper, IsLine, IsReport, IsText, line, report, SaysOnly, WrotePart, Reports, LacksMemory, before_writing, writing, putting, Answered}
-use Rattle.mosel_run.specs.Outputs.{IsOutput}
-use Rattle.mosel_run.specs.Puts.{Put, put_all}
-use Rattle.mosel_run.specs.Reported.{HasReported, EndedWell, EndedBadly, EndedSpent, EndedSomehow, AllPut, PutUpTo}
-use Rattle.mosel_run.specs.Storing.{Ends, IsPut, Stores}
+use Rattle.mosel_run.specs.declared.status.Status.TheVariants.{Done, FolderFault, MasterFailed, MasterSpent, NoMemory}
+use Rattle.mosel_run.specs.Answered.{Disk, Paper, IsLine, IsReport, line, report, WrotePart, Reports, putting, Answered}
+use Rattle.mosel_run.specs.Puts.{Put}
+use Rattle.mosel_run.specs.Reported.{EndedWell, EndedBadly, EndedSpent, EndedSomehow, AllPut, PutUpTo}
+use Rattle.mosel_run.specs.Storing.{IsPut, Stores}
 
 -- a report that was written, by what is put
 reports : (words : List (List ℕ)) (before after : Disk) (paper paper_after : Paper) (output : Output)

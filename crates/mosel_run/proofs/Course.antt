@@ -1,6 +1,6 @@
 -- The course of a model's image is the model's meaning, and it is over within its number of steps.
 
-use Rattle.std.proofs.Common.{◌≡◌, ◌≤◌, ℕ, ◌+◌, ◌*◌, ◌-◌, zero, suc, pos, List, [], ◌∷◌, ◌++◌, length, Option, Some, None, refl, sym, ap, ◌∙◌, subst, length-append, append_assoc, arith}
+use Rattle.std.proofs.Common.{◌≡◌, ◌≤◌, ℕ, ◌+◌, ◌-◌, zero, suc, pos, List, [], ◌∷◌, ◌++◌, length, Option, Some, None, refl, sym, ap, ◌∙◌, subst, length-append, append_assoc, arith}
 use Rattle.std.proofs.lemmas.List.{length-replicate}
 use Rattle.mos_text.specs.declared.scalar.Scalar.{Scalar}
 use Rattle.mos_text.specs.declared.scalar.Scalar.TheVariants.{Int}
@@ -10,17 +10,17 @@ use Rattle.bim_code.specs.declared.instruction.Instruction.{Instruction}
 use Rattle.bim_code.specs.declared.instruction.Instruction.TheVariants.{PushInt, End}
 use Rattle.bim_code.specs.Rows.{width}
 use Rattle.bim_code.specs.Code.{instruction_at}
-use Rattle.mos_meaning.specs.State.{State, Stop, Exited, Spent, Stuck, Outcome, ticked, beginning}
+use Rattle.mos_meaning.specs.State.{State, Stop, Exited, Spent, Stuck, ticked, beginning}
 use Rattle.mos_meaning.specs.Syntax.{Block, variables_of}
 use Rattle.mos_meaning.specs.Effects.{Done, Goes, Broke, Continues, Ends, effects_of}
 use Rattle.mos_meaning.specs.Meaning.{told, told_done, defaults, meaning_of}
 use Rattle.mos_meaning.specs.Machine.{Machine, At, Over, Frame, Act, On, Ticks, Stops, act, settle, decoded, step, on_integer, tick_to, run, steps_taken, start, most_steps, told_machine, course_of}
-use Rattle.mosel_run.specs.Compiled.{block_code, texts_in_block, image_of}
+use Rattle.mosel_run.specs.Compiled.{block_code, image_of}
 use Rattle.mosel_run.specs.Built.{IsBuiltBlock}
 use Rattle.mosel_run.specs.Closed.{IsClosed}
 use Rattle.mosel_run.proofs.Leads.{Leads, same, chain, then_one, run_add, run_over, over_once}
-use Rattle.mosel_run.proofs.Standing.{HasAt, after, parts, whole, HasTexts, all_texts}
-use Rattle.mosel_run.proofs.Effects.{land, idle, ending, block_runs}
+use Rattle.mosel_run.proofs.Standing.{HasAt, after, parts, whole, all_texts}
+use Rattle.mosel_run.proofs.Effects.{land, idle, block_runs}
 
 -- the machine is over, one way or the other
 pub record IsOver (m : Machine) : Type 0 where

@@ -1,22 +1,21 @@
 -- The code of a statement does what the statement does, and lands behind itself or stops as it does.
 
-use Rattle.std.proofs.Common.{◌≡◌, ℕ, ◌+◌, zero, suc, ℤ, List, [], ◌∷◌, ◌++◌, length, Option, Some, None, Bool, true, false, refl, sym, ap, ◌∙◌, slice_get, slice_set, subst, nat_lt, append_assoc}
+use Rattle.std.proofs.Common.{◌≡◌, ℕ, ◌+◌, List, [], ◌∷◌, ◌++◌, length, Option, Some, None, Bool, true, false, refl, sym, ap, ◌∙◌, slice_set, subst, nat_lt, append_assoc}
 use Rattle.std.specs.Prelude.{if◌then◌else◌}
 use Rattle.mos_text.specs.declared.scalar.Scalar.{Scalar}
-use Rattle.mos_text.specs.declared.scalar.Scalar.TheVariants.{Int, Bool as Truth, Str}
+use Rattle.mos_text.specs.declared.scalar.Scalar.TheVariants.{Bool as Truth, Str}
 use Rattle.mos_text.specs.declared.fault_kind.FaultKind.TheVariants.{TooBig, OutFull}
 use Rattle.bim_code.specs.declared.image.Image.{Image}
 use Rattle.bim_code.specs.declared.instruction.Instruction.{Instruction}
 use Rattle.bim_code.specs.declared.instruction.Instruction.TheVariants.{Tick, PushBool, StoreGlobal, Show, Write, Line}
-use Rattle.bim_code.specs.Rows.{width}
 use Rattle.bim_code.specs.Code.{instruction_at}
-use Rattle.mos_meaning.specs.State.{Memory, State, Stop, Failed, Got, Gave, Halts, Stuck, Spent, ticked}
+use Rattle.mos_meaning.specs.State.{Memory, State, Failed, Got, Gave, Halts, Stuck, Spent, ticked}
 use Rattle.mos_meaning.specs.Values.{shown, line_end, written}
-use Rattle.mos_meaning.specs.Syntax.{Expression, Arguments, nothing, one_more, Effect, assign, writeln, unbuilt_effect, Block, done, first}
-use Rattle.mos_meaning.specs.Effects.{place_of, value_of, Done, Goes, Broke, Continues, Ends, do_with, then_do, do_ticked, tick_do, put, put_written, put_line, do_shown, write_all, effect_of, effects_of}
-use Rattle.mos_meaning.specs.Machine.{Machine, At, Over, Frame, Act, On, Stops, pushed, act, settle, stored, tick_to, or_fault as act_or_fault}
+use Rattle.mos_meaning.specs.Syntax.{Arguments, nothing, one_more, Effect, assign, writeln, unbuilt_effect, Block, done, first}
+use Rattle.mos_meaning.specs.Effects.{place_of, value_of, Done, Goes, Broke, Continues, Ends, do_with, then_do, do_ticked, tick_do, put, put_written, do_shown, write_all, effect_of, effects_of}
+use Rattle.mos_meaning.specs.Machine.{Machine, At, Over, Frame, On, Stops, pushed, settle, stored, tick_to, or_fault as act_or_fault}
 use Rattle.mosel_run.specs.Compiled.{texts_in, texts_in_all, texts_in_effect, texts_in_block, expression_code, arguments_code, effect_code, block_code}
-use Rattle.mosel_run.specs.Built.{IsBuilt, AreBuilt, IsBuiltEffect, IsBuiltBlock}
+use Rattle.mosel_run.specs.Built.{AreBuilt, IsBuiltEffect, IsBuiltBlock}
 use Rattle.mosel_run.proofs.Leads.{Leads, same, chain, then_one}
 use Rattle.mosel_run.proofs.Standing.{HasAt, after, after-append, parts, HasTexts, text_parts}
 use Rattle.mosel_run.proofs.Expressions.{push, expression_runs}

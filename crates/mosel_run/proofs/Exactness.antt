@@ -1,19 +1,18 @@
 -- Each status comes in its own way alone, so that the words and the file tell it.
 
-use Rattle.std.proofs.Common.{◌≡◌, ◌≤◌, ◌<◌, ℕ, List, [], Option, Some, None, length, refl, sym, ap, ◌∙◌, subst, inl, inr, Result, Ok, Err, arith}
-use Rattle.mos_text.specs.Content.{Files, Known, Unknown, Absent, Holds, known_of}
+use Rattle.std.proofs.Common.{◌≡◌, ◌≤◌, ◌<◌, ℕ, List, Option, Some, None, length, refl, sym, ap, ◌∙◌, subst, inl, inr, Result, Ok, Err, arith}
+use Rattle.mos_text.specs.Content.{Files, Known, Absent, Holds, known_of}
 use Rattle.mos_text.specs.Gets.{Answers}
 use Rattle.mos_text.specs.declared.folder.Got.{Got}
 use Rattle.mos_text.specs.declared.folder.Got.TheVariants.{Bytes, Missing as NotThere, TooLarge as TooLong}
 use Rattle.mos_text.specs.declared.kind.Kind.{Kind}
 use Rattle.mos_tree.specs.declared.source.Tree.{Tree}
 use Rattle.mos_words.specs.Words.{command_of}
-use Rattle.mos_words.specs.declared.words.commands.Command.{Command}
 use Rattle.mos_words.specs.declared.words.commands.Command.TheVariants.{Run}
 use Rattle.mosel_run.specs.declared.status.Status.{Status}
-use Rattle.mosel_run.specs.declared.status.Status.TheVariants.{Done, Usage, Refused, Missing, TooLarge, FolderFault, SinkFault, StartRefused, MasterFailed, MasterSpent, Stalled, BadInput, NoMemory, RunNoMemory}
+use Rattle.mosel_run.specs.declared.status.Status.TheVariants.{Done, Usage, Refused, Missing, TooLarge, FolderFault, SinkFault, MasterFailed, MasterSpent, NoMemory}
 use Rattle.mosel_run.specs.Answered.{Disk, Paper, Runs, source_limit, Answered}
-use Rattle.mosel_run.specs.Exact.{Hides, IsReported, Only, ExactUsage, ExactMissing, ExactTooLarge, ExactRefused, ExactReport}
+use Rattle.mosel_run.specs.Exact.{ExactUsage, ExactMissing, ExactTooLarge, ExactRefused, ExactReport}
 use Rattle.mosel_run.specs.Accepted.{IsAccepted, IsRefusedAt}
 use Rattle.mosel_run.proofs.AcceptedForms.{accepted-is, refused-is}
 

@@ -9,11 +9,11 @@ use Rattle.bim_code.specs.declared.instruction.Instruction.{Instruction}
 use Rattle.bim_code.specs.declared.instruction.Instruction.TheVariants.{PushInt, PushText, LoadGlobal, Add, Subtract}
 use Rattle.bim_code.specs.Rows.{width}
 use Rattle.bim_code.specs.Code.{instruction_at}
-use Rattle.mos_meaning.specs.State.{Memory, State, Stop, Got, Gave, Halts, Stuck}
+use Rattle.mos_meaning.specs.State.{Memory, State, Got, Gave, Halts, Stuck}
 use Rattle.mos_meaning.specs.Values.{sum_of, difference_of, limited}
 use Rattle.mos_meaning.specs.Syntax.{Expression, number, text, name, plus, minus, unbuilt}
 use Rattle.mos_meaning.specs.Effects.{place_of, give, or_fault, or_stuck, combined, value_of}
-use Rattle.mos_meaning.specs.Machine.{Machine, At, Over, Frame, Act, On, pushed, act, settle, on_some, on_integers, or_fault as act_or_fault}
+use Rattle.mos_meaning.specs.Machine.{Machine, At, Over, Frame, On, pushed, act, settle, on_some, on_integers, or_fault as act_or_fault}
 use Rattle.mosel_run.specs.Compiled.{texts_in, expression_code}
 use Rattle.mosel_run.specs.Built.{IsBuilt}
 use Rattle.mosel_run.proofs.Leads.{Leads, same, chain, then_one}

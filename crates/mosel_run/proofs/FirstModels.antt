@@ -1,6 +1,6 @@
 -- The models of accepted sources: every statement works, and none is larger than the source.
 
-use Rattle.std.proofs.Common.{◌≡◌, ◌≤◌, append-nil, ◌<◌, ◌^◌, ◌*◌, ℕ, ◌+◌, zero, suc, pos, Bool, true, false, List, [], ◌∷◌, ◌++◌, length, Option, Some, None, refl, sym, ap, ◌∙◌, subst, map, cond, ◌==◌, length-append, arith}
+use Rattle.std.proofs.Common.{◌≡◌, ◌≤◌, append-nil, ◌<◌, ◌^◌, ℕ, ◌+◌, suc, pos, Bool, true, false, List, [], ◌∷◌, ◌++◌, length, Option, Some, None, refl, sym, ap, ◌∙◌, subst, map, cond, length-append, arith}
 use Rattle.std.specs.Prelude.{All, codes, ◌||◌, FitsSigned}
 use Rattle.std.specs.Int.{w32}
 use Rattle.std.specs.List.{list_any, join_with_byte}
@@ -15,16 +15,16 @@ use Rattle.mos_tree.specs.declared.expr.Expr.TheVariants as expr
 use Rattle.mos_tree.specs.declared.statement.Statement.{Statement}
 use Rattle.mos_tree.specs.declared.source.Top.{Top}
 use Rattle.mos_tree.specs.declared.source.Tree.{Tree}
-use Rattle.mos_meaning.specs.Syntax.{Expression, number, text, name, plus, minus, unbuilt, Arguments, nothing, one_more, Effect, assign, writeln, unbuilt_effect, Block, done, first, expression, effect, top_effect, block, statements_of, has_name, with_name, names_after, names_from, variables_of}
+use Rattle.mos_meaning.specs.Syntax.{Expression, number, text, name, plus, minus, unbuilt, Arguments, nothing, one_more, Effect, assign, writeln, unbuilt_effect, Block, done, first, expression, effect, top_effect, block, statements_of, has_name, names_after, names_from, variables_of}
 use Rattle.mosel_run.specs.Accepted.{IsAccepted}
 use Rattle.mosel_run.specs.Built.{IsBuilt, AreBuilt, IsBuiltEffect, IsBuiltBlock}
-use Rattle.mosel_run.specs.Compiled.{texts_in, texts_in_all, texts_in_effect, texts_in_block}
+use Rattle.mosel_run.specs.Compiled.{texts_in, texts_in_effect, texts_in_block}
 use Rattle.mosel_run.specs.FirstForm as form
 use Rattle.mosel_run.specs.FirstForm.{Bytes, lines_of, skip_blanks, Spells, IsArgument, IsStatement, IsBody, IsSource}
-use Rattle.mosel_run.specs.Sizes.{size_of, size_of_all, size_of_effect, size_of_block}
+use Rattle.mosel_run.specs.Sizes.{size_of, size_of_effect, size_of_block}
 use Rattle.mosel_run.specs.Sums as sums
 use Rattle.mosel_run.specs.Sums.{IsOperand, GoesOnTo, IsSum}
-use Rattle.mosel_run.specs.UnknownNames.{or_other, unless_known, unknown_in, unknown_in_all, unknown_of, line_of_top, at_line, first_unknown}
+use Rattle.mosel_run.specs.UnknownNames.{or_other, unknown_in, unknown_in_all, unknown_of, line_of_top, at_line, first_unknown}
 use Rattle.mosel_run.specs.Working.{IsNumeric, IsShown, AreShown, Works, AllWork}
 use Rattle.mosel_run.proofs.ChainSteps.{expression_of_binary}
 use Rattle.mosel_run.proofs.SumChains.{expression_of_integer, expression_of_name, expression_of_text, effect_of_writeln, effect_of_assign}

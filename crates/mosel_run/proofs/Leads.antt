@@ -1,6 +1,6 @@
 -- The machine leads from one of its states to another.
 
-use Rattle.std.proofs.Common.{◌≡◌, ℕ, ◌+◌, suc, zero, Option, Some, None, refl, sym, ap, ◌∙◌, zero-add, arith}
+use Rattle.std.proofs.Common.{◌≡◌, ℕ, ◌+◌, suc, zero, Some, refl, sym, ap, ◌∙◌, arith}
 use Rattle.bim_code.specs.declared.image.Image.{Image}
 use Rattle.bim_code.specs.declared.instruction.Instruction.{Instruction}
 use Rattle.bim_code.specs.Rows.{width}

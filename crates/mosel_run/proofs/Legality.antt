@@ -1,8 +1,7 @@
 -- The journal of the one-thread schedule is legal and whole.
 
-use Rattle.std.proofs.Common.{◌≡◌, ◌≤◌, ◌<◌, ◌≢◌, ℕ, ◌+◌, ◌-◌, zero, suc, Bool, true, false, not, ◌&&◌, ◌||◌, List, [], ◌∷◌, ◌++◌, length, Option, Some, None, refl, sym, ap, ◌∙◌, subst, nat_eq, nat_lt, append-nil, eq-eqb, ne_eqb, cond, arith}
-use Rattle.std.specs.Prelude.{filter, count_by, is_some, if◌then◌else◌, IsTrue}
-use Rattle.std.specs.List.{list_any}
+use Rattle.std.proofs.Common.{◌≡◌, ◌≤◌, ◌<◌, ◌≢◌, ℕ, ◌+◌, ◌-◌, zero, suc, true, false, not, ◌&&◌, ◌||◌, List, [], ◌∷◌, ◌++◌, Some, None, refl, sym, ap, ◌∙◌, subst, nat_eq, nat_lt, append-nil, ne_eqb, arith}
+use Rattle.std.specs.Prelude.{count_by, is_some, if◌then◌else◌, IsTrue}
 use Rattle.std.proofs.lemmas.List.Folds.{list_any-append}
 use Rattle.std.proofs.lemmas.List.Elements.{filter-append}
 use Rattle.std.proofs.lemmas.Bool.{lt-ltb}
@@ -12,11 +11,11 @@ use Rattle.job_calls.specs.declared.entry.Entry.{Entry}
 use Rattle.job_calls.specs.declared.reply.Answer.TheVariants.{Ready, NotYet, Shut}
 use Rattle.job_calls.specs.declared.reply.Reply.TheVariants.{Done}
 use Rattle.job_calls.specs.declared.call.Call.TheVariants.{Claim}
-use Rattle.job_calls.specs.Words.{is_run, is_quit, is_finish, is_started, claims, is_done, own_entries, has_quit, run_count, is_claimed, is_finished, unclaimed, first_unclaimed}
+use Rattle.job_calls.specs.Words.{is_run, is_quit, is_finish, is_started, claims, own_entries, has_quit, run_count, is_claimed, is_finished, unclaimed, first_unclaimed}
 use Rattle.job_calls.specs.Runs.{Opening, opening}
-use Rattle.job_calls.specs.Answers.{answer_of, open_answer, claim_answer, next_run}
-use Rattle.job_calls.specs.Fitting.{fits, below_lanes, call_fits, held_run, was_done}
-use Rattle.job_calls.specs.Legal.{CanOpen, IsLegal, IsOpening, Follows, FollowOn}
+use Rattle.job_calls.specs.Answers.{claim_answer, next_run}
+use Rattle.job_calls.specs.Fitting.{fits, below_lanes, held_run, was_done}
+use Rattle.job_calls.specs.Legal.{CanOpen, IsLegal, Follows, FollowOn}
 use Rattle.mosel_run.specs.Schedule.{opened, claimed, finished, told_done, dones, schedule_of}
 
 -- run 0 has ended, and there is no other run

@@ -1,7 +1,6 @@
 -- Lines: what the reader finds of a line is what the form says of it.
-use Rattle.std.proofs.Common.{◌≡◌, ◌==◌, ◌≢◌, ◌<◌, ℕ, Bool, true, false, List, append-nil, append_assoc, [], ◌∷◌, ◌++◌, length, drop, get_or, Option, Some, None, ◌⊎◌, inl, inr, refl, sym, ap, subst, ◌∙◌, cond, codes, arith}
+use Rattle.std.proofs.Common.{◌≡◌, ◌==◌, ◌<◌, ℕ, Bool, true, false, List, append-nil, append_assoc, [], ◌∷◌, ◌++◌, length, drop, get_or, Option, Some, None, ◌⊎◌, inl, inr, refl, sym, ap, subst, ◌∙◌, cond, codes, arith}
 use Rattle.std.specs.Prelude.{option_and_then, is_some}
-use Rattle.std.specs.List.{All}
 use Rattle.std.specs.Str.{is_utf8, IsUtf8}
 use Rattle.std.proofs.lemmas.Bool.{eqb-true}
 use Rattle.std.proofs.lemmas.Str.{is_utf8-from_IsUtf8, IsUtf8-from_is_utf8}
@@ -127,9 +126,11 @@ text_in-Some bytes found e =
     let first = and_then-Some (quoted_in bytes) text_value found e in
     let string = quoted_in-Some bytes first.0 first.1 in
     let made = text_made-Some first.0.1 first.0.0 found _ refl first.2 in
-    subst (λ (f : Expr × Bytes). ReadArgument bytes f) made.1
-    (quoted first.0.0 ∷ [], form.text first.0.0 (IsString-is first.0.0 made.0 string.2),
-    λ more k. (string.0, string.1, subst (λ (b : Bytes). Spells more b) string.3 k))
+    subst (λ (f : Expr × Bytes). ReadArgument bytes f) made.1 (
+      quoted first.0.0 ∷ [],
+      form.text first.0.0 (IsString-is first.0.0 made.0 string.2),
+      λ more k. (string.0, string.1, subst (λ (b : Bytes). Spells more b) string.3 k),
+    )
 
 sum-argument : (bytes : Bytes) (found : Expr × Bytes) → sum_in bytes ≡ Some found → ReadArgument bytes found
 sum-argument bytes found e = let read = sum_in-Some bytes found e in (read.0, form.sum read.0 found.0 read.1, read.2)

@@ -1,10 +1,8 @@
 -- A model whose every statement works is never stuck: each variable holds an integer at all times.
 
-use Rattle.std.proofs.Common.{◌≡◌, ℕ, zero, suc, ◌+◌, ◌<◌, ℤ, List, [], ◌∷◌, ◌++◌, Bool, Option, Some, None, refl, sym, ap, subst, ◌∙◌, true, false, ◌≢◌, length, slice_get, slice_set, get_or, nat_lt, cond, pos, arith}
-use Rattle.std.specs.Prelude.{All, if◌then◌else◌, replicate, ◌||◌}
-use Rattle.std.specs.List.{list_any}
+use Rattle.std.proofs.Common.{◌≡◌, ℕ, zero, suc, ◌+◌, ◌<◌, ℤ, List, [], ◌∷◌, ◌++◌, Bool, Option, Some, None, refl, sym, ap, subst, ◌∙◌, true, false, ◌≢◌, length, nat_lt, cond, pos, arith}
+use Rattle.std.specs.Prelude.{All, if◌then◌else◌, ◌||◌}
 use Rattle.std.specs.Str.{bytes_eq}
-use Rattle.std.proofs.lemmas.Bool.{le-leb}
 use Rattle.std.proofs.lemmas.Bool.Decides.{nat_tests}
 use Rattle.std.proofs.lemmas.List.{length-set, length-replicate}
 use Rattle.std.proofs.lemmas.List.Elements.{All-set, All-replicate}
@@ -14,10 +12,10 @@ use Rattle.mos_text.specs.declared.scalar.Scalar.TheVariants.{Int, Str}
 use Rattle.mos_text.specs.declared.fault_kind.FaultKind.{FaultKind}
 use Rattle.mos_text.specs.declared.fault_kind.FaultKind.TheVariants.{TooBig, OutFull, Overflow}
 use Rattle.job_calls.specs.declared.reply.Reply.{Reply}
-use Rattle.mos_meaning.specs.State.{Memory, State, Stop, Failed, Spent, Stuck, Got, Gave, Halts, ticked}
-use Rattle.mos_meaning.specs.Values.{limited, shown, written, line_end, sum_of, difference_of}
+use Rattle.mos_meaning.specs.State.{State, Stop, Failed, Spent, Stuck, Got, Gave, Halts, ticked}
+use Rattle.mos_meaning.specs.Values.{limited, shown, line_end, sum_of, difference_of}
 use Rattle.mos_meaning.specs.Syntax.{Expression, number, text, name, plus, minus, unbuilt, Arguments, nothing, one_more, Effect, writeln, assign, unbuilt_effect, Block, done, first, has_name, variables_of}
-use Rattle.mos_meaning.specs.Effects.{Done, Goes, Broke, Continues, Ends, give, or_fault, or_stuck, combined, value_of, place_of, do_with, then_do, do_ticked, do_shown, put, put_written, write_all, effect_of, effects_of}
+use Rattle.mos_meaning.specs.Effects.{Done, Goes, Ends, give, or_fault, or_stuck, combined, value_of, place_of, do_with, then_do, do_ticked, do_shown, put, put_written, write_all, effect_of, effects_of}
 use Rattle.mos_meaning.specs.Meaning.{meaning_of, told_done}
 use Rattle.mosel_run.specs.Working.{IsNumeric, IsShown, AreShown, Works, AllWork}
 

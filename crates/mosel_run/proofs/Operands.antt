@@ -1,7 +1,6 @@
 -- Operands: names are text, and the reader's test of an operand is the form.
-use Rattle.std.proofs.Common.{◌≡◌, ℕ, pos, ◌<◌, ◌≤◌, Bool, true, false, List, length, get_or, Option, Some, None, refl, sym, ap, subst, ◌∙◌, cond, nat_le, ◌↔◌, arith}
+use Rattle.std.proofs.Common.{◌≡◌, ℕ, pos, ◌<◌, Bool, true, false, List, length, get_or, Some, None, refl, sym, ap, subst, ◌∙◌, cond, nat_le, arith}
 use Rattle.std.specs.Prelude.{not}
-use Rattle.std.specs.List.{list_all}
 use Rattle.mos_text.specs.FileName.{is_digit}
 use Rattle.std.specs.Str.{IsUtf8}
 use Rattle.std.proofs.lemmas.Bool.{and_parts, leb-true, le-leb, ltb-true}
@@ -11,7 +10,7 @@ use Rattle.std.proofs.lemmas.Str.{IsUtf8-from_ascii}
 use Rattle.std.proofs.lemmas.Str.Ascii.{IsAscii-from_all}
 use Rattle.mos_tree.specs.declared.expr.Expr.{Expr}
 use Rattle.mos_tree.specs.declared.expr.Expr.TheVariants as expr
-use Rattle.mosel_run.specs.Sums.{is_word_byte, is_name, is_literal, operand_of, number_of, IsOperand, literal, name, OperandsAreRead}
+use Rattle.mosel_run.specs.Sums.{is_word_byte, is_name, is_literal, operand_of, number_of, IsOperand, literal, name}
 
 word_byte-ascii : (byte : ℕ) → is_word_byte byte ≡ true → byte < 128
 word_byte-ascii byte h = grind (arith, nat_tests)

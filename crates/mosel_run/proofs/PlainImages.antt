@@ -1,10 +1,9 @@
 -- The image of a model whose statements work is plain.
 
-use Rattle.std.proofs.Common.{◌≡◌, ◌<◌, ◌≤◌, ◌^◌, ◌+◌, ℕ, pos, List, [], ◌∷◌, ◌++◌, length, refl, arith, length-append, rules}
-use Rattle.std.specs.Prelude.{All, FitsSigned, true, replicate}
+use Rattle.std.proofs.Common.{◌≡◌, ◌<◌, ◌^◌, ◌+◌, ℕ, pos, List, [], ◌∷◌, ◌++◌, length, refl, arith, length-append, rules}
+use Rattle.std.specs.Prelude.{All, FitsSigned, true}
 use Rattle.std.specs.Int.{w32}
 use Rattle.std.proofs.lemmas.List.Elements.{All-nil, All-cons, All-append, All-replicate}
-use Rattle.bim_code.specs.declared.instruction.Instruction.{Instruction}
 use Rattle.bim_code.specs.declared.instruction.Instruction.TheVariants.{Tick, PushInt, PushBool, PushText, LoadGlobal, StoreGlobal, Add, Subtract, Show, Write, Line, End}
 use Rattle.mos_meaning.specs.Syntax.{Expression, number, text, name, plus, minus, unbuilt, Arguments, nothing, one_more, Effect, assign, writeln, unbuilt_effect, Block, done, first, variables_of}
 use Rattle.mos_meaning.specs.Effects.{place_of}

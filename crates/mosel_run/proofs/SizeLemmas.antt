@@ -1,14 +1,13 @@
 -- Bounds on what is made of a model, by its size.
 
-use Rattle.std.proofs.Common.{◌≡◌, ◌≤◌, ◌<◌, ℕ, ◌+◌, ◌*◌, ◌^◌, zero, suc, pos, Bool, true, false, List, [], ◌∷◌, ◌++◌, length, refl, sym, ap, ◌∙◌, length-append, get_or, arith}
-use Rattle.std.specs.Prelude.{if◌then◌else◌, All, replicate}
+use Rattle.std.proofs.Common.{◌≡◌, ◌≤◌, ◌<◌, ℕ, ◌+◌, ◌*◌, ◌^◌, zero, suc, pos, Bool, true, false, List, [], ◌∷◌, ◌++◌, length, length-append, get_or, arith}
+use Rattle.std.specs.Prelude.{if◌then◌else◌, All}
 use Rattle.std.proofs.lemmas.List.{length-replicate}
 use Rattle.std.proofs.lemmas.List.Elements.{All-nil}
 use Rattle.bim_code.specs.declared.image.ImageType.{ImageType}
 use Rattle.bim_code.specs.declared.instruction.Instruction.{Instruction}
 use Rattle.bim_code.specs.declared.instruction.Instruction.TheVariants.{PushInt, PushBool, StoreGlobal, Line, Show, Write, Add, Subtract, End}
 use Rattle.bim_code.specs.declared.image.ImageType.TheVariants.{Integer}
-use Rattle.bim_code.specs.Rows.{width}
 use Rattle.bim_code.specs.Code.{code_size}
 use Rattle.bim_code.specs.Limits.{FitsFields, TypeFits}
 use Rattle.mos_meaning.specs.Syntax.{Expression, number, text, name, plus, minus, unbuilt, Arguments, nothing, one_more, Effect, assign, writeln, unbuilt_effect, Block, done, first, has_name, with_name, names_after, names_from, variables_of}

@@ -1,17 +1,17 @@
 -- How the machine moves on by one instruction of its code, and when it has stopped.
 
-use Rattle.std.proofs.Common.{◌≡◌, ◌≤◌, ◌<◌, ℕ, ◌+◌, ◌*◌, ◌-◌, zero, suc, List, [], ◌∷◌, ◌++◌, length, Option, Some, None, refl, sym, ap, ◌∙◌, subst, take, drop, get_or, arith}
+use Rattle.std.proofs.Common.{◌≡◌, ◌≤◌, ◌<◌, ℕ, ◌+◌, ◌*◌, ◌-◌, zero, suc, List, [], ◌∷◌, ◌++◌, length, Option, Some, refl, sym, ap, ◌∙◌, subst, take, drop, get_or, arith}
 use Rattle.bim_code.specs.declared.image.Image.{Image}
 use Rattle.bim_code.specs.declared.instruction.Instruction.{Instruction}
 use Rattle.bim_code.specs.Rows.{width}
 use Rattle.bim_code.specs.Code.{instruction_at}
 use Rattle.mos_meaning.specs.State.{State, Stop, Outcome, beginning}
 use Rattle.mos_meaning.specs.Meaning.{defaults}
-use Rattle.mos_meaning.specs.Machine.{Machine, At, Over, Frame, act, settle, decoded, step, run, steps_taken, start, most_steps, Course}
+use Rattle.mos_meaning.specs.Machine.{Machine, At, Over, Frame, act, settle, decoded, step, run, steps_taken, start, Course}
 use Rattle.mosel_run.specs.declared.halt.Halt.{Halt}
 use Rattle.mosel_run.specs.Closed.{IsClosed}
 use Rattle.mosel_run.specs.Kept.{Kept}
-use Rattle.mosel_run.specs.Stepping.{lands, stop_of}
+use Rattle.mosel_run.specs.Stepping.{lands}
 use Rattle.mosel_run.proofs.Leads.{run_add, run_over}
 use Rattle.mosel_run.proofs.Standing.{after, after-append, found}
 use Rattle.std.proofs.lemmas.List.{take_more}

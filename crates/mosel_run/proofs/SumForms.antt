@@ -1,5 +1,5 @@
 -- Sums: what the reader finds of a sum is what the form says of it.
-use Rattle.std.proofs.Common.{◌≡◌, ◌==◌, ◌≢◌, ℕ, ◌+◌, ◌<◌, ◌≤◌, zero, suc, Bool, true, false, List, [], ◌∷◌, ◌++◌, length, take, drop, get_or, Option, Some, None, ◌⊎◌, inl, inr, refl, sym, ap, subst, ◌∙◌, cond, codes, length-append, arith}
+use Rattle.std.proofs.Common.{◌≡◌, ◌≢◌, ℕ, ◌+◌, ◌<◌, zero, suc, Bool, true, false, List, [], ◌∷◌, ◌++◌, length, drop, get_or, Option, Some, None, ◌⊎◌, inl, inr, refl, sym, ap, subst, ◌∙◌, cond, codes, length-append, arith}
 use Rattle.std.specs.Prelude.{not, option_and_then}
 use Rattle.std.specs.List.{list_all, position_or_len}
 use Rattle.std.proofs.Math.Seq.{take-append_seam, drop-append_seam, get_or-append_seam}
@@ -73,14 +73,18 @@ no-more left bytes found e = subst (λ (f : Expr × Bytes). ReadOn left bytes f)
 one-more : (left : Expr) (bytes : Bytes) (signed : BinaryOperator × Bytes) (one : Expr × Bytes) (found : Expr × Bytes) → Signed (codes "+") operator.Plus bytes signed ⊎ Signed (codes "-") operator.Minus bytes signed → operand_in signed.1 ≡ Some one → ReadOn (expr.Binary signed.0 left one.0) one.1 found → ReadOn left bytes found
 one-more left bytes signed one found (inl s) e h =
     let operand = operand_in-Some signed.1 one e in
-    let goes = subst (λ (o : BinaryOperator). GoesOnTo (expr.Binary o left one.0) h.0 found.0) s.0 h.1 in
-    (codes "+" ∷ operand.0 ∷ h.0, sums.plus left one.0 found.0 operand.0 h.0 operand.2 goes,
-    λ more k. (s.1.0, s.1.1, (operand.1, sym s.1.2 ∙ operand.3, subst (λ (b : Bytes). Spells (h.0 ++ more) b) operand.4 (h.2 more k))))
+    let goes = subst (λ (o : BinaryOperator). GoesOnTo (expr.Binary o left one.0) h.0 found.0) s.0 h.1 in (
+      codes "+" ∷ operand.0 ∷ h.0,
+      sums.plus left one.0 found.0 operand.0 h.0 operand.2 goes,
+      λ more k. (s.1.0, s.1.1, (operand.1, sym s.1.2 ∙ operand.3, subst (λ (b : Bytes). Spells (h.0 ++ more) b) operand.4 (h.2 more k))),
+    )
 one-more left bytes signed one found (inr s) e h =
     let operand = operand_in-Some signed.1 one e in
-    let goes = subst (λ (o : BinaryOperator). GoesOnTo (expr.Binary o left one.0) h.0 found.0) s.0 h.1 in
-    (codes "-" ∷ operand.0 ∷ h.0, sums.minus left one.0 found.0 operand.0 h.0 operand.2 goes,
-    λ more k. (s.1.0, s.1.1, (operand.1, sym s.1.2 ∙ operand.3, subst (λ (b : Bytes). Spells (h.0 ++ more) b) operand.4 (h.2 more k))))
+    let goes = subst (λ (o : BinaryOperator). GoesOnTo (expr.Binary o left one.0) h.0 found.0) s.0 h.1 in (
+      codes "-" ∷ operand.0 ∷ h.0,
+      sums.minus left one.0 found.0 operand.0 h.0 operand.2 goes,
+      λ more k. (s.1.0, s.1.1, (operand.1, sym s.1.2 ∙ operand.3, subst (λ (b : Bytes). Spells (h.0 ++ more) b) operand.4 (h.2 more k))),
+    )
 
 more-by : (steps : ℕ) (left : Expr) (bytes : Bytes) (found : Expr × Bytes) (signed : BinaryOperator × Bytes) (one : Option (Expr × Bytes)) → sign_in bytes ≡ Some signed → operand_in signed.1 ≡ one → ((left : Expr) (bytes : Bytes) → more_in steps left bytes ≡ Some found → ReadOn left bytes found) → with_operand (more_in steps) signed.0 left one ≡ Some found → ReadOn left bytes found
 more-by steps left bytes found signed None s o behind e = cc
@@ -100,9 +104,11 @@ unfolding sum_in
 sum_in-Some bytes found e =
     let first = and_then-Some (operand_in bytes) after_operand found e in
     let operand = operand_in-Some bytes first.0 first.1 in
-    let on = more_in-Some (length first.0.1 + 1) first.0.0 first.0.1 found first.2 in
-    (operand.0 ∷ on.0, sums.sum first.0.0 found.0 operand.0 on.0 operand.2 on.1,
-    λ more k. (operand.1, operand.3, subst (λ (b : Bytes). Spells (on.0 ++ more) b) operand.4 (on.2 more k)))
+    let on = more_in-Some (length first.0.1 + 1) first.0.0 first.0.1 found first.2 in (
+      operand.0 ∷ on.0,
+      sums.sum first.0.0 found.0 operand.0 on.0 operand.2 on.1,
+      λ more k. (operand.1, operand.3, subst (λ (b : Bytes). Spells (on.0 ++ more) b) operand.4 (on.2 more k)),
+    )
 
 -- what is of the form is read
 

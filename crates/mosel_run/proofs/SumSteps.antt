@@ -1,11 +1,11 @@
 -- The loop that reads a sum: each turn takes one sign and one operand.
-use Rattle.std.proofs.Common.{◌≡◌, ◌==◌, ℕ, ◌+◌, ◌<◌, ◌≤◌, zero, suc, Bool, true, false, [], ◌∷◌, ◌++◌, length, take, drop, Option, Some, None, refl, sym, ap, ◌∙◌, cond, codes, length-append, length-drop, arith}
+use Rattle.std.proofs.Common.{◌≡◌, ℕ, ◌+◌, ◌<◌, ◌≤◌, zero, suc, Bool, true, false, [], ◌∷◌, length, drop, Option, Some, None, refl, sym, ap, ◌∙◌, cond, codes, length-append, length-drop, arith}
 use Rattle.mos_tree.specs.declared.expr.BinaryOperator.{BinaryOperator}
 use Rattle.mos_tree.specs.declared.expr.BinaryOperator.TheVariants as operator
 use Rattle.mos_tree.specs.declared.expr.Expr.{Expr}
 use Rattle.mos_tree.specs.declared.expr.Expr.TheVariants as expr
 use Rattle.std.specs.List.{position_or_len}
-use Rattle.mosel_run.specs.FirstForm.{Bytes, is_blank, skip_blanks}
+use Rattle.mosel_run.specs.FirstForm.{Bytes, skip_blanks}
 use Rattle.mosel_run.specs.Sums.{operand_of}
 use Rattle.mosel_run.specs.FirstReading.{starts_other, after_token, word_in, after_word, with_rest, operand_in, sign_or, sign_in, with_operand, with_sign, more_in}
 use Rattle.mosel_run.proofs.Tokens.{after_token-Some}

@@ -1,21 +1,19 @@
 -- The journal of the one-thread schedule is whole: no lane quits, each run ends, each lane is told last.
 
-use Rattle.std.proofs.Common.{◌≡◌, ◌≤◌, ◌<◌, ◌≢◌, ℕ, ◌+◌, ◌-◌, zero, suc, Bool, true, false, ◌&&◌, ◌||◌, not, List, [], ◌∷◌, ◌++◌, length, Option, Some, None, refl, sym, ap, ◌∙◌, subst, nat_eq, map, eq-eqb, ne_eqb, inl, inr, arith}
-use Rattle.std.specs.Prelude.{filter, count_by, if◌then◌else◌, slice_get, ◌⊎◌}
+use Rattle.std.proofs.Common.{◌≡◌, ◌≤◌, ◌<◌, ◌≢◌, ℕ, ◌+◌, ◌-◌, zero, suc, Bool, true, false, ◌&&◌, ◌||◌, not, List, [], ◌∷◌, Option, Some, None, refl, sym, ap, ◌∙◌, subst, nat_eq, map, ne_eqb, inl, inr, arith}
+use Rattle.std.specs.Prelude.{filter, if◌then◌else◌, ◌⊎◌}
 use Rattle.std.specs.List.{list_any, filter_map, fold}
 use Rattle.std.proofs.lemmas.Bool.Decides.{eqb_tells}
 use Rattle.job_calls.specs.declared.end.End.{End}
 use Rattle.job_calls.specs.declared.entry.Entry.{Entry}
 use Rattle.job_calls.specs.declared.entry.Listed.{Listed}
-use Rattle.job_calls.specs.declared.call.Call.{Call}
-use Rattle.job_calls.specs.declared.reply.Reply.{Reply}
 use Rattle.job_calls.specs.Words.{is_run, is_quit, is_finish, is_started, own_entries, has_quit, run_count, is_finished}
-use Rattle.job_calls.specs.Runs.{Opening, opening, acts_of, calls_of, replies_of, finish, finish_of, last_given, later}
+use Rattle.job_calls.specs.Runs.{Opening, acts_of, calls_of, replies_of, finish, finish_of, last_given, later}
 use Rattle.job_calls.specs.Legal.{CanOpen}
 use Rattle.mos_meaning.specs.Follows.{Model}
 use Rattle.mosel_run.specs.Schedule.{opened, claimed, finished, told_done, dones, schedule_of}
 use Rattle.mosel_run.specs.Reported.{EndsDone, IsWhole}
-use Rattle.mosel_run.specs.Puts.{Put, put_of}
+use Rattle.mosel_run.specs.Puts.{put_of}
 use Rattle.mosel_run.proofs.Legality.{is_legal}
 
 -- what holds of none of the last entries

@@ -1,29 +1,24 @@
 -- A job over one source of the first form is a whole job.
 
-use Rattle.std.proofs.Common.{◌≡◌, ◌≤◌, ◌<◌, ◌≢◌, ◌^◌, ℕ, ◌+◌, zero, suc, pos, true, List, [], ◌∷◌, ◌++◌, length, Option, Some, None, refl, sym, ap, ◌∙◌, subst, inl, drop, ◌-◌, arith}
-use Rattle.std.specs.Prelude.{slice_get, IsTrue, codes, ◌&&◌, All}
+use Rattle.std.proofs.Common.{◌≡◌, ◌≤◌, ◌<◌, ◌≢◌, ◌^◌, ℕ, zero, suc, true, List, [], ◌∷◌, length, Some, refl, sym, ap, ◌∙◌, subst, inl, drop, ◌-◌, arith}
+use Rattle.std.specs.Prelude.{slice_get, codes, ◌&&◌}
 use Rattle.std.proofs.lemmas.List.Elements.{All-nil}
 use Rattle.std.proofs.lemmas.Slice.Eq.{bytes_eq-Decides}
-use Rattle.std.specs.List.{filter_map, list_all}
-use Rattle.std.specs.Str.{bytes_eq}
-use Rattle.mos_text.specs.FileName.{is_file_name}
 use Rattle.mos_tree.specs.declared.source.Tree.{Tree}
 use Rattle.job_calls.specs.declared.end.End.{End}
-use Rattle.job_calls.specs.declared.entry.Entry.{Entry}
-use Rattle.job_calls.specs.declared.entry.Listed.{Listed}
 use Rattle.job_calls.specs.declared.run_line.RunEnd.TheVariants.{Ended}
 use Rattle.job_calls.specs.declared.run_line.RunLine.{RunLine}
-use Rattle.job_calls.specs.Runs.{Opening, calls_of, replies_of, finish_of}
+use Rattle.job_calls.specs.Runs.{calls_of, replies_of}
 use Rattle.job_calls.specs.Replies.{AllFit}
 use Rattle.job_calls.specs.Legal.{CanOpen, IsSourceName}
 use Rattle.bim_code.specs.declared.image.Image.{Image}
 use Rattle.bim_code.specs.Tables.{image_bytes}
 use Rattle.bim_code.specs.Limits.{FitsFields}
-use Rattle.mos_meaning.specs.State.{Stop, Stuck, Outcome}
+use Rattle.mos_meaning.specs.State.{Stuck}
 use Rattle.mos_meaning.specs.Syntax.{Block, statements_of}
 use Rattle.mos_meaning.specs.Meaning.{meaning_of}
 use Rattle.mos_meaning.specs.Machine.{course_of}
-use Rattle.mos_meaning.specs.Follows.{Model, FollowsSources, Follows, RunFollows, EndsSo, end_of}
+use Rattle.mos_meaning.specs.Follows.{FollowsSources, Follows, RunFollows, EndsSo, end_of}
 use Rattle.mos_words.specs.Fit.{IsFit}
 use Rattle.mos_words.specs.Words.{is_source_name}
 use Rattle.mos_words.specs.declared.words.commands.Command.TheVariants.{Run as RunCommand}
@@ -34,8 +29,7 @@ use Rattle.mosel_run.proofs.PlainImages.{is_plain}
 use Rattle.mosel_run.specs.Built.{IsBuiltBlock}
 use Rattle.mosel_run.specs.Accepted.{IsAccepted}
 use Rattle.mosel_run.specs.Jobs.{opening_on, listed, line_of, usual_budget}
-use Rattle.mosel_run.specs.Means.{Means}
-use Rattle.mosel_run.specs.Puts.{Put, puts_of, image_name, last_puts, put_of}
+use Rattle.mosel_run.specs.Puts.{puts_of, image_name, last_puts}
 use Rattle.mosel_run.specs.Reported.{IsJob, model_of}
 use Rattle.mosel_run.specs.Running.{IsCourse, outcome_of}
 use Rattle.mosel_run.specs.Schedule.{schedule_of}

@@ -1,8 +1,8 @@
 -- What each status of the program says: why it came, and what stands behind it. A status comes in one
 -- of these ways alone.
 
-use Rattle.std.specs.Prelude.{◌≡◌, ℕ, ◌+◌, List, [], ◌∷◌, ◌++◌, Option, Some, None, ◌⊎◌}
-use Rattle.mos_text.specs.Content.{Files, known_of, lose_file, SameElsewhere}
+use Rattle.std.specs.Prelude.{◌≡◌, ℕ, List, [], Option, Some, None, ◌⊎◌}
+use Rattle.mos_text.specs.Content.{Files, known_of, SameElsewhere}
 use Rattle.mos_text.specs.Faults.{Rose}
 use Rattle.mos_text.specs.Gets.{Answers}
 use Rattle.mos_text.specs.SinkBytes.{appended, AppendedPart}

@@ -1,7 +1,6 @@
 -- Which models can be compiled today: those whose every form is built.
 
-use Rattle.std.specs.Prelude.{List}
-use Rattle.mos_meaning.specs.Syntax.{Expression, number, text, name, plus, minus, unbuilt, Arguments, nothing, one_more, Effect, assign, writeln, unbuilt_effect, Block, done, first}
+use Rattle.mos_meaning.specs.Syntax.{Expression, plus, minus, unbuilt, Arguments, nothing, one_more, Effect, assign, writeln, unbuilt_effect, Block, done, first}
 
 abbrev pub IsBuilt : Expression → Type 0
 IsBuilt (plus a b) = IsBuilt a × IsBuilt b

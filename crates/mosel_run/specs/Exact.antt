@@ -1,7 +1,7 @@
 -- Which status a command has, by its words and by what is known of its file. It yields to a device that
 -- fails and to want of memory alone.
 
-use Rattle.std.specs.Prelude.{◌≡◌, ℕ, ◌≤◌, ◌<◌, List, Option, Some, None, length, ◌⊎◌}
+use Rattle.std.specs.Prelude.{◌≡◌, ℕ, ◌≤◌, ◌<◌, List, Option, None, length, ◌⊎◌}
 use Rattle.mos_text.specs.Content.{Files, Absent, Holds, known_of}
 use Rattle.mos_text.specs.declared.kind.Kind.{Kind}
 use Rattle.mos_tree.specs.declared.source.Tree.{Tree}

@@ -1,8 +1,7 @@
 -- Worked examples: what a whole job is, and what is none.
 
-use Rattle.std.specs.Prelude.{◌≡◌, ℕ, List, [], ◌∷◌, ◌++◌, Option, Some, None, pos, codes}
+use Rattle.std.specs.Prelude.{◌≡◌, List, [], ◌∷◌, ◌++◌, Option, Some, pos, codes}
 use Rattle.mos_text.specs.Content.{Files, Holds, known_of}
-use Rattle.job_calls.specs.declared.call.Call.{Call}
 use Rattle.job_calls.specs.declared.call.Call.TheVariants.{Open, Claim, Quit, Finish, Wait, Compile, Write}
 use Rattle.job_calls.specs.declared.end.End.TheVariants as end
 use Rattle.job_calls.specs.declared.entry.Entry.{Entry}
@@ -10,7 +9,6 @@ use Rattle.job_calls.specs.declared.reply.Reply.TheVariants.{Opened, Claimed, Co
 use Rattle.job_calls.specs.Runs.{Opening}
 use Rattle.job_calls.specs.Replies.{AllFit}
 use Rattle.job_calls.specs.ReportExamples.{hello_entries, hello_file, entry}
-use Rattle.bim_code.specs.declared.image.Image.{Image}
 use Rattle.bim_code.specs.Tables.{image_bytes}
 use Rattle.mos_meaning.specs.Examples.{hello, hello_image}
 use Rattle.mos_meaning.specs.Syntax.{statements_of}

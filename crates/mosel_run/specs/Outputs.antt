@@ -9,11 +9,9 @@ use Rattle.job_calls.specs.declared.run_line.RunLine.{RunLine}
 use Rattle.job_calls.specs.Runs.{finish_of}
 use Rattle.job_calls.specs.ReportText.{report_text}
 use Rattle.bim_code.specs.declared.image.Image.{Image}
-use Rattle.mos_meaning.specs.Syntax.{statements_of}
-use Rattle.mos_meaning.specs.Follows.{Model}
 use Rattle.mosel_run.specs.declared.jobs.Output.{Output}
 use Rattle.mosel_run.specs.Jobs.{opening_on}
-use Rattle.mosel_run.specs.Puts.{Put, puts_of}
+use Rattle.mosel_run.specs.Puts.{puts_of}
 use Rattle.mosel_run.specs.Reported.{IsJob, model_of}
 
 -- a run that ended by itself

@@ -2,7 +2,6 @@
 
 use Rattle.std.specs.Prelude.{◌≡◌, ◌<◌, ◌^◌, ℕ, List, [], All, FitsSigned}
 use Rattle.std.specs.Int.{w32}
-use Rattle.mos_text.specs.FaultKinds.{fault_number}
 use Rattle.bim_code.specs.declared.image.Image.{Image}
 use Rattle.bim_code.specs.declared.instruction.Instruction.{Instruction}
 use Rattle.bim_code.specs.declared.instruction.Instruction.TheVariants.{PushInt, PushText, LoadGlobal, StoreGlobal}

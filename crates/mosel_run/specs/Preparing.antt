@@ -1,6 +1,6 @@
 -- What is prepared by the words, by the named file, and by its source.
 
-use Rattle.std.specs.Prelude.{◌≡◌, ℕ, List, ◌⊎◌}
+use Rattle.std.specs.Prelude.{◌≡◌, ℕ, List}
 use Rattle.mos_text.specs.Content.{known_of}
 use Rattle.mos_text.specs.Faults.{Rose}
 use Rattle.mos_text.specs.Gets.{Answers}
@@ -8,7 +8,6 @@ use Rattle.mos_text.specs.declared.folder.Got.TheVariants.{Bytes, Missing as Not
 use Rattle.job_calls.specs.ErrorLines.{verdict_line, missing_line, too_large_line, read_fault_line}
 use Rattle.mosel_run.specs.declared.prepared.Prepared.{Prepared}
 use Rattle.mosel_run.specs.declared.prepared.Prepared.TheVariants.{Report, Line}
-use Rattle.mosel_run.specs.declared.status.Status.{Status}
 use Rattle.mosel_run.specs.declared.status.Status.TheVariants.{Refused, Missing, TooLarge, FolderFault}
 use Rattle.mosel_run.specs.Accepted.{IsRefusedAt}
 use Rattle.mosel_run.specs.Outputs.{IsOutput}

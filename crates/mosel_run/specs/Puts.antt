@@ -1,7 +1,7 @@
 -- The files that a journal puts, in order: the master's image first, then each name in order of the
 -- first entry that makes it, with what the last such entry gives it.
 
-use Rattle.std.specs.Prelude.{ℕ, ◌-◌, ◌++◌, Bool, List, [], ◌∷◌, Option, Some, None, nat_eq, length, take, codes, map, unwrap_or, if◌then◌else◌, slice_get}
+use Rattle.std.specs.Prelude.{ℕ, ◌-◌, ◌++◌, List, [], ◌∷◌, Option, Some, None, nat_eq, length, take, codes, map, unwrap_or, if◌then◌else◌, slice_get}
 use Rattle.std.specs.List.{list_any, filter_map, starts_with}
 use Rattle.std.specs.Str.{bytes_eq}
 use Rattle.mos_text.specs.Content.{Files, put_file}
@@ -11,8 +11,7 @@ use Rattle.job_calls.specs.declared.reply.Reply.{Reply}
 use Rattle.job_calls.specs.declared.reply.Reply.TheVariants.{Code, Unit as Acknowledged}
 use Rattle.job_calls.specs.declared.entry.Entry.{Entry}
 use Rattle.job_calls.specs.declared.entry.Listed.{Listed}
-use Rattle.job_calls.specs.Runs.{Opening, opening, last_given}
-use Rattle.bim_code.specs.declared.image.Image.{Image}
+use Rattle.job_calls.specs.Runs.{Opening, last_given}
 use Rattle.bim_code.specs.Tables.{image_bytes}
 use Rattle.mos_meaning.specs.Follows.{Model}
 

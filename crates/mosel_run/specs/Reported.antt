@@ -1,17 +1,14 @@
 -- What the command `run` has done when it returns with a report.
 
-use Rattle.std.specs.Prelude.{◌≡◌, ℕ, ◌<◌, ◌+◌, Bool, true, false, List, [], ◌∷◌, ◌++◌, Option, Some, None, nat_eq, nat_le, length, slice_get, pos, ℤ, ◌≢◌}
+use Rattle.std.specs.Prelude.{◌≡◌, ℕ, ◌<◌, true, false, List, [], ◌∷◌, ◌++◌, Option, Some, pos, ◌≢◌}
 use Rattle.mos_text.specs.Content.{Files, known_of, lose_file}
 use Rattle.mos_text.specs.Gets.{Answers}
 use Rattle.mos_text.specs.SinkBytes.{appended}
 use Rattle.mos_text.specs.declared.folder.Got.TheVariants.{Bytes}
 use Rattle.mos_tree.specs.declared.source.Tree.{Tree}
-use Rattle.job_calls.specs.declared.call.Call.{Call}
 use Rattle.job_calls.specs.declared.end.End.{End}
 use Rattle.job_calls.specs.declared.end.End.TheVariants as end
 use Rattle.job_calls.specs.declared.entry.Entry.{Entry}
-use Rattle.job_calls.specs.declared.entry.Listed.{Listed}
-use Rattle.job_calls.specs.declared.reply.Reply.{Reply}
 use Rattle.job_calls.specs.declared.run_line.RunLine.{RunLine}
 use Rattle.job_calls.specs.Words.{own_entries, has_quit, run_count, is_finished, is_claim, is_done}
 use Rattle.job_calls.specs.Runs.{Opening, opening, finish_of}

@@ -1,11 +1,10 @@
 -- What a whole run of an image is.
 
-use Rattle.std.specs.Prelude.{◌≡◌, ℕ, List, [], ◌-◌, replicate, pos}
-use Rattle.mos_text.specs.declared.scalar.Scalar.TheVariants.{Int}
+use Rattle.std.specs.Prelude.{◌≡◌, ℕ, []}
 use Rattle.bim_code.specs.declared.image.Image.{Image}
 use Rattle.mos_meaning.specs.State.{Outcome, beginning}
 use Rattle.mos_meaning.specs.Meaning.{told, defaults}
-use Rattle.mos_meaning.specs.Machine.{Course, course_of}
+use Rattle.mos_meaning.specs.Machine.{course_of}
 use Rattle.mosel_run.specs.declared.halt.Halt.{Halt}
 use Rattle.mosel_run.specs.declared.runner.Ran.{Ran}
 use Rattle.mosel_run.specs.Kept.{Kept}

@@ -2,10 +2,8 @@
 -- finishes it; then each lane, in turn from lane 1 and lane 0 last, is told that the job is done.
 
 use Rattle.std.specs.Prelude.{ℕ, ◌+◌, ◌-◌, zero, suc, List, [], ◌∷◌, Some, None}
-use Rattle.job_calls.specs.declared.call.Call.{Call}
 use Rattle.job_calls.specs.declared.call.Call.TheVariants.{Open, Claim, Finish}
 use Rattle.job_calls.specs.declared.end.End.{End}
-use Rattle.job_calls.specs.declared.reply.Reply.{Reply}
 use Rattle.job_calls.specs.declared.reply.Reply.TheVariants.{Opened, Claimed, Done, Unit as Acknowledged}
 use Rattle.job_calls.specs.declared.entry.Entry.{Entry}
 use Rattle.job_calls.specs.Runs.{Opening}

@@ -1,7 +1,7 @@
 -- How large a model is: one for each node of an expression and for each statement.
 
 use Rattle.std.specs.Prelude.{ℕ, ◌+◌}
-use Rattle.mos_meaning.specs.Syntax.{Expression, number, text, name, plus, minus, unbuilt, Arguments, nothing, one_more, Effect, assign, writeln, unbuilt_effect, Block, done, first}
+use Rattle.mos_meaning.specs.Syntax.{Expression, plus, minus, Arguments, nothing, one_more, Effect, assign, writeln, unbuilt_effect, Block, done, first}
 
 abbrev pub size_of : Expression → ℕ
 size_of (plus a b) = size_of a + size_of b + 1

@@ -1,11 +1,11 @@
 -- What one instruction makes of the machine that the program keeps.
 
-use Rattle.std.specs.Prelude.{◌≡◌, ℕ, ℤ, List, [], Option, Some, None}
+use Rattle.std.specs.Prelude.{◌≡◌, ℕ, ℤ, [], Option, Some, None}
 use Rattle.bim_code.specs.declared.image.Image.{Image}
 use Rattle.bim_code.specs.declared.instruction.Instruction.{Instruction}
 use Rattle.mos_meaning.specs.State.{State, Stop}
 use Rattle.mos_meaning.specs.State as stop
-use Rattle.mos_meaning.specs.Machine.{Machine, At, Over, Frame, act, settle, on_integers, or_fault, On}
+use Rattle.mos_meaning.specs.Machine.{Machine, At, Over, act, settle, on_integers, or_fault, On}
 use Rattle.mos_text.specs.declared.fault_kind.FaultKind.TheVariants.{OutFull}
 use Rattle.mos_meaning.specs.Values.{sum_of, difference_of, written}
 use Rattle.mosel_run.specs.declared.arithmetic.Operator.{Operator}

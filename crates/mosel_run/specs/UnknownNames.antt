@@ -6,7 +6,7 @@ use Rattle.mos_tree.specs.declared.statement.Statement.TheOpen.{Statement-F, Ass
 use Rattle.mos_tree.specs.declared.statement.Statement.TheFolds.{fold-Statement}
 use Rattle.mos_tree.specs.declared.source.Top.{Top}
 use Rattle.mos_tree.specs.declared.source.Top.TheVariants as top
-use Rattle.mos_meaning.specs.Syntax.{Expression, number, text, name, plus, minus, unbuilt, Arguments, nothing, one_more, Effect, assign, writeln, unbuilt_effect, top_effect, has_name, names_after}
+use Rattle.mos_meaning.specs.Syntax.{Expression, name, plus, minus, Arguments, nothing, one_more, Effect, assign, writeln, unbuilt_effect, top_effect, has_name, names_after}
 
 -- the first of the two, or the second where there is no first
 abbrev pub or_other : Option (List ℕ) → Option (List ℕ) → Option (List ℕ)

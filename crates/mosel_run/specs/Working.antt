@@ -3,7 +3,7 @@
 
 use Rattle.std.specs.Prelude.{◌≡◌, ℕ, true, List, FitsSigned}
 use Rattle.std.specs.Int.{w32}
-use Rattle.mos_meaning.specs.Syntax.{Expression, number, text, name, plus, minus, unbuilt, Arguments, nothing, one_more, Effect, assign, writeln, unbuilt_effect, Block, done, first, has_name}
+use Rattle.mos_meaning.specs.Syntax.{Expression, number, text, name, plus, minus, Arguments, nothing, one_more, Effect, assign, writeln, unbuilt_effect, Block, done, first, has_name}
 
 -- a sum of literals of 32 bits and of these names
 abbrev pub IsNumeric : List (List ℕ) → Expression → Type 0

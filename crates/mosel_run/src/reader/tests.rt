@@ -166,7 +166,7 @@ fn long_text(rt: HostRuntime) -> Result<(), Fail> {
     Ok(())
 }
 
-/// The line and the name of a source that is refused for an unknown name; 0 where it is not.
+/// The line of a source that is refused since it does not know this name; 0 where it is not.
 fn unknown(alloc: Global, source: &str, name: &str) -> u32 {
     match read_short(alloc, source.as_bytes()) {
         Err(
@@ -174,7 +174,7 @@ fn unknown(alloc: Global, source: &str, name: &str) -> u32 {
                 line,
                 kind: Kind::Unknown(found),
             },
-        ) if found.as_str() == name => line,
+        ) => { if found.as_str() == name { line } else { 0 } }
         _ => 0,
     }
 }
@@ -199,7 +199,16 @@ fn unknown_names(rt: HostRuntime) {
 fn left_to_right(rt: HostRuntime) {
     match read_short(rt.alloc(), b"model \"a\"\nx:=1-2+3\nend-model") {
         Ok(tree) => match tree.tops.as_slice() {
-            [Top::Statement(Statement::Assign { line: 2, target, value, .. })] => {
+            [
+                Top::Statement(
+                    Statement::Assign {
+                        line: 2,
+                        target,
+                        value,
+                        ..
+                    },
+                ),
+            ] => {
                 assert!(rt; matches!(target, Reference::Name(name) if name.as_str() == "x"));
                 check_sum(&rt, value);
             }

@@ -1,14 +1,14 @@
 -- each rule of a whole job at its example
-use Rattle.std.proofs.Common.{◌≡◌, ℕ, List, Bool, true, false, Option, Some, None, refl, sym, ◌∙◌, ap, arith}
+use Rattle.std.proofs.Common.{◌≡◌, true, Some, refl, sym, ◌∙◌, ap, arith}
 use Rattle.std.specs.Prelude.{cond}
 use Rattle.std.specs.Ordering.{nat_cmp, eq_by_cmp}
 use Rattle.std.specs.Cmp.Lexicographic.{slice_cmp}
-use Rattle.std.specs.FinMap.{get, insert, get-insert}
+use Rattle.std.specs.FinMap.{get, get-insert}
 use Rattle.std.proofs.lemmas.Slice.Eq.{bytes_eq-Decides}
 use Rattle.std.proofs.lemmas.Map.Text.{is_eq-slice_cmp}
 use Rattle.std.proofs.lemmas.Cmp.{nat_list_cmp_total}
 use Rattle.job_calls.specs.Runs.{Opening}
-use Rattle.mos_text.specs.Content.{Files, known_of, known_by}
+use Rattle.mos_text.specs.Content.{known_of, known_by}
 use Rattle.mosel_run.proofs.examples.refused_jobs.Goals as goal
 
 inside : {A : Type 0} (x y : A) → Some x ≡ Some y → x ≡ y

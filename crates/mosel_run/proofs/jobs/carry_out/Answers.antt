@@ -1,11 +1,9 @@
 -- a source of the first form is compiled, is never stuck, and its journal is whole
-use Rattle.std.proofs.Common.{◌≡◌, ◌∙◌, ◌∷◌, [], ap, sym, subst, length, ◌<◌, ◌^◌, arith}
+use Rattle.std.proofs.Common.{◌∙◌, ◌∷◌, [], ap, sym, subst, arith}
 use Rattle.job_calls.specs.Runs.{finish_of}
 use Rattle.bim_code.specs.Limits.{FitsFields}
-use Rattle.bim_code.specs.declared.image.Image.{Image}
 use Rattle.mos_meaning.specs.Syntax.{statements_of}
 use Rattle.mosel_run.specs.Closed.{IsClosed}
-use Rattle.mosel_run.specs.Compiled.{texts_in_block}
 use Rattle.mosel_run.specs.Jobs.{opening_on}
 use Rattle.mosel_run.specs.Puts.{puts_of}
 use Rattle.mosel_run.specs.Reported.{model_of}

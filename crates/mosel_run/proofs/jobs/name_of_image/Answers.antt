@@ -1,11 +1,9 @@
 -- the name ends in four letters, before which it can be cut
-use Rattle.std.proofs.Common.{◌≡◌, ◌≤◌, ◌-◌, ◌+◌, ℕ, List, length, drop, get_or, ap, sym, ◌∙◌, length-drop, arith, subst, true}
-use Rattle.std.specs.Prelude.{codes}
+use Rattle.std.proofs.Common.{◌≡◌, ◌≤◌, ◌-◌, ◌+◌, ℕ, List, length, get_or, ap, sym, ◌∙◌, length-drop, arith, subst}
 use Rattle.std.specs.Str.{IsCharBoundary}
 use Rattle.std.proofs.lemmas.Str.{IsCharBoundary-before_ascii}
 use Rattle.std.proofs.lemmas.List.{get_or-drop}
 use Rattle.job_calls.specs.Legal.{IsSourceName}
-use Rattle.mos_words.specs.Words.{is_source_name}
 use Rattle.mosel_run.proofs.WholeJobs.{source_name}
 use Rattle.mosel_run.proofs.jobs.name_of_image.Goals as goal
 

@@ -1,5 +1,5 @@
 -- as many defaults as passes
-use Rattle.std.proofs.Common.{◌≡◌, replicate, pos}
+use Rattle.std.proofs.Common.{◌≡◌}
 use Rattle.mos_meaning.specs.Meaning.{defaults}
 use Rattle.mosel_run.proofs.machine.defaults.Given as goal
 

@@ -1,5 +1,5 @@
-use Rattle.std.proofs.Common.{◌≡◌, [], Some, sym, ap, ◌∙◌}
-use Rattle.mosel_run.specs.Accepted.{IsRefusedAt, unknown}
+use Rattle.std.proofs.Common.{[], sym, ap, ◌∙◌}
+use Rattle.mosel_run.specs.Accepted.{unknown}
 use Rattle.mosel_run.specs.UnknownNames.{first_unknown}
 use Rattle.mosel_run.proofs.reader.read_source.Goals as goal
 

@@ -1,8 +1,8 @@
 -- each pass is one step of the machine, and the last is the end of its course
-use Rattle.std.proofs.Common.{◌≡◌, ◌≤◌, ◌<◌, ◌∙◌, ap, sym, subst, length, ◌+◌, [], ℕ, None, Some, arith}
+use Rattle.std.proofs.Common.{◌≡◌, ◌≤◌, ◌<◌, ◌∙◌, ap, sym, subst, length, ◌+◌, [], None, Some, arith}
 use Rattle.bim_code.specs.declared.instruction.Instruction.TheVariants.{Tick}
-use Rattle.mos_meaning.specs.Machine.{Over, run, steps_taken, start, most_steps, told_machine, settle, act}
-use Rattle.mosel_run.specs.Stepping.{lands, stop_of}
+use Rattle.mos_meaning.specs.Machine.{Over, run, steps_taken, start, most_steps, told_machine}
+use Rattle.mosel_run.specs.Stepping.{stop_of}
 use Rattle.mosel_run.proofs.Steps.{one_step, one_step_more, stopped, steps_stopped, within_most, course_eq, never_over}
 use Rattle.mosel_run.proofs.runner.run.Goals as goal
 

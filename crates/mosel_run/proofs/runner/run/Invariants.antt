@@ -1,6 +1,6 @@
 -- the machine stands where so many steps lead from the beginning
 use Rattle.std.proofs.Common.{◌≡◌, take, []}
-use Rattle.mos_meaning.specs.Machine.{Machine, At, run, steps_taken, start}
+use Rattle.mos_meaning.specs.Machine.{At, run, steps_taken, start}
 use Rattle.mosel_run.proofs.Standing.{after}
 use Rattle.mosel_run.proofs.runner.run.Given as goal
 

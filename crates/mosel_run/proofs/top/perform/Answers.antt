@@ -1,7 +1,7 @@
 -- what was prepared, written and put says what the status says
-use Rattle.std.proofs.Common.{◌≡◌, ap, refl, sym, subst, ◌∙◌}
+use Rattle.std.proofs.Common.{ap, refl, subst, ◌∙◌}
 use Rattle.mos_text.specs.SinkBytes.{appended, AppendedPart}
-use Rattle.mosel_run.specs.Answered.{Disk, Paper, writing}
+use Rattle.mosel_run.specs.Answered.{writing}
 use Rattle.mosel_run.proofs.Answering.{stored, report_cut, line_cut}
 use Rattle.mosel_run.proofs.top.perform.Goals as goal
 

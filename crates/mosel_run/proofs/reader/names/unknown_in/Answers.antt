@@ -1,7 +1,6 @@
 use Rattle.std.proofs.Common.{◌≡◌, sym, ap, ◌∙◌, subst}
 use Rattle.std.specs.Prelude.{option_copied}
 use Rattle.mos_tree.specs.declared.expr.Expr.{Expr}
-use Rattle.mos_tree.specs.declared.expr.Expr.TheVariants as expr
 use Rattle.mos_meaning.specs.Syntax.{expression}
 use Rattle.mosel_run.specs.Chains.{IsChain}
 use Rattle.mosel_run.specs.UnknownNames.{or_other, unknown_in}

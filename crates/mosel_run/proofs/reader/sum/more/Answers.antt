@@ -1,4 +1,4 @@
-use Rattle.std.proofs.Common.{◌≡◌, Some, sym, ap, ◌∙◌}
+use Rattle.std.proofs.Common.{◌≡◌, Some}
 use Rattle.mosel_run.specs.FirstReading.{operand_in, sign_in}
 use Rattle.mosel_run.proofs.SumSteps.{more-goes, goes-shorter}
 use Rattle.mosel_run.proofs.reader.sum.more.Goals as goal
