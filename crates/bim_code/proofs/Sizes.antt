@@ -3,7 +3,7 @@ use Rattle.std.proofs.Common.{◌*◌, ◌≤◌, List, [], ◌∷◌, length, a
 use Rattle.bim_code.specs.declared.image.ImageType.{ImageType}
 use Rattle.bim_code.specs.declared.image.ImageType.TheVariants.{Integer, Boolean, Str, Model, Event, Range, Set, List as ListOf, Array, Record}
 use Rattle.bim_code.specs.declared.instruction.Instruction.{Instruction}
-use Rattle.bim_code.specs.declared.instruction.Instruction.TheVariants.{Tick, PushInt, PushBool, PushText, LoadGlobal, StoreGlobal, Add, Subtract, Show, Write, Line, End, Fault}
+use Rattle.bim_code.specs.declared.instruction.Instruction.TheVariants.{Tick, PushInt, PushBool, PushText, LoadGlobal, StoreGlobal, Swap, Add, Subtract, Compare, Jump, JumpIf, JumpNot, Show, Write, Line, End, Fault}
 use Rattle.bim_code.specs.Code.{code_size}
 use Rattle.bim_code.specs.Limits.{TypeFits, TypeWithin}
 use Rattle.bim_code.specs.Rows.{width}
@@ -15,6 +15,11 @@ width_at_most (PushBool b) = omega arith
 width_at_most (PushText c) = omega arith
 width_at_most (LoadGlobal s) = omega arith
 width_at_most (StoreGlobal s) = omega arith
+width_at_most Swap = omega arith
+width_at_most (Compare comparison) = omega arith
+width_at_most (Jump address) = omega arith
+width_at_most (JumpIf address) = omega arith
+width_at_most (JumpNot address) = omega arith
 width_at_most Add = omega arith
 width_at_most Subtract = omega arith
 width_at_most Show = omega arith

@@ -5,8 +5,9 @@ use Rattle.bim_code.specs.declared.image.Image.{Image}
 use Rattle.bim_code.specs.declared.image.ImageType.TheVariants.{Integer, Boolean, Str, Model, Event, Range, Set, List as ListOf, Array, Record}
 use Rattle.bim_code.specs.declared.image.Default.TheVariants.{Number, Truth, Constant}
 use Rattle.bim_code.specs.declared.image.Form.TheVariants.{Value, Place, Walk}
+use Rattle.bim_code.specs.declared.instruction.Comparison.TheVariants.{Equal, NotEqual, Less, AtMost, Greater, AtLeast}
 use Rattle.bim_code.specs.declared.instruction.Instruction.{Instruction}
-use Rattle.bim_code.specs.declared.instruction.Instruction.TheVariants.{Tick, PushInt, PushBool, PushText, LoadGlobal, StoreGlobal, Add, Subtract, Show, Write, Line, End, Fault}
+use Rattle.bim_code.specs.declared.instruction.Instruction.TheVariants.{Tick, PushInt, PushBool, PushText, LoadGlobal, StoreGlobal, Swap, Add, Subtract, Compare, Jump, JumpIf, JumpNot, Show, Write, Line, End, Fault}
 use Rattle.bim_code.specs.Code.{instruction_at, address_of}
 use Rattle.bim_code.specs.Tables.{image_bytes}
 
@@ -38,7 +39,8 @@ EndsAtOnceBytes = image_bytes ends_at_once ≡
 abbrev pub every_instruction : List Instruction
 every_instruction =
     Tick ∷ PushInt (negsuc 1) ∷ PushBool true ∷ PushText 1 ∷ LoadGlobal 258 ∷ StoreGlobal 1 ∷ Add ∷ Subtract ∷ Show
-    ∷ Write ∷ Line ∷ End ∷ Fault Overflow ∷ []
+    ∷ Write ∷ Line ∷ End ∷ Fault Overflow ∷ Swap ∷ Compare Equal ∷ Compare NotEqual ∷ Compare Less ∷ Compare AtMost
+    ∷ Compare Greater ∷ Compare AtLeast ∷ Jump 37 ∷ JumpIf 0 ∷ JumpNot 258 ∷ []
 
 -- an image with an entry of each kind in each part
 abbrev pub every_part : Image
@@ -84,11 +86,12 @@ EveryPartBytes = image_bytes every_part ≡
     ∷ 0 ∷ 2 ∷ 0 ∷ 0 ∷ 0 ∷ 6 ∷ 0 ∷ 1 ∷ 0 ∷ 2 ∷ 0 ∷ 7 ∷ 1 ∷ 0 ∷ 0 ∷ 0 ∷ 0 ∷ 0
     ∷ 0 ∷ 0 ∷ 1 ∷ 0 ∷ 0 ∷ 0 ∷ 0 ∷ 0 ∷ 0xff ∷ 0xff
     ∷ 0 ∷ 0 ∷ 0 ∷ 1 ∷ 0 ∷ 0 ∷ 0 ∷ 11 ∷ 0 ∷ 3 ∷ 0 ∷ 0 ∷ 0 ∷ 0 ∷ 7 ∷ 1 ∷ 0 ∷ 8 ∷ 2
-    ∷ 0 ∷ 0 ∷ 0 ∷ 37 ∷ 1 ∷ 3 ∷ 0xff ∷ 0xff ∷ 0xff ∷ 0xfe ∷ 4 ∷ 0 ∷ 0 ∷ 0 ∷ 1 ∷ 5 ∷ 0 ∷ 0 ∷ 0 ∷ 1
-    ∷ 8 ∷ 0 ∷ 0 ∷ 1 ∷ 2 ∷ 9 ∷ 0 ∷ 0 ∷ 0 ∷ 1 ∷ 0x13 ∷ 0x14 ∷ 0x1a ∷ 0x43 ∷ 0x44 ∷ 0x45 ∷ 0x46 ∷ 0 ∷ 0 ∷ 0 ∷ 1 ∷ []
+    ∷ 0 ∷ 0 ∷ 0 ∷ 59 ∷ 1 ∷ 3 ∷ 0xff ∷ 0xff ∷ 0xff ∷ 0xfe ∷ 4 ∷ 0 ∷ 0 ∷ 0 ∷ 1 ∷ 5 ∷ 0 ∷ 0 ∷ 0 ∷ 1
+    ∷ 8 ∷ 0 ∷ 0 ∷ 1 ∷ 2 ∷ 9 ∷ 0 ∷ 0 ∷ 0 ∷ 1 ∷ 0x13 ∷ 0x14 ∷ 0x1a ∷ 0x43 ∷ 0x44 ∷ 0x45 ∷ 0x46 ∷ 0 ∷ 0 ∷ 0 ∷ 1
+    ∷ 0x12 ∷ 0x1b ∷ 0x1c ∷ 0x1d ∷ 0x1e ∷ 0x1f ∷ 0x20 ∷ 0x22 ∷ 0 ∷ 0 ∷ 0 ∷ 37 ∷ 0x23 ∷ 0 ∷ 0 ∷ 0 ∷ 0 ∷ 0x24 ∷ 0 ∷ 0 ∷ 1 ∷ 2 ∷ []
 
 -- the first address, one inside an instruction, that of a later instruction, and the end of the code
 abbrev pub Addresses : Type 0
 Addresses =
-    map (instruction_at every_instruction) (0 ∷ 3 ∷ address_of every_instruction 2 ∷ 37 ∷ [])
+    map (instruction_at every_instruction) (0 ∷ 3 ∷ address_of every_instruction 2 ∷ 59 ∷ [])
     ≡ Some Tick ∷ None ∷ Some (PushBool true) ∷ None ∷ []

@@ -1,5 +1,16 @@
 use mos_text::FaultKind;
 
+/// How two values are compared.
+#[derive(Clone, Copy, PartialEq, Debug, Drop)]
+pub enum Comparison {
+    Equal,
+    NotEqual,
+    Less,
+    AtMost,
+    Greater,
+    AtLeast,
+}
+
 /// One instruction of the abstract machine, with its operands. What each does is the machine's
 /// matter; `rows` has its code and its place in the file.
 #[derive(Clone, Copy, PartialEq, Debug, Drop)]
@@ -16,10 +27,20 @@ pub enum Instruction {
     LoadGlobal(u32),
     /// Takes the top of the stack into this global slot.
     StoreGlobal(u32),
+    /// The two values on top, each in the place of the other.
+    Swap,
     /// The sum of the two integers on top.
     Add,
     /// The integer on top taken from the one below it.
     Subtract,
+    /// Whether the value below the top compares so with the value on top.
+    Compare(Comparison),
+    /// Goes on at this address.
+    Jump(u32),
+    /// Goes on at this address if the boolean on top, which it takes, is true.
+    JumpIf(u32),
+    /// Goes on at this address if the boolean on top, which it takes, is false.
+    JumpNot(u32),
     /// The printed form of the value on top.
     Show,
     /// Takes the text on top and holds it for the next `Line`.

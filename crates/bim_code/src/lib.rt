@@ -8,4 +8,4 @@ pub mod laws;
 mod rows;
 
 pub use image::{Default, Field, Form, Image, ImageType, Operand, Parameter, Point, Routine, Slot};
-pub use instruction::Instruction;
+pub use instruction::{Comparison, Instruction};

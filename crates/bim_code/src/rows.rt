@@ -1,17 +1,18 @@
 ghost use Rattle.std.specs.Prelude.{◌≡◌, option_to_list};
-ghost use Rattle.bim_code.specs.Rows.{row_of, width};
+ghost use Rattle.bim_code.specs.Rows.{row_of, width, code_of_comparison};
 
-use crate::instruction::Instruction;
+use crate::instruction::{Comparison, Instruction};
 
 /// The table of instructions: the code of each, those without an operand first.
 macro_rules! with_rows {
     ($what:ident, $x:expr) => {
         $what!(
             $x;
-            0x01 => Tick, 0x13 => Add, 0x14 => Subtract, 0x1A => Show, 0x43 => Write,
+            0x01 => Tick, 0x12 => Swap, 0x13 => Add, 0x14 => Subtract, 0x1A => Show, 0x43 => Write,
             0x44 => Line, 0x45 => End;
             0x03 => PushInt, 0x04 => PushBool, 0x05 => PushText, 0x08 => LoadGlobal,
-            0x09 => StoreGlobal, 0x46 => Fault
+            0x09 => StoreGlobal, 0x22 => Jump, 0x23 => JumpIf, 0x24 => JumpNot,
+            0x46 => Fault
         )
     };
 }
@@ -21,6 +22,7 @@ macro_rules! code_in {
         match $x {
             $(Instruction::$name => $alone,)*
             $(Instruction::$with(_) => $code,)*
+            Instruction::Compare(comparison) => code_of_comparison(comparison),
         }
     };
 }
@@ -44,6 +46,9 @@ impl Instruction {
             Instruction::PushText(number)
             | Instruction::LoadGlobal(number)
             | Instruction::StoreGlobal(number) => Some(number),
+            Instruction::Jump(address)
+            | Instruction::JumpIf(address)
+            | Instruction::JumpNot(address) => Some(address),
             Instruction::Fault(kind) => Some(kind.number() as u32),
             _ => None,
         }
@@ -60,6 +65,19 @@ impl Instruction {
     }
 }
 
+fn code_of_comparison(comparison: Comparison) -> u8
+    ensures { result ≡ code_of_comparison comparison }
+{
+    match comparison {
+        Comparison::Equal => 0x1B,
+        Comparison::NotEqual => 0x1C,
+        Comparison::Less => 0x1D,
+        Comparison::AtMost => 0x1E,
+        Comparison::Greater => 0x1F,
+        Comparison::AtLeast => 0x20,
+    }
+}
+
 #[cfg(test)]
 mod tests {
     use super::*;
@@ -72,6 +90,8 @@ mod tests {
             (Instruction::PushInt(-2), 0x03, Some(0xffff_fffe), 5),
             (Instruction::PushBool(true), 0x04, Some(1), 5),
             (Instruction::LoadGlobal(258), 0x08, Some(258), 5),
+            (Instruction::Compare(Comparison::AtLeast), 0x20, None, 1),
+            (Instruction::JumpIf(7), 0x23, Some(7), 5),
             (Instruction::End, 0x45, None, 1),
             (Instruction::Fault(FaultKind::NoLabel), 0x46, Some(12), 5),
         ] {

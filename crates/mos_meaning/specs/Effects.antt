@@ -6,11 +6,11 @@ use Rattle.std.specs.Prelude.{ℕ, ◌+◌, zero, suc, ℤ, Bool, true, false, L
 use Rattle.mos_text.specs.declared.fault_kind.FaultKind.{FaultKind}
 use Rattle.mos_text.specs.declared.fault_kind.FaultKind.TheVariants.{Overflow, TooBig, OutFull}
 use Rattle.mos_text.specs.declared.scalar.Scalar.{Scalar}
-use Rattle.mos_text.specs.declared.scalar.Scalar.TheVariants.{Int, Str}
+use Rattle.mos_text.specs.declared.scalar.Scalar.TheVariants.{Int, Bool as Truth, Str}
 use Rattle.std.specs.Str.{bytes_eq}
 use Rattle.mos_meaning.specs.State.{Memory, State, Stop, Failed, Spent, Stuck, Got, Gave, Halts, ticked}
-use Rattle.mos_meaning.specs.Syntax.{Expression, number, text, name, plus, minus, unbuilt, Arguments, nothing, one_more, Effect, assign, writeln, unbuilt_effect, Block, done, first}
-use Rattle.mos_meaning.specs.Values.{sum_of, difference_of, limited, shown, line_end, written}
+use Rattle.mos_meaning.specs.Syntax.{Expression, number, text, truth, name, plus, minus, compare, unbuilt, Arguments, nothing, one_more, Change, increase, decrease, Effect, assign, change, write, choose, loop, group, leave, skip, unbuilt_effect, Branches, otherwise, branch, Block, done, first}
+use Rattle.mos_meaning.specs.Values.{sum_of, difference_of, compared, limited, shown, line_end, written}
 
 -- the place of a variable: that of its name; where there is none, one behind the last
 abbrev pub place_of : List ℕ → List (List ℕ) → ℕ
@@ -38,14 +38,22 @@ abbrev pub combined : (ℤ → ℤ → Option ℤ) → Scalar → Scalar → Sta
 combined operator (Int a) (Int b) s = or_fault Overflow (operator a b) Int s
 combined operator a b s = Halts Stuck s
 
+-- a truth, where there is one
+abbrev pub told_truth : Option Bool → State → Got
+told_truth None s = Halts Stuck s
+told_truth (Some b) s = Gave (Truth b) s
+
 abbrev pub value_of : List (List ℕ) → Expression → State → Got
 value_of names (number n) s = Gave (Int n) s
 value_of names (text t) s = or_fault TooBig (limited t) Str s
+value_of names (truth b) s = Gave (Truth b) s
 value_of names (name n) s = or_stuck (slice_get s.memory.store (place_of n names)) s
 value_of names (plus a b) s =
     give (value_of names a s) (λ x s1. give (value_of names b s1) (λ y s2. combined sum_of x y s2))
 value_of names (minus a b) s =
     give (value_of names a s) (λ x s1. give (value_of names b s1) (λ y s2. combined difference_of x y s2))
+value_of names (compare how a b) s =
+    give (value_of names a s) (λ x s1. give (value_of names b s1) (λ y s2. told_truth (compared how x y) s2))
 value_of names unbuilt s = Halts Stuck s
 
 -- Effects.
@@ -101,12 +109,60 @@ write_all names newline nothing held s = put_line newline held s
 write_all names newline (one_more e es) held s =
     do_with (value_of names e s) (λ value s1. do_shown (shown value) s1 (λ t. write_all names newline es (held ++ t) s1))
 
-abbrev pub effect_of : List (List ℕ) → Effect → State → Done
-effect_of names (assign n e) s =
-    tick_do s (λ s1. do_with (value_of names e s1) (λ value s2. put (place_of n names) value s2))
-effect_of names (writeln all) s = tick_do s (λ s1. write_all names true all [] s1)
-effect_of names unbuilt_effect s = Ends Stuck s
+-- the value of a variable
+abbrev pub do_loaded : Option Scalar → State → (Scalar → Done) → Done
+do_loaded None s go = Ends Stuck s
+do_loaded (Some value) s go = go value
 
-abbrev pub effects_of : List (List ℕ) → Block → State → Done
-effects_of names done s = Goes s
-effects_of names (first e rest) s = then_do (effect_of names e s) (λ s1. effects_of names rest s1)
+abbrev pub operator_of : Change → ℤ → ℤ → Option ℤ
+operator_of increase = sum_of
+operator_of decrease = difference_of
+
+-- the variable's value, read now, and this one give its new value
+abbrev pub change_by : Change → ℕ → Scalar → State → Done
+change_by how place value s =
+    do_loaded (slice_get s.memory.store place) s (λ old. do_with (combined (operator_of how) old value s) (λ new s1. put place new s1))
+
+-- one way or the other, by a condition
+abbrev pub do_truth : Scalar → State → Done → Done → Done
+do_truth (Truth true) s when_true when_false = when_true
+do_truth (Truth false) s when_true when_false = when_false
+do_truth _ s when_true when_false = Ends Stuck s
+
+-- what comes behind the body of a pass
+abbrev pub after_pass : (State → Done) → Done → Done
+after_pass go (Goes s) = go s
+after_pass go (Broke s) = Goes s
+after_pass go (Continues s) = go s
+after_pass go (Ends stop s) = Ends stop s
+
+-- the passes of a loop, each of which takes a tick: so there are fewer than `n`, where `n` is more than
+-- the ticks that are left
+abbrev pub passes : ℕ → (State → Got) → (State → Done) → State → Done
+passes zero test body s = Ends Stuck s
+passes (suc n) test body s =
+    do_with (test s) (λ c s1. do_truth c s1 (tick_do s1 (λ s2. after_pass (passes n test body) (body s2))) (Goes s1))
+
+abbrev mutual
+  pub effect_of : List (List ℕ) → Effect → State → Done
+  effect_of names (assign n e) s =
+      tick_do s (λ s1. do_with (value_of names e s1) (λ value s2. put (place_of n names) value s2))
+  effect_of names (change how n e) s =
+      tick_do s (λ s1. do_with (value_of names e s1) (λ value s2. change_by how (place_of n names) value s2))
+  effect_of names (write newline all) s = tick_do s (λ s1. write_all names newline all [] s1)
+  effect_of names (choose all) s = tick_do s (λ s1. branch_of names all s1)
+  effect_of names (loop e body) s = tick_do s (λ s1. passes (suc s1.ticks) (value_of names e) (effect_of names body) s1)
+  effect_of names (group all) s = effects_of names all s
+  effect_of names leave s = tick_do s (λ s1. Broke s1)
+  effect_of names skip s = tick_do s (λ s1. Continues s1)
+  effect_of names unbuilt_effect s = Ends Stuck s
+
+  -- the first branch whose condition is true, or what stands under `else`
+  pub branch_of : List (List ℕ) → Branches → State → Done
+  branch_of names (otherwise all) s = effects_of names all s
+  branch_of names (branch e all rest) s =
+      do_with (value_of names e s) (λ c s1. do_truth c s1 (effects_of names all s1) (branch_of names rest s1))
+
+  pub effects_of : List (List ℕ) → Block → State → Done
+  effects_of names done s = Goes s
+  effects_of names (first e rest) s = then_do (effect_of names e s) (λ s1. effects_of names rest s1)

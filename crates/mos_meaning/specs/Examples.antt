@@ -1,13 +1,14 @@
 -- Worked examples of meanings and of what images do.
 
-use Rattle.std.specs.Prelude.{◌≡◌, ℕ, List, [], ◌∷◌, Option, Some, None, pos, true, codes}
+use Rattle.std.specs.Prelude.{◌≡◌, ℕ, List, [], ◌∷◌, Option, Some, None, pos, true, false, codes}
 use Rattle.mos_text.specs.declared.fault_kind.FaultKind.TheVariants.{Overflow, BadParam}
 use Rattle.bim_code.specs.declared.image.Image.{Image}
 use Rattle.bim_code.specs.declared.instruction.Instruction.TheVariants.{Tick, PushInt, PushBool, PushText, Show, Write, Line, End}
 use Rattle.job_calls.specs.declared.run_line.RunLine.{RunLine}
 use Rattle.job_calls.specs.ReportExamples.{hello_entries, hello_runs}
+use Rattle.bim_code.specs.declared.instruction.Comparison.TheVariants.{Greater}
 use Rattle.mos_meaning.specs.State.{Outcome, Stop, Exited, Failed, Spent}
-use Rattle.mos_meaning.specs.Syntax.{Block, done, first, assign, writeln, nothing, one_more, number, text, name, plus}
+use Rattle.mos_meaning.specs.Syntax.{Block, done, first, assign, change, decrease, write, loop, group, skip, nothing, one_more, number, text, truth, name, plus, compare}
 use Rattle.mos_meaning.specs.Meaning.{meaning_of}
 use Rattle.mos_meaning.specs.Machine.{Course, course_of}
 use Rattle.mos_meaning.specs.Follows.{Model, FollowsSources}
@@ -17,15 +18,24 @@ told output ticks stop = record { output = output; calls = []; ticks = ticks; st
 
 -- writeln("hello")
 abbrev pub hello : Block
-hello = first (writeln (one_more (text (codes "hello")) nothing)) done
+hello = first (write true (one_more (text (codes "hello")) nothing)) done
 
 -- x:=2+3 and writeln(x)
 abbrev pub five : Block
-five = first (assign (codes "x") (plus (number (pos 2)) (number (pos 3)))) (first (writeln (one_more (name (codes "x")) nothing)) done)
+five = first (assign (codes "x") (plus (number (pos 2)) (number (pos 3)))) (first (write true (one_more (name (codes "x")) nothing)) done)
 
 -- x:=2147483647+1
 abbrev pub too_much : Block
 too_much = first (assign (codes "x") (plus (number (pos 2147483647)) (number (pos 1)))) done
+
+-- x:=3 and while(x>0) do x-=1 end-do
+abbrev pub down : Block
+down = first (assign (codes "x") (number (pos 3)))
+    (first (loop (compare Greater (name (codes "x")) (number (pos 0))) (group (first (change decrease (codes "x") (number (pos 1))) done))) done)
+
+-- write("a") and while(true) next
+abbrev pub endless : Block
+endless = first (write false (one_more (text (codes "a")) nothing)) (first (loop (truth true) skip) done)
 
 -- an image that writes hello
 abbrev pub hello_image : Image
@@ -55,6 +65,19 @@ FiveMeans = meaning_of five [] [] 10000000 ≡ told (codes "5\n") 2 (Exited (pos
 
 abbrev pub TooMuchMeans : Type 0
 TooMuchMeans = meaning_of too_much [] [] 10000000 ≡ told [] 1 (Failed Overflow)
+
+-- an assignment, a `while`, and three passes with a statement each
+abbrev pub DownMeans : Type 0
+DownMeans = meaning_of down [] [] 10000000 ≡ told [] 8 (Exited (pos 0))
+
+abbrev pub DownSpent : Type 0
+DownSpent = meaning_of down [] [] 7 ≡ told [] 7 Spent
+
+abbrev pub DownEnough : Type 0
+DownEnough = meaning_of down [] [] 8 ≡ told [] 8 (Exited (pos 0))
+
+abbrev pub EndlessSpent : Type 0
+EndlessSpent = meaning_of endless [] [] 100 ≡ told (codes "a") 100 Spent
 
 -- the image takes eight steps, and means the same
 abbrev pub HelloCourse : Type 0

@@ -10,11 +10,11 @@ use Rattle.mos_text.specs.declared.scalar.Scalar.TheVariants.{Int, Bool as Truth
 use Rattle.job_calls.specs.declared.reply.Reply.{Reply}
 use Rattle.bim_code.specs.declared.image.Image.{Image}
 use Rattle.bim_code.specs.declared.instruction.Instruction.{Instruction}
-use Rattle.bim_code.specs.declared.instruction.Instruction.TheVariants.{Tick, PushInt, PushBool, PushText, LoadGlobal, StoreGlobal, Add, Subtract, Show, Write, Line, End, Fault}
+use Rattle.bim_code.specs.declared.instruction.Instruction.TheVariants.{Tick, PushInt, PushBool, PushText, LoadGlobal, StoreGlobal, Swap, Add, Subtract, Compare, Jump, JumpIf, JumpNot, Show, Write, Line, End, Fault}
 use Rattle.bim_code.specs.Rows.{width}
 use Rattle.bim_code.specs.Code.{instruction_at}
 use Rattle.mos_meaning.specs.State.{Memory, State, Stop, Exited, Failed, Spent, Stuck, Outcome, ticked, beginning}
-use Rattle.mos_meaning.specs.Values.{sum_of, difference_of, limited, shown, line_end, written}
+use Rattle.mos_meaning.specs.Values.{sum_of, difference_of, compared, limited, shown, line_end, written}
 use Rattle.mos_meaning.specs.Meaning.{told, refused, defaults}
 
 -- what belongs to the part of the code that runs: its operands, the top first, and the texts that it
@@ -30,6 +30,7 @@ pub data Machine : Type 0 where
 -- what an instruction asks of the machine
 pub data Act : Type 0 where
   On : (f : Frame) (m : Memory) → Act  -- go on behind it
+  Jumps : (f : Frame) → Act  -- go on at the address that it names
   Ticks : (f : Frame) → Act  -- take a tick, then go on behind it
   Stops : (stop : Stop) → Act
 
@@ -70,6 +71,20 @@ abbrev pub on_integers : (ℤ → ℤ → Option ℤ) → Frame → Memory → A
 on_integers operator f m = on_integer f.stack (λ b rest. on_integer rest (λ a below.
     or_fault Overflow (operator a b) (λ n. On (with_stack (Int n ∷ below) f) m)))
 
+-- a comparison of the two values on top
+abbrev pub on_compared : Option Bool → Frame → Memory → Act
+on_compared None f m = Stops Stuck
+on_compared (Some b) f m = On (pushed (Truth b) f) m
+
+-- a jump where the boolean on top is true, and where it is false
+abbrev pub jumps_if : Bool → Frame → Memory → Act
+jumps_if true f m = Jumps f
+jumps_if false f m = On f m
+
+abbrev pub jumps_not : Bool → Frame → Memory → Act
+jumps_not true f m = On f m
+jumps_not false f m = Jumps f
+
 -- a global slot has the place of its own number
 abbrev pub stored : ℕ → Scalar → Frame → Memory → Act
 stored slot value f m =
@@ -83,6 +98,11 @@ act image (PushText k) f m = on_some (slice_get image.constants k) (λ text.
     or_fault TooBig (limited text) (λ t. On (pushed (Str t) f) m))
 act image (LoadGlobal slot) f m = on_some (slice_get m.store slot) (λ value. On (pushed value f) m)
 act image (StoreGlobal slot) f m = on_value f.stack (λ value below. stored slot value (with_stack below f) m)
+act image Swap f m = on_value f.stack (λ b rest. on_value rest (λ a below. On (with_stack (a ∷ b ∷ below) f) m))
+act image (Compare how) f m = on_value f.stack (λ b rest. on_value rest (λ a below. on_compared (compared how a b) (with_stack below f) m))
+act image (Jump address) f m = Jumps f
+act image (JumpIf address) f m = on_truth f.stack (λ b below. jumps_if b (with_stack below f) m)
+act image (JumpNot address) f m = on_truth f.stack (λ b below. jumps_not b (with_stack below f) m)
 act image Add f m = on_integers sum_of f m
 act image Subtract f m = on_integers difference_of f m
 act image Show f m = on_value f.stack (λ value below.
@@ -97,15 +117,23 @@ abbrev pub tick_to : Option State → State → ℕ → Frame → Machine
 tick_to None s next f = Over Spent s
 tick_to (Some after) s next f = At next f after
 
--- `next` is the address behind the instruction
-abbrev pub settle : Act → ℕ → State → Machine
-settle (On f m) next s = At next f (record s { memory = m })
-settle (Ticks f) next s = tick_to (ticked s s.ticks) s next f
-settle (Stops stop) next s = Over stop s
+-- the address that an instruction names; `next` is the one behind it
+abbrev pub target : Instruction → ℕ → ℕ
+target (Jump address) next = address
+target (JumpIf address) next = address
+target (JumpNot address) next = address
+target i next = next
+
+-- `next` is the address behind the instruction, `named` the one that it names
+abbrev pub settle : Act → ℕ → ℕ → State → Machine
+settle (On f m) next named s = At next f (record s { memory = m })
+settle (Jumps f) next named s = At named f s
+settle (Ticks f) next named s = tick_to (ticked s s.ticks) s next f
+settle (Stops stop) next named s = Over stop s
 
 abbrev pub decoded : Image → Option Instruction → ℕ → Frame → State → Machine
 decoded image None address f s = Over Stuck s
-decoded image (Some i) address f s = settle (act image i f s.memory) (address + width i) s
+decoded image (Some i) address f s = settle (act image i f s.memory) (address + width i) (target i (address + width i)) s
 
 abbrev pub step : Image → ℕ → Frame → State → Machine
 step image address f s = decoded image (instruction_at image.code address) address f s

@@ -19,11 +19,12 @@ told budget stop s = record {
   stop = stop;
 }
 
--- the end of the text ends a model with code 0; `break` and `next` stand in loops alone
+-- the end of the text ends a model with code 0; outside a loop `break` and `next` go there, but no
+-- accepted model has them there
 abbrev pub told_done : ℕ → Done → Outcome
 told_done budget (Goes s) = told budget (Exited (pos 0)) s
-told_done budget (Broke s) = told budget Stuck s
-told_done budget (Continues s) = told budget Stuck s
+told_done budget (Broke s) = told budget (Exited (pos 0)) s
+told_done budget (Continues s) = told budget (Exited (pos 0)) s
 told_done budget (Ends stop s) = told budget stop s
 
 -- a run whose parameter text is refused does nothing

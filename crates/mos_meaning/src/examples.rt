@@ -1,5 +1,5 @@
 //! Worked examples of the definitions: functions that do nothing, whose contracts are the examples.
-ghost use Rattle.mos_meaning.specs.Examples.{HelloMeans, HelloSpent, HelloRefused, FiveMeans, TooMuchMeans, HelloCourse, HelloCourseSpent, HelloFollows, TooFewLines, NoModel, AnotherSource};
+ghost use Rattle.mos_meaning.specs.Examples.{HelloMeans, HelloSpent, HelloRefused, FiveMeans, TooMuchMeans, DownMeans, DownSpent, DownEnough, EndlessSpent, HelloCourse, HelloCourseSpent, HelloFollows, TooFewLines, NoModel, AnotherSource};
 
 /// What a few models mean.
 pub fn meanings()
@@ -8,6 +8,14 @@ pub fn meanings()
     ensures refused { HelloRefused }
     ensures sum { FiveMeans }
     ensures overflow { TooMuchMeans }
+{}
+
+/// What models with loops mean.
+pub fn meanings_of_loops()
+    ensures down { DownMeans }
+    ensures spent { DownSpent }
+    ensures enough { DownEnough }
+    ensures endless { EndlessSpent }
 {}
 
 /// What the image that writes hello does.
