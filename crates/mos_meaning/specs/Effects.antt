@@ -9,7 +9,7 @@ use Rattle.mos_text.specs.declared.scalar.Scalar.{Scalar}
 use Rattle.mos_text.specs.declared.scalar.Scalar.TheVariants.{Int, Bool as Truth, Str}
 use Rattle.std.specs.Str.{bytes_eq}
 use Rattle.mos_meaning.specs.State.{Memory, State, Stop, Failed, Spent, Stuck, Got, Gave, Halts, ticked}
-use Rattle.mos_meaning.specs.Syntax.{Expression, number, text, truth, name, plus, minus, compare, unbuilt, Arguments, nothing, one_more, Change, increase, decrease, Effect, assign, change, write, choose, loop, group, leave, skip, unbuilt_effect, Branches, otherwise, branch, Block, done, first}
+use Rattle.mos_meaning.specs.Syntax.{Operator, plus, minus, compare, Expression, number, text, truth, name, apply, unbuilt, Arguments, nothing, one_more, Change, increase, decrease, Effect, assign, change, write, choose, loop, group, leave, skip, unbuilt_effect, Branches, otherwise, branch, Block, done, first}
 use Rattle.mos_meaning.specs.Values.{sum_of, difference_of, compared, limited, shown, line_end, written}
 
 -- the place of a variable: that of its name; where there is none, one behind the last
@@ -43,17 +43,18 @@ abbrev pub told_truth : Option Bool → State → Got
 told_truth None s = Halts Stuck s
 told_truth (Some b) s = Gave (Truth b) s
 
+abbrev pub applied : Operator → Scalar → Scalar → State → Got
+applied plus x y s = combined sum_of x y s
+applied minus x y s = combined difference_of x y s
+applied (compare how) x y s = told_truth (compared how x y) s
+
 abbrev pub value_of : List (List ℕ) → Expression → State → Got
 value_of names (number n) s = Gave (Int n) s
 value_of names (text t) s = or_fault TooBig (limited t) Str s
 value_of names (truth b) s = Gave (Truth b) s
 value_of names (name n) s = or_stuck (slice_get s.memory.store (place_of n names)) s
-value_of names (plus a b) s =
-    give (value_of names a s) (λ x s1. give (value_of names b s1) (λ y s2. combined sum_of x y s2))
-value_of names (minus a b) s =
-    give (value_of names a s) (λ x s1. give (value_of names b s1) (λ y s2. combined difference_of x y s2))
-value_of names (compare how a b) s =
-    give (value_of names a s) (λ x s1. give (value_of names b s1) (λ y s2. told_truth (compared how x y) s2))
+value_of names (apply operator a b) s =
+    give (value_of names a s) (λ x s1. give (value_of names b s1) (λ y s2. applied operator x y s2))
 value_of names unbuilt s = Halts Stuck s
 
 -- Effects.
@@ -114,14 +115,14 @@ abbrev pub do_loaded : Option Scalar → State → (Scalar → Done) → Done
 do_loaded None s go = Ends Stuck s
 do_loaded (Some value) s go = go value
 
-abbrev pub operator_of : Change → ℤ → ℤ → Option ℤ
-operator_of increase = sum_of
-operator_of decrease = difference_of
+abbrev pub change_operator : Change → ℤ → ℤ → Option ℤ
+change_operator increase = sum_of
+change_operator decrease = difference_of
 
 -- the variable's value, read now, and this one give its new value
 abbrev pub change_by : Change → ℕ → Scalar → State → Done
 change_by how place value s =
-    do_loaded (slice_get s.memory.store place) s (λ old. do_with (combined (operator_of how) old value s) (λ new s1. put place new s1))
+    do_loaded (slice_get s.memory.store place) s (λ old. do_with (combined (change_operator how) old value s) (λ new s1. put place new s1))
 
 -- one way or the other, by a condition
 abbrev pub do_truth : Scalar → State → Done → Done → Done

@@ -8,7 +8,7 @@ use Rattle.job_calls.specs.declared.run_line.RunLine.{RunLine}
 use Rattle.job_calls.specs.ReportExamples.{hello_entries, hello_runs}
 use Rattle.bim_code.specs.declared.instruction.Comparison.TheVariants.{Greater}
 use Rattle.mos_meaning.specs.State.{Outcome, Stop, Exited, Failed, Spent}
-use Rattle.mos_meaning.specs.Syntax.{Block, done, first, assign, change, decrease, write, loop, group, skip, nothing, one_more, number, text, truth, name, plus, compare}
+use Rattle.mos_meaning.specs.Syntax.{Block, done, first, assign, change, decrease, write, loop, group, skip, nothing, one_more, number, text, truth, name, apply, plus, compare}
 use Rattle.mos_meaning.specs.Meaning.{meaning_of}
 use Rattle.mos_meaning.specs.Machine.{Course, course_of}
 use Rattle.mos_meaning.specs.Follows.{Model, FollowsSources}
@@ -22,16 +22,16 @@ hello = first (write true (one_more (text (codes "hello")) nothing)) done
 
 -- x:=2+3 and writeln(x)
 abbrev pub five : Block
-five = first (assign (codes "x") (plus (number (pos 2)) (number (pos 3)))) (first (write true (one_more (name (codes "x")) nothing)) done)
+five = first (assign (codes "x") (apply plus (number (pos 2)) (number (pos 3)))) (first (write true (one_more (name (codes "x")) nothing)) done)
 
 -- x:=2147483647+1
 abbrev pub too_much : Block
-too_much = first (assign (codes "x") (plus (number (pos 2147483647)) (number (pos 1)))) done
+too_much = first (assign (codes "x") (apply plus (number (pos 2147483647)) (number (pos 1)))) done
 
 -- x:=3 and while(x>0) do x-=1 end-do
 abbrev pub down : Block
 down = first (assign (codes "x") (number (pos 3)))
-    (first (loop (compare Greater (name (codes "x")) (number (pos 0))) (group (first (change decrease (codes "x") (number (pos 1))) done))) done)
+    (first (loop (apply (compare Greater) (name (codes "x")) (number (pos 0))) (group (first (change decrease (codes "x") (number (pos 1))) done))) done)
 
 -- write("a") and while(true) next
 abbrev pub endless : Block

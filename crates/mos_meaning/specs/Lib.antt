@@ -6,3 +6,4 @@ pub mod Meaning
 pub mod Machine
 pub mod Follows
 pub mod Examples
+pub mod MachineLaws

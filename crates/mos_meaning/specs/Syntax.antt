@@ -23,15 +23,19 @@ use Rattle.bim_code.specs.declared.instruction.Comparison.{Comparison}
 use Rattle.bim_code.specs.declared.instruction.Comparison.TheVariants as comparison
 use Rattle.std.specs.Str.{bytes_eq}
 
--- an expression: a literal, a name, a sum, a difference, a comparison
+-- an operator between two expressions
+pub data Operator : Type 0 where
+  plus : Operator
+  minus : Operator
+  compare : Comparison → Operator
+
+-- an expression: a literal, a name, two expressions with an operator between them
 pub data Expression : Type 0 where
   number : ℤ → Expression
   text : List ℕ → Expression
   truth : Bool → Expression
   name : List ℕ → Expression
-  plus : Expression → Expression → Expression
-  minus : Expression → Expression → Expression
-  compare : Comparison → Expression → Expression → Expression
+  apply : Operator → Expression → Expression → Expression
   unbuilt : Expression
 
 -- expressions in their order, as the arguments of a statement
@@ -67,23 +71,27 @@ mutual
     done : Block
     first : Effect → Block → Block
 
-abbrev pub operation : BinaryOperator → Expression → Expression → Expression
-operation Plus a b = plus a b
-operation Minus a b = minus a b
-operation Equal a b = compare comparison.Equal a b
-operation NotEqual a b = compare comparison.NotEqual a b
-operation Less a b = compare comparison.Less a b
-operation AtMost a b = compare comparison.AtMost a b
-operation Greater a b = compare comparison.Greater a b
-operation AtLeast a b = compare comparison.AtLeast a b
-operation _ a b = unbuilt
+abbrev pub operator_of : BinaryOperator → Option Operator
+operator_of Plus = Some plus
+operator_of Minus = Some minus
+operator_of Equal = Some (compare comparison.Equal)
+operator_of NotEqual = Some (compare comparison.NotEqual)
+operator_of Less = Some (compare comparison.Less)
+operator_of AtMost = Some (compare comparison.AtMost)
+operator_of Greater = Some (compare comparison.Greater)
+operator_of AtLeast = Some (compare comparison.AtLeast)
+operator_of _ = None
+
+abbrev pub operation : Option Operator → Expression → Expression → Expression
+operation None a b = unbuilt
+operation (Some operator) a b = apply operator a b
 
 abbrev pub expression_step : Expr-F Expression → Expression
 expression_step (Integer n) = number n
 expression_step (Text t) = text t
 expression_step (Truth b) = truth b
 expression_step (Name n) = name n
-expression_step (Binary op a b) = operation op a b
+expression_step (Binary op a b) = operation (operator_of op) a b
 expression_step _ = unbuilt
 
 abbrev pub expression : Expr → Expression
@@ -125,6 +133,16 @@ effect_step _ = unbuilt_effect
 
 abbrev pub effect : Statement → Effect
 effect = fold-Statement Effect effect_step
+
+abbrev pub block_of : List Statement → Block
+block_of all = block (map effect all)
+
+-- a branch with what is said of its statements in their place
+abbrev pub in_arm : {A : Type 0} → (Statement → A) → Arm Statement → Arm A
+in_arm f arm = record { line = arm.line; condition = arm.condition; body = map f arm.body }
+
+abbrev pub branches_of : List (Arm Statement) → List Statement → Branches
+branches_of arms last = branches (map (in_arm effect) arms) (map effect last)
 
 abbrev pub top_effect : Top → Effect
 top_effect (top.Statement s) = effect s

@@ -7,5 +7,7 @@
 #![tactic(auto)]
 
 mod examples;
+mod laws;
 
-pub use examples::{courses, meanings, refused_lines};
+pub use examples::{courses, hello_follows, meanings, meanings_of_loops, refused_lines};
+pub use laws::machine_laws;

@@ -1,8 +1,3 @@
-pub mod Leads
-pub mod Standing
-pub mod Expressions
-pub mod Effects
-pub mod Course
 pub mod AcceptedForms
 pub mod Body
 pub mod BodyForms
@@ -17,12 +12,9 @@ pub mod SumForms
 pub mod SumSteps
 pub mod Tokens
 pub mod Steps
-pub mod SizeLemmas
 pub mod Legality
-pub mod NeverStuck
 pub mod FirstModels
 pub mod Whole
 pub mod WholeJobs
 pub mod Answering
 pub mod Exactness
-pub mod PlainImages

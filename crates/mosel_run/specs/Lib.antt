@@ -1,10 +1,6 @@
-pub mod Compiled
-pub mod Built
 pub mod Closed
 pub mod Kept
 pub mod Stepping
-pub mod Sizes
-pub mod Means
 pub mod Schedule
 pub mod Puts
 pub mod Reported
@@ -17,7 +13,6 @@ pub mod Sums
 pub mod UnknownNames
 pub mod Chains
 pub mod Jobs
-pub mod Working
 pub mod Statuses
 pub mod Outputs
 pub mod Answered
@@ -25,4 +20,3 @@ pub mod Preparing
 pub mod Storing
 pub mod Examples
 pub mod Exact
-pub mod Plain

@@ -1,0 +1,11 @@
+pub mod Leads
+pub mod Standing
+pub mod EndLemmas
+pub mod ExpressionRuns
+pub mod Passes
+pub mod Effects
+pub mod Rules
+pub mod Course
+pub mod SizeLemmas
+pub mod NeverStuck
+pub mod PlainImages

@@ -1,0 +1,6 @@
+pub mod Built
+pub mod Compiled
+pub mod Sizes
+pub mod Working
+pub mod Means
+pub mod Plain

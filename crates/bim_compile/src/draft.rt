@@ -1,0 +1,51 @@
+//! What was made of a model so far.
+ghost use Rattle.std.specs.Prelude.{◌≡◌, ◌++◌, ◌∷◌, [], ◌<◌, ◌+◌, ◌^◌, OnOk};
+ghost use Rattle.bim_code.specs.Rows.{width};
+
+use bim_code::Instruction;
+use mos_text::{NoMemory, Text};
+use sqlite_items::Items;
+use std::alloc::Global;
+
+/// The constants and the code so far.
+#[derive(Debug, Drop)]
+pub(crate) struct Draft {
+    pub constants: Items<Text>,
+    pub code: Items<Instruction>,
+    /// The address behind the code.
+    pub at: u32,
+}
+
+/// Where `break` and `next` lead.
+#[derive(Clone, Copy, Debug, Drop)]
+pub(crate) struct Exits {
+    pub out: u32,
+    pub next: u32,
+}
+
+impl Draft {
+    pub(crate) fn new(alloc: Global) -> Draft
+        ensures code { result.code ≡ [] }
+        ensures constants { result.constants ≡ [] }
+        ensures at { result.at ≡ 0 }
+    {
+        Draft {
+            constants: Items::new(alloc),
+            code: Items::new(alloc),
+            at: 0,
+        }
+    }
+
+    /// Puts an instruction behind the code.
+    pub(crate) fn put(&mut self, instruction: Instruction) -> Result<(), NoMemory>
+        requires { self.old.at + 5 < 2 ^ 32 }
+        ensures code { OnOk result (self.new.code ≡ self.old.code ++ instruction ∷ []) }
+        ensures constants { OnOk result (self.new.constants ≡ self.old.constants) }
+        ensures at { OnOk result (self.new.at ≡ self.old.at + width instruction) }
+    {
+        let width = instruction.width();
+        self.code.push(instruction)?;
+        self.at += width;
+        Ok(())
+    }
+}

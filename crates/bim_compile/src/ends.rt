@@ -1,0 +1,126 @@
+//! Where the code of a form ends that begins at an address.
+ghost use Rattle.std.specs.Prelude.{◌≡◌, ◌≤◌, ◌<◌, ◌+◌, ◌*◌, ◌^◌, map};
+ghost use Rattle.mos_meaning.specs.Syntax.{expression, arguments, effect, top_effect, block, block_of};
+ghost use Rattle.bim_compile.specs.Built.{IsBuilt, AreBuilt, IsBuiltEffect, IsBuiltBlock};
+ghost use Rattle.bim_compile.specs.Compiled.{expression_end, arguments_end, effect_end, block_end};
+ghost use Rattle.bim_compile.specs.Sizes.{size_of, size_of_all, size_of_effect, size_of_block};
+
+use mos_tree::{Assignment, Expr, Reference, Statement, Top};
+
+/// The address behind the code of an expression.
+pub(crate) fn end_of_expression(at: u32, written: &Expr) -> u32
+    requires built { IsBuilt (expression written.now) }
+    requires room { at + 5 * size_of (expression written.now) < 2 ^ 32 }
+    ensures end { result ≡ expression_end at (expression written.now) }
+    ensures within { result ≤ at + 5 * size_of (expression written.now) }
+{
+    match written {
+        Expr::Integer(_) | Expr::Text(_) | Expr::Truth(_) | Expr::Name(_) => at + 5,
+        Expr::Binary(_, left, right) => {
+            let middle = end_of_expression(at, left.get());
+            end_of_expression(middle, right.get()) + 1
+        }
+        _ => unreachable!(),
+    }
+}
+
+fn end_of_arguments(at: u32, all: &[Expr]) -> u32
+    requires built { AreBuilt (arguments (map expression all.now)) }
+    requires room { at + 7 * size_of_all (arguments (map expression all.now)) < 2 ^ 32 }
+    ensures end { result ≡ arguments_end at (arguments (map expression all.now)) }
+    ensures within { result ≤ at + 7 * size_of_all (arguments (map expression all.now)) }
+{
+    let mut end = at;
+    for written in all {
+        end = end_of_expression(end, written) + 1 + 1;
+    }
+    end
+}
+
+/// The address behind the code of a statement.
+#[cycle(ends)]
+pub(crate) fn end_of_statement(at: u32, statement: &Statement) -> u32
+    requires built { IsBuiltEffect (effect statement.now) }
+    requires room { at + 13 * size_of_effect (effect statement.now) < 2 ^ 32 }
+    ensures end { result ≡ effect_end at (effect statement.now) }
+    ensures within { result ≤ at + 13 * size_of_effect (effect statement.now) }
+{
+    match statement {
+        Statement::Assign {
+            target: Reference::Name(_),
+            operator: Assignment::Set,
+            value,
+            ..
+        } => end_of_expression(at + 1, value) + 5,
+        Statement::Assign {
+            target: Reference::Name(_),
+            value,
+            ..
+        } => end_of_expression(at + 1, value) + 5 + 1 + 1 + 5,
+        Statement::Call { arguments, .. } => end_of_arguments(at + 1, arguments.as_slice()) + 5 + 1,
+        Statement::If {
+            arms,
+            otherwise,
+            ..
+        } => {
+            let mut end = at + 1;
+            for arm in arms.as_slice() {
+                let body = end_of_expression(end, &arm.condition) + 5;
+                end = end_of_block(body, arm.body.as_slice()) + 5;
+            }
+            end_of_block(end, otherwise.as_slice())
+        }
+        Statement::While {
+            condition,
+            body,
+            ..
+        } => {
+            let test = end_of_statement(at + 1 + 5 + 1, body.get());
+            end_of_expression(test, condition) + 5
+        }
+        Statement::Do { body, .. } => end_of_block(at, body.as_slice()),
+        Statement::Break { .. } | Statement::Next { .. } => at + 1 + 5,
+        _ => unreachable!(),
+    }
+}
+
+/// The address behind the code of statements one after the other.
+#[cycle(ends)]
+pub(crate) fn end_of_block(at: u32, all: &[Statement]) -> u32
+    requires built { IsBuiltBlock (block_of all.now) }
+    requires room { at + 13 * size_of_block (block_of all.now) < 2 ^ 32 }
+    ensures end { result ≡ block_end at (block_of all.now) }
+    ensures within { result ≤ at + 13 * size_of_block (block_of all.now) }
+{
+    let mut end = at;
+    for statement in all {
+        end = end_of_statement(end, statement);
+    }
+    end
+}
+
+/// The address behind the code of the statements of a model.
+pub(crate) fn end_of_tops(at: u32, tops: &[Top]) -> u32
+    requires built { IsBuiltBlock (block (map top_effect tops.now)) }
+    requires room { at + 13 * size_of_block (block (map top_effect tops.now)) < 2 ^ 32 }
+    ensures end { result ≡ block_end at (block (map top_effect tops.now)) }
+    ensures within { result ≤ at + 13 * size_of_block (block (map top_effect tops.now)) }
+{
+    let mut end = at;
+    for top in tops {
+        end = end_of_top(end, top);
+    }
+    end
+}
+
+fn end_of_top(at: u32, top: &Top) -> u32
+    requires built { IsBuiltEffect (top_effect top.now) }
+    requires room { at + 13 * size_of_effect (top_effect top.now) < 2 ^ 32 }
+    ensures end { result ≡ effect_end at (top_effect top.now) }
+    ensures within { result ≤ at + 13 * size_of_effect (top_effect top.now) }
+{
+    match top {
+        Top::Statement(statement) => end_of_statement(at, statement),
+        _ => unreachable!(),
+    }
+}

@@ -1,0 +1,269 @@
+//! The code of statements.
+ghost use Rattle.std.specs.Prelude.{◌≡◌, ◌++◌, ◌∷◌, [], ◌<◌, ◌≤◌, ◌+◌, ◌*◌, ◌^◌, OnOk, length, map};
+ghost use Rattle.mos_meaning.specs.Syntax.{expression, arguments, effect, top_effect, block, block_of, assignment};
+ghost use Rattle.bim_code.specs.Rows.{width};
+ghost use Rattle.bim_compile.specs.Built.{AreBuilt, IsBuiltEffect, IsBuiltBlock, IsChoice};
+ghost use Rattle.bim_compile.specs.Compiled.{texts_in_all, arguments_code, arguments_end, texts_in_effect, effect_code, effect_end, texts_in_block, block_code, block_end};
+ghost use Rattle.bim_compile.specs.Sizes.{size_of_all, size_of_effect, size_of_block};
+
+use crate::draft::{Draft, Exits};
+use crate::ends::{end_of_block, end_of_expression, end_of_statement};
+use crate::expressions::emit_expression;
+use crate::names::place;
+use bim_code::Instruction;
+use mos_text::{NoMemory, Text};
+use mos_tree::{Assignment, Expr, Reference, Statement, Top};
+use std::alloc::Global;
+
+/// Adds the code of the statements of a model, in their order.
+pub(crate) fn emit_tops(
+    alloc: Global,
+    draft: &mut Draft,
+    names: &[Text],
+    exits: Exits,
+    tops: &[Top],
+) -> Result<(), NoMemory>
+    requires built { IsBuiltBlock (block (map top_effect tops.now)) }
+    requires few_names { length names.now < 2 ^ 31 }
+    requires few { length draft.old.constants + length (texts_in_block (block (map top_effect tops.now))) < 2 ^ 32 }
+    requires room { draft.old.at + 13 * size_of_block (block (map top_effect tops.now)) + 13 < 2 ^ 32 }
+    ensures code { OnOk result (draft.new.code ≡ draft.old.code ++ block_code names.now (length draft.old.constants) draft.old.at exits.out exits.next (block (map top_effect tops.now))) }
+    ensures constants { OnOk result (draft.new.constants ≡ draft.old.constants ++ texts_in_block (block (map top_effect tops.now))) }
+    ensures at { OnOk result (draft.new.at ≡ block_end draft.old.at (block (map top_effect tops.now))) }
+    ensures within { OnOk result (draft.new.at ≤ draft.old.at + 13 * size_of_block (block (map top_effect tops.now))) }
+{
+    for top in tops {
+        emit_top(alloc, draft, names, exits, top)?;
+    }
+    Ok(())
+}
+
+fn emit_top(
+    alloc: Global,
+    draft: &mut Draft,
+    names: &[Text],
+    exits: Exits,
+    top: &Top,
+) -> Result<(), NoMemory>
+    requires built { IsBuiltEffect (top_effect top.now) }
+    requires few_names { length names.now < 2 ^ 31 }
+    requires few { length draft.old.constants + length (texts_in_effect (top_effect top.now)) < 2 ^ 32 }
+    requires room { draft.old.at + 13 * size_of_effect (top_effect top.now) + 13 < 2 ^ 32 }
+    ensures code { OnOk result (draft.new.code ≡ draft.old.code ++ effect_code names.now (length draft.old.constants) draft.old.at exits.out exits.next (top_effect top.now)) }
+    ensures constants { OnOk result (draft.new.constants ≡ draft.old.constants ++ texts_in_effect (top_effect top.now)) }
+    ensures at { OnOk result (draft.new.at ≡ effect_end draft.old.at (top_effect top.now)) }
+    ensures within { OnOk result (draft.new.at ≤ draft.old.at + 13 * size_of_effect (top_effect top.now)) }
+{
+    match top {
+        Top::Statement(statement) => emit_statement(alloc, draft, names, exits, statement),
+        _ => unreachable!(),
+    }
+}
+
+#[cycle(emits)]
+fn emit_statement(
+    alloc: Global,
+    draft: &mut Draft,
+    names: &[Text],
+    exits: Exits,
+    statement: &Statement,
+) -> Result<(), NoMemory>
+    requires built { IsBuiltEffect (effect statement.now) }
+    requires few_names { length names.now < 2 ^ 31 }
+    requires few { length draft.old.constants + length (texts_in_effect (effect statement.now)) < 2 ^ 32 }
+    requires room { draft.old.at + 13 * size_of_effect (effect statement.now) + 13 < 2 ^ 32 }
+    ensures code { OnOk result (draft.new.code ≡ draft.old.code ++ effect_code names.now (length draft.old.constants) draft.old.at exits.out exits.next (effect statement.now)) }
+    ensures constants { OnOk result (draft.new.constants ≡ draft.old.constants ++ texts_in_effect (effect statement.now)) }
+    ensures at { OnOk result (draft.new.at ≡ effect_end draft.old.at (effect statement.now)) }
+    ensures within { OnOk result (draft.new.at ≤ draft.old.at + 13 * size_of_effect (effect statement.now)) }
+{
+    match statement {
+        Statement::Assign {
+            target: Reference::Name(name),
+            operator,
+            value,
+            ..
+        } => emit_assignment(alloc, draft, names, name, *operator, value),
+        Statement::Call {
+            name,
+            arguments,
+            ..
+        } => emit_write(alloc, draft, names, name.as_str() == "writeln", arguments.as_slice()),
+        Statement::If { .. } => emit_if(alloc, draft, names, exits, statement),
+        Statement::While {
+            condition,
+            body,
+            ..
+        } => {
+            draft.put(Instruction::Tick)?;
+            let pass = draft.at + 5;
+            let test = end_of_statement(pass + 1, body.get());
+            let out = end_of_expression(test, condition) + 5;
+            draft.put(Instruction::Jump(test))?;
+            draft.put(Instruction::Tick)?;
+            emit_statement(alloc, draft, names, Exits { out, next: test }, body.get())?;
+            emit_expression(alloc, draft, names, condition)?;
+            draft.put(Instruction::JumpIf(pass))
+        }
+        Statement::Do { body, .. } => emit_block(alloc, draft, names, exits, body.as_slice()),
+        Statement::Break { .. } => emit_exit(draft, exits.out),
+        Statement::Next { .. } => emit_exit(draft, exits.next),
+        _ => unreachable!(),
+    }
+}
+
+/// Adds the code of a statement that leads to another place.
+fn emit_exit(draft: &mut Draft, to: u32) -> Result<(), NoMemory>
+    requires { draft.old.at + 13 < 2 ^ 32 }
+    ensures code { OnOk result (draft.new.code ≡ draft.old.code ++ Instruction.Tick ∷ Instruction.Jump to ∷ []) }
+    ensures constants { OnOk result (draft.new.constants ≡ draft.old.constants) }
+    ensures at { OnOk result (draft.new.at ≡ draft.old.at + 1 + 5) }
+{
+    draft.put(Instruction::Tick)?;
+    draft.put(Instruction::Jump(to))
+}
+
+/// Adds the code of an `if` with its branches.
+#[cycle(emits)]
+fn emit_if(
+    alloc: Global,
+    draft: &mut Draft,
+    names: &[Text],
+    exits: Exits,
+    statement: &Statement,
+) -> Result<(), NoMemory>
+    requires choice { IsChoice (effect statement.now) }
+    requires built { IsBuiltEffect (effect statement.now) }
+    requires few_names { length names.now < 2 ^ 31 }
+    requires few { length draft.old.constants + length (texts_in_effect (effect statement.now)) < 2 ^ 32 }
+    requires room { draft.old.at + 13 * size_of_effect (effect statement.now) + 13 < 2 ^ 32 }
+    ensures code { OnOk result (draft.new.code ≡ draft.old.code ++ effect_code names.now (length draft.old.constants) draft.old.at exits.out exits.next (effect statement.now)) }
+    ensures constants { OnOk result (draft.new.constants ≡ draft.old.constants ++ texts_in_effect (effect statement.now)) }
+    ensures at { OnOk result (draft.new.at ≡ effect_end draft.old.at (effect statement.now)) }
+    ensures within { OnOk result (draft.new.at ≤ draft.old.at + 13 * size_of_effect (effect statement.now)) }
+{
+    let Statement::If { arms, otherwise, .. } = statement else {
+        unreachable!()
+    };
+    let end = end_of_statement(draft.at, statement);
+    draft.put(Instruction::Tick)?;
+    for arm in arms.as_slice() {
+        emit_expression(alloc, draft, names, &arm.condition)?;
+        let other = end_of_block(draft.at + 5, arm.body.as_slice()) + 5;
+        draft.put(Instruction::JumpNot(other))?;
+        emit_block(alloc, draft, names, exits, arm.body.as_slice())?;
+        draft.put(Instruction::Jump(end))?;
+    }
+    emit_block(alloc, draft, names, exits, otherwise.as_slice())
+}
+
+#[cycle(emits)]
+fn emit_block(
+    alloc: Global,
+    draft: &mut Draft,
+    names: &[Text],
+    exits: Exits,
+    all: &[Statement],
+) -> Result<(), NoMemory>
+    requires built { IsBuiltBlock (block_of all.now) }
+    requires few_names { length names.now < 2 ^ 31 }
+    requires few { length draft.old.constants + length (texts_in_block (block_of all.now)) < 2 ^ 32 }
+    requires room { draft.old.at + 13 * size_of_block (block_of all.now) + 13 < 2 ^ 32 }
+    ensures code { OnOk result (draft.new.code ≡ draft.old.code ++ block_code names.now (length draft.old.constants) draft.old.at exits.out exits.next (block_of all.now)) }
+    ensures constants { OnOk result (draft.new.constants ≡ draft.old.constants ++ texts_in_block (block_of all.now)) }
+    ensures at { OnOk result (draft.new.at ≡ block_end draft.old.at (block_of all.now)) }
+    ensures within { OnOk result (draft.new.at ≤ draft.old.at + 13 * size_of_block (block_of all.now)) }
+{
+    for statement in all {
+        emit_statement(alloc, draft, names, exits, statement)?;
+    }
+    Ok(())
+}
+
+/// Adds the code that evaluates, prints and holds each argument, and writes them.
+fn emit_write(
+    alloc: Global,
+    draft: &mut Draft,
+    names: &[Text],
+    newline: bool,
+    all: &[Expr],
+) -> Result<(), NoMemory>
+    requires built { AreBuilt (arguments (map expression all.now)) }
+    requires few_names { length names.now < 2 ^ 31 }
+    requires few { length draft.old.constants + length (texts_in_all (arguments (map expression all.now))) < 2 ^ 32 }
+    requires room { draft.old.at + 7 * size_of_all (arguments (map expression all.now)) + 13 < 2 ^ 32 }
+    ensures code { OnOk result (draft.new.code ≡ draft.old.code ++ Instruction.Tick ∷ (arguments_code names.now (length draft.old.constants) (arguments (map expression all.now)) ++ Instruction.PushBool newline ∷ Instruction.Line ∷ [])) }
+    ensures constants { OnOk result (draft.new.constants ≡ draft.old.constants ++ texts_in_all (arguments (map expression all.now))) }
+    ensures at { OnOk result (draft.new.at ≡ arguments_end (draft.old.at + 1) (arguments (map expression all.now)) + 5 + 1) }
+    ensures within { OnOk result (draft.new.at ≤ draft.old.at + 7 * size_of_all (arguments (map expression all.now)) + 7) }
+{
+    draft.put(Instruction::Tick)?;
+    emit_arguments(alloc, draft, names, all)?;
+    draft.put(Instruction::PushBool(newline))?;
+    draft.put(Instruction::Line)
+}
+
+fn emit_arguments(
+    alloc: Global,
+    draft: &mut Draft,
+    names: &[Text],
+    all: &[Expr],
+) -> Result<(), NoMemory>
+    requires built { AreBuilt (arguments (map expression all.now)) }
+    requires few_names { length names.now < 2 ^ 31 }
+    requires few { length draft.old.constants + length (texts_in_all (arguments (map expression all.now))) < 2 ^ 32 }
+    requires room { draft.old.at + 7 * size_of_all (arguments (map expression all.now)) + 8 < 2 ^ 32 }
+    ensures code { OnOk result (draft.new.code ≡ draft.old.code ++ arguments_code names.now (length draft.old.constants) (arguments (map expression all.now))) }
+    ensures constants { OnOk result (draft.new.constants ≡ draft.old.constants ++ texts_in_all (arguments (map expression all.now))) }
+    ensures at { OnOk result (draft.new.at ≡ arguments_end draft.old.at (arguments (map expression all.now))) }
+    ensures within { OnOk result (draft.new.at ≤ draft.old.at + 7 * size_of_all (arguments (map expression all.now))) }
+{
+    for written in all {
+        emit_expression(alloc, draft, names, written)?;
+        draft.put(Instruction::Show)?;
+        draft.put(Instruction::Write)?;
+    }
+    Ok(())
+}
+
+/// Adds the code of `:=`, `+=` or `-=`.
+fn emit_assignment(
+    alloc: Global,
+    draft: &mut Draft,
+    names: &[Text],
+    name: &Text,
+    operator: Assignment,
+    value: &Expr,
+) -> Result<(), NoMemory>
+    requires built { IsBuiltEffect (assignment (Reference.Name name.now) operator (expression value.now)) }
+    requires few_names { length names.now < 2 ^ 31 }
+    requires few { length draft.old.constants + length (texts_in_effect (assignment (Reference.Name name.now) operator (expression value.now))) < 2 ^ 32 }
+    requires room { draft.old.at + 13 * size_of_effect (assignment (Reference.Name name.now) operator (expression value.now)) + 13 < 2 ^ 32 }
+    ensures code { OnOk result (draft.new.code ≡ draft.old.code ++ effect_code names.now (length draft.old.constants) draft.old.at 0 0 (assignment (Reference.Name name.now) operator (expression value.now))) }
+    ensures constants { OnOk result (draft.new.constants ≡ draft.old.constants ++ texts_in_effect (assignment (Reference.Name name.now) operator (expression value.now))) }
+    ensures at { OnOk result (draft.new.at ≡ effect_end draft.old.at (assignment (Reference.Name name.now) operator (expression value.now))) }
+    ensures within { OnOk result (draft.new.at ≤ draft.old.at + 13 * size_of_effect (assignment (Reference.Name name.now) operator (expression value.now))) }
+{
+    let slot = place(names, name) as u32;
+    draft.put(Instruction::Tick)?;
+    emit_expression(alloc, draft, names, value)?;
+    match operator {
+        Assignment::Set => {}
+        Assignment::Add => emit_change(draft, slot, Instruction::Add)?,
+        Assignment::Take => emit_change(draft, slot, Instruction::Subtract)?,
+    }
+    draft.put(Instruction::StoreGlobal(slot))
+}
+
+/// Adds the code that makes the new value of a variable of the old one and of that on top.
+fn emit_change(draft: &mut Draft, slot: u32, operator: Instruction) -> Result<(), NoMemory>
+    requires room { draft.old.at + 17 < 2 ^ 32 }
+    requires operator { width operator ≡ 1 }
+    ensures code { OnOk result (draft.new.code ≡ draft.old.code ++ Instruction.LoadGlobal slot ∷ Instruction.Swap ∷ operator ∷ []) }
+    ensures constants { OnOk result (draft.new.constants ≡ draft.old.constants) }
+    ensures at { OnOk result (draft.new.at ≡ draft.old.at + 5 + 1 + 1) }
+{
+    draft.put(Instruction::LoadGlobal(slot))?;
+    draft.put(Instruction::Swap)?;
+    draft.put(operator)
+}
