@@ -34,3 +34,13 @@ abbrev mutual
 abbrev pub IsChoice : Effect → Type 0
 IsChoice (choose all) = Unit {0}
 IsChoice _ = ⊥
+
+-- its branches
+abbrev pub choice_of : Effect → Branches
+choice_of (choose all) = all
+choice_of _ = otherwise done
+
+-- a `while`
+abbrev pub IsLoop : Effect → Type 0
+IsLoop (loop e body) = Unit {0}
+IsLoop _ = ⊥

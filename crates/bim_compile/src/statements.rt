@@ -2,9 +2,9 @@
 ghost use Rattle.std.specs.Prelude.{◌≡◌, ◌++◌, ◌∷◌, [], ◌<◌, ◌≤◌, ◌+◌, ◌*◌, ◌^◌, OnOk, length, map};
 ghost use Rattle.mos_meaning.specs.Syntax.{expression, arguments, effect, top_effect, block, block_of, assignment};
 ghost use Rattle.bim_code.specs.Rows.{width};
-ghost use Rattle.bim_compile.specs.Built.{AreBuilt, IsBuiltEffect, IsBuiltBlock, IsChoice};
-ghost use Rattle.bim_compile.specs.Compiled.{texts_in_all, arguments_code, arguments_end, texts_in_effect, effect_code, effect_end, texts_in_block, block_code, block_end};
-ghost use Rattle.bim_compile.specs.Sizes.{size_of_all, size_of_effect, size_of_block};
+ghost use Rattle.bim_compile.specs.Built.{IsBuilt, AreBuilt, IsBuiltEffect, AreBuiltBranches, IsBuiltBlock, IsChoice, IsLoop, choice_of};
+ghost use Rattle.bim_compile.specs.Compiled.{texts_in, expression_code, expression_end, texts_in_branches, branches_code, branches_end, texts_in_all, arguments_code, arguments_end, texts_in_effect, effect_code, effect_end, texts_in_block, block_code, block_end};
+ghost use Rattle.bim_compile.specs.Sizes.{size_of, size_of_all, size_of_effect, size_of_branches, size_of_block};
 
 use crate::draft::{Draft, Exits};
 use crate::ends::{end_of_block, end_of_expression, end_of_statement};
@@ -79,32 +79,22 @@ fn emit_statement(
 {
     match statement {
         Statement::Assign {
-            target: Reference::Name(name),
+            target,
             operator,
             value,
             ..
-        } => emit_assignment(alloc, draft, names, name, *operator, value),
+        } => emit_assignment(alloc, draft, names, target, *operator, value),
         Statement::Call {
             name,
             arguments,
             ..
         } => emit_write(alloc, draft, names, name.as_str() == "writeln", arguments.as_slice()),
-        Statement::If { .. } => emit_if(alloc, draft, names, exits, statement),
-        Statement::While {
-            condition,
-            body,
-            ..
-        } => {
+        Statement::If { .. } => {
+            let end = end_of_statement(draft.at, statement);
             draft.put(Instruction::Tick)?;
-            let pass = draft.at + 5;
-            let test = end_of_statement(pass + 1, body.get());
-            let out = end_of_expression(test, condition) + 5;
-            draft.put(Instruction::Jump(test))?;
-            draft.put(Instruction::Tick)?;
-            emit_statement(alloc, draft, names, Exits { out, next: test }, body.get())?;
-            emit_expression(alloc, draft, names, condition)?;
-            draft.put(Instruction::JumpIf(pass))
+            emit_branches(alloc, draft, names, end, exits, statement)
         }
+        Statement::While { .. } => emit_loop(alloc, draft, names, exits, statement),
         Statement::Do { body, .. } => emit_block(alloc, draft, names, exits, body.as_slice()),
         Statement::Break { .. } => emit_exit(draft, exits.out),
         Statement::Next { .. } => emit_exit(draft, exits.next),
@@ -123,16 +113,49 @@ fn emit_exit(draft: &mut Draft, to: u32) -> Result<(), NoMemory>
     draft.put(Instruction::Jump(to))
 }
 
-/// Adds the code of an `if` with its branches.
+/// Adds the code of the branches of an `if`, which ends at this address.
 #[cycle(emits)]
-fn emit_if(
+fn emit_branches(
+    alloc: Global,
+    draft: &mut Draft,
+    names: &[Text],
+    end: u32,
+    exits: Exits,
+    statement: &Statement,
+) -> Result<(), NoMemory>
+    requires choice { IsChoice (effect statement.now) }
+    requires built { AreBuiltBranches (choice_of (effect statement.now)) }
+    requires few_names { length names.now < 2 ^ 31 }
+    requires few { length draft.old.constants + length (texts_in_branches (choice_of (effect statement.now))) < 2 ^ 32 }
+    requires room { draft.old.at + 13 * size_of_branches (choice_of (effect statement.now)) + 13 < 2 ^ 32 }
+    ensures code { OnOk result (draft.new.code ≡ draft.old.code ++ branches_code names.now (length draft.old.constants) draft.old.at end exits.out exits.next (choice_of (effect statement.now))) }
+    ensures constants { OnOk result (draft.new.constants ≡ draft.old.constants ++ texts_in_branches (choice_of (effect statement.now))) }
+    ensures at { OnOk result (draft.new.at ≡ branches_end draft.old.at (choice_of (effect statement.now))) }
+    ensures within { OnOk result (draft.new.at ≤ draft.old.at + 13 * size_of_branches (choice_of (effect statement.now))) }
+{
+    let Statement::If { arms, otherwise, .. } = statement else {
+        unreachable!()
+    };
+    for arm in arms.as_slice() {
+        emit_expression(alloc, draft, names, &arm.condition)?;
+        let other = end_of_block(draft.at + 5, arm.body.as_slice()) + 5;
+        draft.put(Instruction::JumpNot(other))?;
+        emit_block(alloc, draft, names, exits, arm.body.as_slice())?;
+        draft.put(Instruction::Jump(end))?;
+    }
+    emit_block(alloc, draft, names, exits, otherwise.as_slice())
+}
+
+/// Adds the code of a `while`.
+#[cycle(emits)]
+fn emit_loop(
     alloc: Global,
     draft: &mut Draft,
     names: &[Text],
     exits: Exits,
     statement: &Statement,
 ) -> Result<(), NoMemory>
-    requires choice { IsChoice (effect statement.now) }
+    requires repeats { IsLoop (effect statement.now) }
     requires built { IsBuiltEffect (effect statement.now) }
     requires few_names { length names.now < 2 ^ 31 }
     requires few { length draft.old.constants + length (texts_in_effect (effect statement.now)) < 2 ^ 32 }
@@ -142,19 +165,57 @@ fn emit_if(
     ensures at { OnOk result (draft.new.at ≡ effect_end draft.old.at (effect statement.now)) }
     ensures within { OnOk result (draft.new.at ≤ draft.old.at + 13 * size_of_effect (effect statement.now)) }
 {
-    let Statement::If { arms, otherwise, .. } = statement else {
+    let Statement::While { condition, body, .. } = statement else {
         unreachable!()
     };
-    let end = end_of_statement(draft.at, statement);
+    let pass = draft.at + 1 + 5;
+    let test = end_of_statement(pass + 1, body.get());
+    let out = end_of_expression(test, condition) + 5;
+    emit_first_test(draft, test)?;
+    emit_statement(
+        alloc,
+        draft,
+        names,
+        Exits {
+            out,
+            next: test,
+        },
+        body.get(),
+    )?;
+    emit_test(alloc, draft, names, condition, pass)
+}
+
+/// Adds the code that leads to the first test of a loop, and the tick of a pass.
+fn emit_first_test(draft: &mut Draft, test: u32) -> Result<(), NoMemory>
+    requires { draft.old.at + 13 < 2 ^ 32 }
+    ensures code { OnOk result (draft.new.code ≡ draft.old.code ++ Instruction.Tick ∷ Instruction.Jump test ∷ Instruction.Tick ∷ []) }
+    ensures constants { OnOk result (draft.new.constants ≡ draft.old.constants) }
+    ensures at { OnOk result (draft.new.at ≡ draft.old.at + 1 + 5 + 1) }
+{
     draft.put(Instruction::Tick)?;
-    for arm in arms.as_slice() {
-        emit_expression(alloc, draft, names, &arm.condition)?;
-        let other = end_of_block(draft.at + 5, arm.body.as_slice()) + 5;
-        draft.put(Instruction::JumpNot(other))?;
-        emit_block(alloc, draft, names, exits, arm.body.as_slice())?;
-        draft.put(Instruction::Jump(end))?;
-    }
-    emit_block(alloc, draft, names, exits, otherwise.as_slice())
+    draft.put(Instruction::Jump(test))?;
+    draft.put(Instruction::Tick)
+}
+
+/// Adds the code that goes back for another pass where the condition is true.
+fn emit_test(
+    alloc: Global,
+    draft: &mut Draft,
+    names: &[Text],
+    condition: &Expr,
+    pass: u32,
+) -> Result<(), NoMemory>
+    requires built { IsBuilt (expression condition.now) }
+    requires few_names { length names.now < 2 ^ 31 }
+    requires few { length draft.old.constants + length (texts_in (expression condition.now)) < 2 ^ 32 }
+    requires room { draft.old.at + 5 * size_of (expression condition.now) + 5 < 2 ^ 32 }
+    ensures code { OnOk result (draft.new.code ≡ draft.old.code ++ (expression_code names.now (length draft.old.constants) (expression condition.now) ++ Instruction.JumpIf pass ∷ [])) }
+    ensures constants { OnOk result (draft.new.constants ≡ draft.old.constants ++ texts_in (expression condition.now)) }
+    ensures at { OnOk result (draft.new.at ≡ expression_end draft.old.at (expression condition.now) + 5) }
+    ensures within { OnOk result (draft.new.at ≤ draft.old.at + 5 * size_of (expression condition.now) + 5) }
+{
+    emit_expression(alloc, draft, names, condition)?;
+    draft.put(Instruction::JumpIf(pass))
 }
 
 #[cycle(emits)]
@@ -231,19 +292,22 @@ fn emit_assignment(
     alloc: Global,
     draft: &mut Draft,
     names: &[Text],
-    name: &Text,
+    target: &Reference,
     operator: Assignment,
     value: &Expr,
 ) -> Result<(), NoMemory>
-    requires built { IsBuiltEffect (assignment (Reference.Name name.now) operator (expression value.now)) }
+    requires built { IsBuiltEffect (assignment target.now operator (expression value.now)) }
     requires few_names { length names.now < 2 ^ 31 }
-    requires few { length draft.old.constants + length (texts_in_effect (assignment (Reference.Name name.now) operator (expression value.now))) < 2 ^ 32 }
-    requires room { draft.old.at + 13 * size_of_effect (assignment (Reference.Name name.now) operator (expression value.now)) + 13 < 2 ^ 32 }
-    ensures code { OnOk result (draft.new.code ≡ draft.old.code ++ effect_code names.now (length draft.old.constants) draft.old.at 0 0 (assignment (Reference.Name name.now) operator (expression value.now))) }
-    ensures constants { OnOk result (draft.new.constants ≡ draft.old.constants ++ texts_in_effect (assignment (Reference.Name name.now) operator (expression value.now))) }
-    ensures at { OnOk result (draft.new.at ≡ effect_end draft.old.at (assignment (Reference.Name name.now) operator (expression value.now))) }
-    ensures within { OnOk result (draft.new.at ≤ draft.old.at + 13 * size_of_effect (assignment (Reference.Name name.now) operator (expression value.now))) }
+    requires few { length draft.old.constants + length (texts_in_effect (assignment target.now operator (expression value.now))) < 2 ^ 32 }
+    requires room { draft.old.at + 13 * size_of_effect (assignment target.now operator (expression value.now)) + 13 < 2 ^ 32 }
+    ensures code { OnOk result (draft.new.code ≡ draft.old.code ++ effect_code names.now (length draft.old.constants) draft.old.at 0 0 (assignment target.now operator (expression value.now))) }
+    ensures constants { OnOk result (draft.new.constants ≡ draft.old.constants ++ texts_in_effect (assignment target.now operator (expression value.now))) }
+    ensures at { OnOk result (draft.new.at ≡ effect_end draft.old.at (assignment target.now operator (expression value.now))) }
+    ensures within { OnOk result (draft.new.at ≤ draft.old.at + 13 * size_of_effect (assignment target.now operator (expression value.now))) }
 {
+    let Reference::Name(name) = target else {
+        unreachable!()
+    };
     let slot = place(names, name) as u32;
     draft.put(Instruction::Tick)?;
     emit_expression(alloc, draft, names, value)?;
