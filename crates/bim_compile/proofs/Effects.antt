@@ -76,14 +76,14 @@ then_shown : (image : Image) (address end out next : ℕ) (held : List ℕ) (val
     → instruction_at image.code address ≡ Some Show → instruction_at image.code (address + 1) ≡ Some Write
     → ((t : List ℕ) → Leads image (At (address + 1 + 1) (holding (held ++ t)) s) (land end out next (go t)))
     → Leads image (At address (pushed value (holding held)) s) (land end out next (do_shown found s go))
-then_shown image address end out next held value s None go e show write p =
-    then_one image Show address (pushed value (holding held)) s (Over (Failed TooBig) s) show
+then_shown image address end out next held value s None go e shows writes p =
+    then_one image Show address (pushed value (holding held)) s (Over (Failed TooBig) s) shows
     (ending image _ _ (ap (λ found. settle (act_or_fault TooBig found (λ t. On (record { stack = Str t ∷ []; held = held }) s.memory)) (address + 1) (address + 1) s) (sym e)))
-then_shown image address end out next held value s (Some t) go e show write p =
-    then_one image Show address (pushed value (holding held)) s (land end out next (go t)) show
+then_shown image address end out next held value s (Some t) go e shows writes p =
+    then_one image Show address (pushed value (holding held)) s (land end out next (go t)) shows
     (like image _ (At (address + 1) (pushed (Str t) (holding held)) s) (land end out next (go t))
     (ap (λ found. settle (act_or_fault TooBig found (λ t. On (record { stack = Str t ∷ []; held = held }) s.memory)) (address + 1) (address + 1) s) (sym e))
-    (then_one image Write (address + 1) (pushed (Str t) (holding held)) s (land end out next (go t)) write (p t)))
+    (then_one image Write (address + 1) (pushed (Str t) (holding held)) s (land end out next (go t)) writes (p t)))
 
 arguments_run : (image : Image) (names : List (List ℕ)) (newline : Bool) (all : Arguments) (k address out next : ℕ) (held : List ℕ) (s : State)
     → AreBuilt all → HasAt image.code address (arguments_code names k all) → HasAt image.code (arguments_end address all) (PushBool newline ∷ Line ∷ [])
@@ -153,7 +153,7 @@ mutual
         does = effect_runs fall image names body k (pass + 1) (last + 5) test built.1 cuts.0 texts.0;
       })
       (suc s1.ticks) s1 (omega arith)))
-  effect_runs fall image names (group all) k at out next built h t = block_runs fall image names all k at out next built h t
+  effect_runs fall image names (group all) k at out next built h t s = block_runs fall image names all k at out next built h t s
   effect_runs fall image names leave k at out next built h t s =
       then_tick image at (at + 1 + 5) out next s (λ s1. Broke s1) h.0 (λ s1. then_one image (Jump out) (at + 1) idle s1 _ h.1.0 (same (At out idle s1)))
   effect_runs fall image names skip k at out next built h t s =
@@ -163,7 +163,7 @@ mutual
   pub branches_run : TicksFall → (image : Image) (names : List (List ℕ)) (all : Branches) (k at out next : ℕ)
       → AreBuiltBranches all → HasAt image.code at (branches_code names k at (branches_end at all) out next all) → HasTexts image.constants k (texts_in_branches all)
       → Runs image at (branches_end at all) out next (branch_of names all)
-  branches_run fall image names (otherwise all) k at out next built h t = block_runs fall image names all k at out next built h t
+  branches_run fall image names (otherwise all) k at out next built h t s = block_runs fall image names all k at out next built h t s
   branches_run fall image names (branch e all rest) k at out next built h t s =
       let behind : ℕ = expression_end at e in
       let body : ℕ = behind + 5 in
@@ -182,8 +182,8 @@ mutual
       (expression_runs image names e k at built.0 cuts.0 texts.0 idle s)
       (λ c s1. then_not image behind other end out next c s1 _ _ cuts.1.0
       (then_jump image (At body idle s1) jump end out next (effects_of names all s1) ends.1.0
-      (block_runs fall image names all l body out next built.1.0 ends.0 others.0 s1))
-      (branches_run fall image names rest m other out next built.1.1 ends.1.1 others.1 s1))
+      (block_runs fall image names all l body out next built.1 ends.0 others.0 s1))
+      (branches_run fall image names rest m other out next built.2 ends.1.1 others.1 s1))
 
   pub block_runs : TicksFall → (image : Image) (names : List (List ℕ)) (all : Block) (k at out next : ℕ)
       → IsBuiltBlock all → HasAt image.code at (block_code names k at out next all) → HasTexts image.constants k (texts_in_block all)

@@ -1,6 +1,6 @@
 -- The code of an expression leaves its value on the stack, or stops as the expression does.
 
-use Rattle.std.proofs.Common.{◌≡◌, ℕ, ◌+◌, ℤ, List, [], ◌∷◌, ◌++◌, length, Option, Some, None, refl, sym, ap, ◌∙◌, slice_get, subst}
+use Rattle.std.proofs.Common.{◌≡◌, Bool, ℕ, ◌+◌, ℤ, List, [], ◌∷◌, ◌++◌, length, Option, Some, None, refl, sym, ap, ◌∙◌, slice_get, subst}
 use Rattle.mos_text.specs.declared.scalar.Scalar.{Scalar}
 use Rattle.mos_text.specs.declared.scalar.Scalar.TheVariants.{Int, Bool as Truth, Str, Model, Event}
 use Rattle.mos_text.specs.declared.fault_kind.FaultKind.TheVariants.{Overflow, TooBig}
@@ -152,12 +152,12 @@ expression_runs image names (text t) k address built h held f s =
 expression_runs image names (name n) k address built h t f s =
     one_gives image (LoadGlobal (place_of n names)) address (address + 5) f s _ h.0
     (loads (address + 5) (address + 5) f (slice_get s.memory.store (place_of n names)) s)
-expression_runs image names (apply operator a b) k address built h t =
+expression_runs image names (apply operator a b) k address built h t f s =
     let w = two image names k address a b (operator_code operator) h t in
     let l : ℕ = k + length (texts_in a) in
     let last : ℕ = expression_end (expression_end address a) b in
     two_run image (operator_code operator) last (last + 1) (applied operator) (applies image operator last) address (expression_end address a)
     (value_of names a) (value_of names b)
     (expression_runs image names a k address built.0 w.left w.left_texts)
-    (expression_runs image names b l (expression_end address a) built.1 w.right w.right_texts) w.operator
+    (expression_runs image names b l (expression_end address a) built.1 w.right w.right_texts) w.operator f s
 expression_runs image names unbuilt k address built h t f s = absurd built

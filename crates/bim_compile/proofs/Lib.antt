@@ -9,3 +9,4 @@ pub mod Course
 pub mod SizeLemmas
 pub mod NeverStuck
 pub mod PlainImages
+pub mod WorkingModels

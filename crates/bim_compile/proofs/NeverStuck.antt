@@ -94,10 +94,10 @@ fine_condition names (apply (compare how) a b) s sound h = first_is (value_of na
   where
     second_is : (m : ℤ) (got : Got) → FineValue s got → FineTruth s (give got (λ y s2. told_truth (compared how (Int m) y) s2))
     second_is m _ (gives n) = fine_compared how m n s
-    second_is m _ (halts stop after no) = fails stop after no
+    second_is m _ (halts stop after why) = fails stop after why
     first_is : (got : Got) → FineValue s got → FineTruth s (give got (λ x s1. give (value_of names b s1) (λ y s2. told_truth (compared how x y) s2)))
     first_is _ (gives m) = second_is m (value_of names b s) (fine_value names b s sound h.1)
-    first_is _ (halts stop after no) = fails stop after no
+    first_is _ (halts stop after why) = fails stop after why
 fine_condition names (apply plus a b) s sound h = absurd h
 fine_condition names (apply minus a b) s sound h = absurd h
 fine_condition names (number n) s sound h = absurd h
@@ -220,7 +220,7 @@ fine_passes names test body tests does (suc n) most s sound fewer less =
     again later few more _ (goes s3 sound3 falls) = more s3 sound3 (omega (arith, falls, few, fewer)) (omega (arith, falls, few, less))
     again later few more _ (broke s3 sound3 falls) = goes s3 sound3 (omega (arith, falls, few, less))
     again later few more _ (continues s3 sound3 falls) = more s3 sound3 (omega (arith, falls, few, fewer)) (omega (arith, falls, few, less))
-    again later few more _ (ends stop s3 no) = ends stop s3 no
+    again later few more _ (ends stop s3 why) = ends stop s3 why
 
 mutual
   fine_effect : (names : List (List ℕ)) (e : Effect) → Works names e → IsFineBody names (effect_of names e)
@@ -249,7 +249,7 @@ mutual
   fine_branches names (otherwise all) h most s sound less = fine_block names all h most s sound less
   fine_branches names (branch e all rest) h most s sound less =
       fine_truth names most s (value_of names e s) (effects_of names all) (branch_of names rest) (fine_condition names e s sound h.0)
-      (fine_block names all h.1.0 most s sound less) (fine_branches names rest h.1.1 most s sound less)
+      (fine_block names all h.1 most s sound less) (fine_branches names rest h.2 most s sound less)
 
   fine_block : (names : List (List ℕ)) (all : Block) → AllWork names all → IsFineBody names (effects_of names all)
   fine_block names done h most s sound less = goes s sound less
@@ -259,12 +259,12 @@ mutual
 -- what it means is not to be stuck
 pub never_stuck : (model : Block) → AllWork (variables_of model) model → NeverStuck model
 never_stuck model h (byte ∷ params) replies budget = λ e. cc
-never_stuck model h [] replies budget = stopped (effects_of (variables_of model) model _) (fine_block (variables_of model) model h _ _ (record {
+never_stuck model h [] replies budget = stopped (effects_of (variables_of model) model _) (fine_block (variables_of model) model h budget _ (record {
   wide = length-replicate (length (variables_of model)) (Int (pos 0));
   ints = All-replicate IsInt (length (variables_of model)) (Int (pos 0)) tt;
 }) (omega arith))
   where
-    stopped : {most : ℕ} → (d : Done) → Fine (variables_of model) most d → (told_done budget d).stop ≢ Stuck
+    stopped : (d : Done) → Fine (variables_of model) budget d → (told_done budget d).stop ≢ Stuck
     stopped _ (goes s sound less) = λ e. cc
     stopped _ (broke s sound less) = λ e. cc
     stopped _ (continues s sound less) = λ e. cc

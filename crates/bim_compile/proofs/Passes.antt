@@ -120,6 +120,11 @@ pub record Loop (image : Image) (test last pass out next : ℕ) (condition : Sta
   pub ticks : instruction_at image.code pass ≡ Some Tick
   pub does : Runs image (pass + 1) test (last + 5) test body
 
+-- fewer passes, from the test on
+abbrev FewerPasses : Image → (test last out next n : ℕ) → (State → Got) → (State → Done) → Type 0
+FewerPasses image test last out next n condition body =
+    (s : State) → s.ticks < n → Leads image (At test idle s) (land (last + 5) out next (passes n condition body s))
+
 -- its passes, from the test on, by the ticks that are left
 pub passes_run : (image : Image) (test last pass out next : ℕ) (condition : State → Got) (body : State → Done)
     → Loop image test last pass out next condition body
@@ -129,9 +134,7 @@ passes_run image test last pass out next condition body l zero s less = absurd (
 passes_run image test last pass out next condition body l (suc n) s less =
     tested (condition s) (l.tests s) (passes_run image test last pass out next condition body l n)
   where
-    abbrev MorePasses : Type 0
-    MorePasses = (s : State) → s.ticks < n → Leads image (At test idle s) (land (last + 5) out next (passes n condition body s))
-    again : MorePasses → (s1 later : State) → later.ticks < s1.ticks → s1.ticks ≤ s.ticks → (d : Done)
+    again : FewerPasses image test last out next n condition body → (s1 later : State) → later.ticks < s1.ticks → s1.ticks ≤ s.ticks → (d : Done)
         → Leads image (At (pass + 1) idle later) (land test (last + 5) test d)
         → Leads image (At (pass + 1) idle later) (land (last + 5) out next (after_pass (passes n condition body) d))
     again more s1 later fewer few (Goes s3) p =
@@ -144,7 +147,7 @@ passes_run image test last pass out next condition body l (suc n) s less =
         chain image (At (pass + 1) idle later) (At test idle s3) _ p
         (more s3 (omega (arith, falls, fewer, few, less)))
     again more s1 later fewer few (Ends stop s3) p = p
-    tested : (g : Got) → Leads image (At test idle s) (push last idle g) → MorePasses
+    tested : (g : Got) → Leads image (At test idle s) (push last idle g) → FewerPasses image test last out next n condition body
         → Leads image (At test idle s)
         (land (last + 5) out next (do_with g (λ c s1. do_truth c s1 (tick_do s1 (λ s2. after_pass (passes n condition body) (body s2))) (Goes s1))))
     tested (Gave c s1) p more =

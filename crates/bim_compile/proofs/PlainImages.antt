@@ -142,9 +142,9 @@ mutual
       join (expression_code names k e) (JumpNot other ∷ (inner ++ Jump end ∷ later)) (condition_operands names k e h.0 wide)
       (cons (JumpNot other) (inner ++ Jump end ∷ later) (omega (arith, room, more))
       (join inner (Jump end ∷ later)
-      (block_operands names l body out next all h.1.0 wide (omega (arith, few, one_way, other_way)) (omega (arith, room, more)) o x)
+      (block_operands names l body out next all h.1 wide (omega (arith, few, one_way, other_way)) (omega (arith, room, more)) o x)
       (cons (Jump end) later z
-      (branches_operands names m other end out next rest h.1.1 wide (omega (arith, few, one_way, other_way)) room z o x))))
+      (branches_operands names m other end out next rest h.2 wide (omega (arith, few, one_way, other_way)) room z o x))))
 
   block_operands : (names : List (List ℕ)) (k at out next : ℕ) (all : Block) → AllWork names all → length names < 2 ^ 32 → k + length (texts_in_block all) < 2 ^ 32
       → block_end at all < 2 ^ 32 → out < 2 ^ 32 → next < 2 ^ 32 → Fit (block_code names k at out next all)
