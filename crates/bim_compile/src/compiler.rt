@@ -1,5 +1,6 @@
 //! The whole image: the code of the statements, the end, and the tables.
-ghost use Rattle.std.specs.Prelude.{◌≡◌, ◌∷◌, [], ℕ, ◌<◌, ◌≤◌, ◌^◌, All, IfOk, length, replicate};
+ghost use Rattle.std.specs.Prelude.{◌≡◌, ◌∷◌, [], ℕ, ◌<◌, ◌≤◌, ◌+◌, ◌*◌, ◌^◌, All, IfOk, length, replicate};
+ghost use Rattle.bim_code.specs.Code.{code_size};
 ghost use Rattle.bim_code.specs.Limits.{FitsFields};
 ghost use Rattle.mos_meaning.specs.MachineLaws.{KeepsTicks};
 ghost use Rattle.mos_meaning.specs.Syntax.{statements_of, variables_of};
@@ -38,6 +39,9 @@ pub fn compile(alloc: Global, tree: &Tree) -> Result<Image, NoMemory>
     // Its file can hold it, and holds just it.
     ensures fields { IfOk result FitsFields }
     ensures plain { IfOk result IsPlain }
+
+    // It has at most 13 bytes of code for each node and statement, and 6 for the end.
+    ensures size { IfOk result (λ image. code_size image.code ≤ 13 * size_of_block (statements_of tree.now) + 6) }
 {
     machine_laws();
     build(alloc, tree)

@@ -12,7 +12,7 @@ use Rattle.bim_code.specs.Code.{instruction_at}
 use Rattle.mos_meaning.specs.State.{State, Stop, Spent, Stuck, ticked}
 use Rattle.mos_meaning.specs.Machine.{Machine, At, Over, Frame, Act, On, Jumps, Ticks, Stops, act, tick_to, target, settle, decoded, step, run, steps_taken, start, most_steps}
 use Rattle.mos_meaning.specs.MachineLaws.{KeepsTicks, IsOver, ticks_left}
-use Rattle.mos_meaning.proofs.Runs.{run_over, ticks_fall}
+use Rattle.mos_meaning.proofs.Runs.{run_over, steps_over, ticks_fall}
 use Rattle.mos_meaning.proofs.Places.{place_from, place_within, place_next, place_first, place_behind}
 
 -- what the ticks that are left are worth, two steps for each instruction
@@ -166,10 +166,6 @@ over_by image keeps (suc n) address f s within = once (step image address f s) (
         → ((a : ℕ) (g : Frame) (t : State) → left_at image a t.ticks ≤ n → IsOver (run image n (At a g t))) → IsOver (run image n m)
     once _ (stands a g t less) later = later a g t (omega (arith, less, within))
     once _ (stops stop t less) later = record { stop = stop; state = t; by = run_over image n stop t }
-
-steps_over : (image : Image) (n : ℕ) (stop : Stop) (s : State) → steps_taken image n (Over stop s) ≡ 0
-steps_over image zero stop s = refl
-steps_over image (suc n) stop s = refl
 
 few_by : (image : Image) → KeepsTicks image → (n address : ℕ) (f : Frame) (s : State)
     → steps_taken image n (At address f s) + worth (length image.code) (ticks_left (run image n (At address f s))) ≤ left_at image address s.ticks

@@ -1,12 +1,12 @@
 -- Steps one after the other, and ticks that never rise.
 
-use Rattle.std.proofs.Common.{◌≡◌, ◌≤◌, ℕ, ◌+◌, zero, suc, Option, Some, None, refl, sym, ap, ◌∙◌, arith}
+use Rattle.std.proofs.Common.{◌≡◌, ◌≤◌, ℕ, ◌+◌, ◌-◌, zero, suc, Option, Some, None, refl, sym, ap, ◌∙◌, arith}
 use Rattle.bim_code.specs.declared.image.Image.{Image}
 use Rattle.bim_code.specs.declared.instruction.Instruction.{Instruction}
 use Rattle.bim_code.specs.Rows.{width}
 use Rattle.bim_code.specs.Code.{instruction_at}
 use Rattle.mos_meaning.specs.State.{State, Stop, ticked}
-use Rattle.mos_meaning.specs.Machine.{Machine, At, Over, Frame, Act, On, Jumps, Ticks, Stops, act, tick_to, target, settle, decoded, step, run}
+use Rattle.mos_meaning.specs.Machine.{Machine, At, Over, Frame, Act, On, Jumps, Ticks, Stops, act, tick_to, target, settle, decoded, step, run, steps_taken}
 use Rattle.mos_meaning.specs.MachineLaws.{ticks_left}
 
 -- one that is over stays
@@ -51,3 +51,41 @@ ticks_fall image (suc n) (At address f s) =
     let once = decoded_falls image (instruction_at image.code address) address f s in
     let rest = ticks_fall image n (step image address f s) in
     omega (arith, once, rest)
+
+pub steps_over : (image : Image) (n : ℕ) (stop : Stop) (s : State) → steps_taken image n (Over stop s) ≡ 0
+steps_over image zero stop s = refl
+steps_over image (suc n) stop s = refl
+
+steps_add : (image : Image) (n m : ℕ) (a : Machine)
+    → steps_taken image (n + m) a ≡ steps_taken image n a + steps_taken image m (run image n a)
+steps_add image zero m a = let e : 0 + m ≡ m = omega arith in let z : 0 + steps_taken image m a ≡ steps_taken image m a = omega arith in rw (e, z) refl
+steps_add image (suc n) m (Over stop s) =
+    let l = steps_over image (suc n + m) stop s in let r = steps_over image m stop s in omega arith
+steps_add image (suc n) m (At address f s) =
+    let e : suc n + m ≡ suc (n + m) = omega arith in
+    let h = steps_add image n m (step image address f s) in
+    rw e (omega arith)
+
+-- a machine that still runs has taken each step
+steps_all : (image : Image) (m : Machine) (n address : ℕ) (f : Frame) (s : State) → run image n m ≡ At address f s → steps_taken image n m ≡ n
+steps_all image m zero address f s e = refl
+steps_all image (Over stop t) (suc n) address f s e = cc
+steps_all image (At a g t) (suc n) address f s e = let rest = steps_all image (step image a g t) n address f s e in omega (arith, rest)
+
+pub step_by_step : (image : Image) (m : Machine) (n address : ℕ) (f : Frame) (s : State) → run image n m ≡ At address f s
+    → (run image (n + 1) m ≡ step image address f s) × (steps_taken image n m ≡ n) × (steps_taken image (n + 1) m ≡ n + 1)
+step_by_step image m n address f s e =
+    let one : steps_taken image 1 (run image n m) ≡ 1 = ap (steps_taken image 1) e in
+    let all = steps_all image m n address f s e in
+    let add = steps_add image n 1 m in
+    (run_add image n 1 m ∙ ap (run image 1) e, all, omega (arith, one, all, add))
+
+pub stays_over : (image : Image) (m : Machine) (n more : ℕ) (stop : Stop) (s : State) → run image n m ≡ Over stop s → n ≤ more
+    → (run image more m ≡ Over stop s) × (steps_taken image more m ≡ steps_taken image n m)
+stays_over image m n more stop s over less =
+    let e : more ≡ n + (more - n) = omega (arith, less) in
+    let none : steps_taken image (more - n) (run image n m) ≡ 0 = ap (steps_taken image (more - n)) over ∙ steps_over image (more - n) stop s in
+    let add = steps_add image n (more - n) m in (
+      ap (λ k. run image k m) e ∙ run_add image n (more - n) m ∙ ap (run image (more - n)) over ∙ run_over image (more - n) stop s,
+      ap (λ k. steps_taken image k m) e ∙ (omega (arith, none, add)),
+    )

@@ -8,7 +8,7 @@ use Rattle.bim_code.specs.declared.instruction.Instruction.TheVariants.{Tick}
 use Rattle.bim_code.specs.Rows.{width}
 use Rattle.bim_code.specs.Code.{instruction_at}
 use Rattle.mos_meaning.specs.State.{State, Stop}
-use Rattle.mos_meaning.specs.Machine.{Machine, At, Over, target, run, steps_taken, start, most_steps}
+use Rattle.mos_meaning.specs.Machine.{Machine, At, Over, Frame, target, step, run, steps_taken, start, most_steps}
 
 -- there is an instruction, and one that names an address which does not lie behind it names a tick
 pub record KeepsTicks (image : Image) : Type 0 where
@@ -44,3 +44,13 @@ TicksFall = (image : Image) (n : ℕ) (m : Machine) → ticks_left (run image n 
 abbrev pub OneEnd : Type 0
 OneEnd = (image : Image) (m : Machine) (one other : ℕ) (stop other_stop : Stop) (s other_s : State)
     → run image one m ≡ Over stop s → run image other m ≡ Over other_stop other_s → Over stop s ≡ Over other_stop other_s
+
+-- one step more
+abbrev pub StepByStep : Type 0
+StepByStep = (image : Image) (m : Machine) (n address : ℕ) (f : Frame) (s : State) → run image n m ≡ At address f s
+    → (run image (n + 1) m ≡ step image address f s) × (steps_taken image n m ≡ n) × (steps_taken image (n + 1) m ≡ n + 1)
+
+-- what is over stays, and takes no step
+abbrev pub StaysOver : Type 0
+StaysOver = (image : Image) (m : Machine) (n more : ℕ) (stop : Stop) (s : State) → run image n m ≡ Over stop s → n ≤ more
+    → (run image more m ≡ Over stop s) × (steps_taken image more m ≡ steps_taken image n m)

@@ -15,17 +15,16 @@ use Rattle.mos_tree.specs.declared.expr.Expr.TheVariants as expr
 use Rattle.mos_tree.specs.declared.statement.Statement.{Statement}
 use Rattle.mos_tree.specs.declared.source.Top.{Top}
 use Rattle.mos_tree.specs.declared.source.Tree.{Tree}
-use Rattle.mos_meaning.specs.Syntax.{Expression, number, text, name, plus, minus, unbuilt, Arguments, nothing, one_more, Effect, assign, writeln, unbuilt_effect, Block, done, first, expression, effect, top_effect, block, statements_of, has_name, names_after, names_from, variables_of}
+use Rattle.mos_meaning.specs.Syntax.{plus, minus, compare, Expression, number, text, truth, name, apply, unbuilt, Arguments, nothing, one_more, Effect, assign, change, write, choose, loop, group, leave, skip, unbuilt_effect, Block, done, first, expression, effect, top_effect, block, statements_of, has_name, names_after, names_from, variables_of}
 use Rattle.mosel_run.specs.Accepted.{IsAccepted}
-use Rattle.mosel_run.specs.Built.{IsBuilt, AreBuilt, IsBuiltEffect, IsBuiltBlock}
-use Rattle.mosel_run.specs.Compiled.{texts_in, texts_in_effect, texts_in_block}
+use Rattle.bim_compile.specs.Compiled.{texts_in, texts_in_effect, texts_in_block}
 use Rattle.mosel_run.specs.FirstForm as form
 use Rattle.mosel_run.specs.FirstForm.{Bytes, lines_of, skip_blanks, Spells, IsArgument, IsStatement, IsBody, IsSource}
-use Rattle.mosel_run.specs.Sizes.{size_of, size_of_effect, size_of_block}
+use Rattle.bim_compile.specs.Sizes.{size_of, size_of_effect, size_of_block}
 use Rattle.mosel_run.specs.Sums as sums
 use Rattle.mosel_run.specs.Sums.{IsOperand, GoesOnTo, IsSum}
 use Rattle.mosel_run.specs.UnknownNames.{or_other, unknown_in, unknown_in_all, unknown_of, line_of_top, at_line, first_unknown}
-use Rattle.mosel_run.specs.Working.{IsNumeric, IsShown, AreShown, Works, AllWork}
+use Rattle.bim_compile.specs.Working.{IsNumeric, IsShown, AreShown, Works, AllWork}
 use Rattle.mosel_run.proofs.ChainSteps.{expression_of_binary}
 use Rattle.mosel_run.proofs.SumChains.{expression_of_integer, expression_of_name, expression_of_text, effect_of_writeln, effect_of_assign}
 use Rattle.mosel_run.proofs.SumForms.{operand-some}
@@ -36,8 +35,8 @@ use Rattle.mosel_run.proofs.SumSteps.{skip_blanks-short}
 abbrev IsPlain : Expression → Type 0
 IsPlain (number n) = FitsSigned w32 n
 IsPlain (name n) = Unit {0}
-IsPlain (plus a b) = IsPlain a × IsPlain b
-IsPlain (minus a b) = IsPlain a × IsPlain b
+IsPlain (apply plus a b) = IsPlain a × IsPlain b
+IsPlain (apply minus a b) = IsPlain a × IsPlain b
 IsPlain _ = ⊥
 
 abbrev IsPrinted : Expression → Type 0
@@ -50,8 +49,8 @@ ArePrinted (one_more e es) = IsPrinted e × ArePrinted es
 
 abbrev IsPlainEffect : Effect → Type 0
 IsPlainEffect (assign n e) = IsPlain e
-IsPlainEffect (writeln all) = ArePrinted all
-IsPlainEffect unbuilt_effect = ⊥
+IsPlainEffect (write true all) = ArePrinted all
+IsPlainEffect _ = ⊥
 
 abbrev ArePlain : List Top → Type 0
 ArePlain [] = Unit {0}
@@ -78,8 +77,8 @@ plain-printed : (e : Expression) → IsPlain e → IsPrinted e
 plain-printed (number n) h = h
 plain-printed (text t) h = tt
 plain-printed (name n) h = h
-plain-printed (plus a b) h = h
-plain-printed (minus a b) h = h
+plain-printed (apply operator a b) h = h
+plain-printed (truth b) h = h
 plain-printed unbuilt h = h
 
 argument-printed : (tokens : List Bytes) (value : Expr) → IsArgument tokens value → IsPrinted (expression value)
@@ -94,37 +93,6 @@ body-plain : (line : ℕ) (lines : List Bytes) (tops : List Top) → IsBody line
 body-plain _ _ _ (form.ends line written lines h) = tt
 body-plain _ _ _ (form.blank line written lines tops h more) = body-plain (line + 1) lines tops more
 body-plain _ _ _ (form.says line written lines said tops h more) = (statement-plain line written said h, body-plain (line + 1) lines tops more)
-
--- every form is built
-
-plain-built : (e : Expression) → IsPlain e → IsBuilt e
-plain-built (number n) h = tt
-plain-built (text t) h = tt
-plain-built (name n) h = tt
-plain-built (plus a b) h = (plain-built a h.0, plain-built b h.1)
-plain-built (minus a b) h = (plain-built a h.0, plain-built b h.1)
-plain-built unbuilt h = h
-
-printed-built : (e : Expression) → IsPrinted e → IsBuilt e
-printed-built (number n) h = tt
-printed-built (text t) h = tt
-printed-built (name n) h = tt
-printed-built (plus a b) h = (plain-built a h.0, plain-built b h.1)
-printed-built (minus a b) h = (plain-built a h.0, plain-built b h.1)
-printed-built unbuilt h = h
-
-all-built : (all : Arguments) → ArePrinted all → AreBuilt all
-all-built nothing h = tt
-all-built (one_more e es) h = (printed-built e h.0, all-built es h.1)
-
-effect-built : (e : Effect) → IsPlainEffect e → IsBuiltEffect e
-effect-built (assign n e) h = plain-built e h
-effect-built (writeln all) h = all-built all h
-effect-built unbuilt_effect h = h
-
-block-built : (tops : List Top) → ArePlain tops → IsBuiltBlock (block (map top_effect tops))
-block-built [] h = tt
-block-built (t ∷ tops) h = (effect-built (top_effect t) h.0, block-built tops h.1)
 
 -- names that are known stay known
 
@@ -145,14 +113,20 @@ with_name-has-by known n false e =
     let same : bytes_eq n n ≡ true = (bytes_eq-Decides n n).1 refl in
     list_any-append (bytes_eq n) known (n ∷ []) ∙ ap (λ b. list_any (bytes_eq n) known || (b || false)) same ∙ or_true (list_any (bytes_eq n) known)
 
-after-keeps : (known : List Bytes) (e : Effect) → Within known (names_after known e)
-after-keeps known (assign m e) n h = with_name-keeps-by known m n (has_name m known) h
-after-keeps known (writeln all) n h = h
-after-keeps known unbuilt_effect n h = h
+after-keeps : (known : List Bytes) (e : Effect) → IsPlainEffect e → Within known (names_after known e)
+after-keeps known (assign m e) h n k = with_name-keeps-by known m n (has_name m known) k
+after-keeps known (write newline all) h n k = k
+after-keeps known (change how m e) h n k = absurd h
+after-keeps known (choose all) h n k = absurd h
+after-keeps known (loop e body) h n k = absurd h
+after-keeps known (group all) h n k = absurd h
+after-keeps known leave h n k = absurd h
+after-keeps known skip h n k = absurd h
+after-keeps known unbuilt_effect h n k = absurd h
 
-from-keeps : (known : List Bytes) (all : Block) → Within known (names_from known all)
-from-keeps known done n h = h
-from-keeps known (first e rest) n h = from-keeps (names_after known e) rest n (after-keeps known e n h)
+from-keeps : (known : List Bytes) (tops : List Top) → ArePlain tops → Within known (names_from known (block (map top_effect tops)))
+from-keeps known [] h n k = k
+from-keeps known (t ∷ tops) h n k = from-keeps (names_after known (top_effect t)) tops h.1 n (after-keeps known (top_effect t) h.0 n k)
 
 -- where no name is unknown, each is a variable
 
@@ -167,20 +141,22 @@ known-by known n false is e = cc
 numeric : (known names : List Bytes) (e : Expression) → Within known names → IsPlain e → unknown_in known e ≡ None → IsNumeric names e
 numeric known names (number n) within h none = h
 numeric known names (name n) within h none = within n (known-by known n _ refl none)
-numeric known names (plus a b) within h none =
+numeric known names (apply plus a b) within h none =
     let both = none-both (unknown_in known a) (unknown_in known b) none in
     (numeric known names a within h.0 both.0, numeric known names b within h.1 both.1)
-numeric known names (minus a b) within h none =
+numeric known names (apply minus a b) within h none =
     let both = none-both (unknown_in known a) (unknown_in known b) none in
     (numeric known names a within h.0 both.0, numeric known names b within h.1 both.1)
+numeric known names (apply (compare how) a b) within h none = absurd h
 numeric known names (text t) within h none = absurd h
+numeric known names (truth b) within h none = absurd h
 numeric known names unbuilt within h none = absurd h
 
 shown : (known names : List Bytes) (e : Expression) → Within known names → IsPrinted e → unknown_in known e ≡ None → IsShown names e
 shown known names (number n) within h none = h
 shown known names (name n) within h none = numeric known names (name n) within h none
-shown known names (plus a b) within h none = numeric known names (plus a b) within h none
-shown known names (minus a b) within h none = numeric known names (minus a b) within h none
+shown known names (apply operator a b) within h none = numeric known names (apply operator a b) within h none
+shown known names (truth b) within h none = absurd h
 shown known names (text t) within h none = tt
 shown known names unbuilt within h none = absurd h
 
@@ -192,7 +168,14 @@ all-shown known names (one_more e es) within h none =
 
 effect-works : (known names : List Bytes) (e : Effect) → Within known names → Within (names_after known e) names → IsPlainEffect e → unknown_of known e ≡ None → Works names e
 effect-works known names (assign n e) within after h none = (after n (with_name-has-by known n _ refl), numeric known names e within h none)
-effect-works known names (writeln all) within after h none = all-shown known names all within h none
+effect-works known names (write true all) within after h none = all-shown known names all within h none
+effect-works known names (write false all) within after h none = absurd h
+effect-works known names (change how n e) within after h none = absurd h
+effect-works known names (choose all) within after h none = absurd h
+effect-works known names (loop e body) within after h none = absurd h
+effect-works known names (group all) within after h none = absurd h
+effect-works known names leave within after h none = absurd h
+effect-works known names skip within after h none = absurd h
 effect-works known names unbuilt_effect within after h none = absurd h
 
 none-here : (line : ℕ) (later : Option (ℕ × Bytes)) (here : Option Bytes) → at_line line later here ≡ None → (here ≡ None) × (later ≡ None)
@@ -203,10 +186,9 @@ tops-work : (known names : List Bytes) (tops : List Top) → Within (names_from 
 tops-work known names [] within h none = tt
 tops-work known names (t ∷ tops) within h none =
     let e = top_effect t in
-    let rest = block (map top_effect tops) in
     let both = none-here (line_of_top t) (first_unknown (names_after known (top_effect t)) tops) (unknown_of known (top_effect t)) none in
-    let after : Within (names_after known (top_effect t)) names = λ n k. within n (from-keeps (names_after known (top_effect t)) rest n k) in
-    (effect-works known names e (λ n k. after n (after-keeps known e n k)) after h.0 both.0, tops-work (names_after known e) names tops within h.1 both.1)
+    let after : Within (names_after known (top_effect t)) names = λ n k. within n (from-keeps (names_after known (top_effect t)) tops h.1 n k) in
+    (effect-works known names e (λ n k. after n (after-keeps known e h.0 n k)) after h.0 both.0, tops-work (names_after known e) names tops within h.1 both.1)
 
 -- sizes
 
@@ -254,9 +236,11 @@ sum-size _ _ more bytes (sums.sum left whole word tokens operand goes) h =
 plain-no-texts : (e : Expression) → IsPlain e → texts_in e ≡ []
 plain-no-texts (number n) h = refl
 plain-no-texts (name n) h = refl
-plain-no-texts (plus a b) h = rw (plain-no-texts a h.0, plain-no-texts b h.1)
-plain-no-texts (minus a b) h = rw (plain-no-texts a h.0, plain-no-texts b h.1)
+plain-no-texts (apply plus a b) h = rw (plain-no-texts a h.0, plain-no-texts b h.1)
+plain-no-texts (apply minus a b) h = rw (plain-no-texts a h.0, plain-no-texts b h.1)
+plain-no-texts (apply (compare how) a b) h = absurd h
 plain-no-texts (text t) h = absurd h
+plain-no-texts (truth b) h = absurd h
 plain-no-texts unbuilt h = absurd h
 
 skipped : (token bytes rest : Bytes) → bytes ≡ token ++ rest → length (skip_blanks rest) ≤ length bytes
@@ -321,7 +305,6 @@ body-fits _ _ _ (form.says line written lines said tops h more) few =
 -- the model of an accepted source
 pub record IsFirst (model : Block) (many : ℕ) : Type 0 where
   pub works : AllWork (variables_of model) model
-  pub built : IsBuiltBlock model
   pub size : size_of_block model ≤ many
   pub short : All (λ t. length t < 2 ^ 32) (texts_in_block model)
 
@@ -337,7 +320,6 @@ first_model source tree h few =
     let parts = form_fits source tree h.form few in
     record {
       works = tops-work [] (variables_of (statements_of tree)) tree.tops (λ n k. k) parts.0 h.known;
-      built = block-built tree.tops parts.0;
       size = parts.1.0;
       short = parts.1.1;
     }

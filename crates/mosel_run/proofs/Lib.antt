@@ -11,10 +11,11 @@ pub mod SumChains
 pub mod SumForms
 pub mod SumSteps
 pub mod Tokens
-pub mod Steps
 pub mod Legality
 pub mod FirstModels
 pub mod Whole
 pub mod WholeJobs
 pub mod Answering
 pub mod Exactness
+pub mod SpreadCode
+pub mod Courses

@@ -1,5 +1,5 @@
 -- The trees of the form: each sum is read from left to right.
-use Rattle.std.proofs.Common.{◌≡◌, ℕ, ◌+◌, List, [], ◌∷◌, sym, ap, subst, ◌∙◌, map, codes}
+use Rattle.std.proofs.Common.{◌≡◌, ℕ, ◌+◌, true, List, [], ◌∷◌, sym, ap, subst, ◌∙◌, map, codes}
 use Rattle.mos_tree.specs.declared.expr.BinaryOperator.TheVariants as operator
 use Rattle.mos_tree.specs.declared.expr.Expr.{Expr}
 use Rattle.mos_tree.specs.declared.expr.Expr.TheVariants as expr
@@ -13,7 +13,7 @@ use Rattle.mos_tree.specs.declared.statement.Statement.TheOpen as open_statement
 use Rattle.mos_tree.specs.declared.statement.Statement.TheFolds.{fold-roll-Statement}
 use Rattle.mos_tree.specs.declared.source.Top.{Top}
 use Rattle.mos_tree.specs.declared.source.Tree.{Tree}
-use Rattle.mos_meaning.specs.Syntax.{Expression, number, text, name, nothing, one_more, Effect, assign, writeln, expression, expression_step, arguments, procedure, effect, effect_step}
+use Rattle.mos_meaning.specs.Syntax.{Expression, number, text, name, nothing, one_more, Effect, assign, write, expression, expression_step, arguments, procedure, effect, effect_step}
 use Rattle.mosel_run.specs.Sums as sums
 use Rattle.mosel_run.specs.Sums.{IsOperand, GoesOnTo, IsSum}
 use Rattle.mosel_run.specs.FirstForm as form
@@ -57,7 +57,7 @@ effect_of_call line called all = ap effect (sym (statement.rolls-Call line calle
 
 -- the effects of the two statements
 
-pub effect_of_writeln : (line : ℕ) (value : Expr) → effect (statement.Call line (codes "writeln") (value ∷ [])) ≡ writeln (one_more (expression value) nothing)
+pub effect_of_writeln : (line : ℕ) (value : Expr) → effect (statement.Call line (codes "writeln") (value ∷ [])) ≡ write true (one_more (expression value) nothing)
 effect_of_writeln line value = effect_of_call line (codes "writeln") (value ∷ [])
 
 pub effect_of_assign : (line : ℕ) (n : List ℕ) (value : Expr) → effect (statement.Assign line (reference.Name n) Set value) ≡ assign n (expression value)

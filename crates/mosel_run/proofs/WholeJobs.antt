@@ -23,10 +23,8 @@ use Rattle.mos_words.specs.Fit.{IsFit}
 use Rattle.mos_words.specs.Words.{is_source_name}
 use Rattle.mos_words.specs.declared.words.commands.Command.TheVariants.{Run as RunCommand}
 use Rattle.mosel_run.specs.declared.runner.Ran.{Ran}
-use Rattle.mosel_run.specs.Compiled.{image_of, texts_in_block}
-use Rattle.mosel_run.specs.Plain.{IsPlain}
-use Rattle.mosel_run.proofs.PlainImages.{is_plain}
-use Rattle.mosel_run.specs.Built.{IsBuiltBlock}
+use Rattle.bim_compile.specs.Means.{Means, NeverStuck}
+use Rattle.bim_compile.specs.Plain.{IsPlain}
 use Rattle.mosel_run.specs.Accepted.{IsAccepted}
 use Rattle.mosel_run.specs.Jobs.{opening_on, listed, line_of, usual_budget}
 use Rattle.mosel_run.specs.Puts.{puts_of, image_name, last_puts}
@@ -34,10 +32,6 @@ use Rattle.mosel_run.specs.Reported.{IsJob, model_of}
 use Rattle.mosel_run.specs.Running.{IsCourse, outcome_of}
 use Rattle.mosel_run.specs.Schedule.{schedule_of}
 use Rattle.mosel_run.specs.Stepping.{stop_of}
-use Rattle.mosel_run.proofs.Course.{course_is_meaning}
-use Rattle.mosel_run.proofs.SizeLemmas.{variables_few}
-use Rattle.mosel_run.proofs.FirstModels.{IsFirst, first_model}
-use Rattle.mosel_run.proofs.NeverStuck.{never_stuck}
 use Rattle.mosel_run.proofs.Whole.{is_whole, one_run, finish_is, no_calls, no_replies, no_puts}
 
 pub source_name : (name : List ℕ) → is_source_name name ≡ true → IsSourceName name
@@ -57,29 +51,27 @@ can_open name source lanes fit = record {
 }
 
 -- the outcome of the run is what the model means
-means_outcome : (model : Block) (image : Image) (ran : Ran) → image ≡ image_of model → IsBuiltBlock model → IsCourse image usual_budget ran
+means_outcome : (model : Block) (image : Image) (ran : Ran) → Means model image → IsCourse image usual_budget ran
     → outcome_of ran ≡ meaning_of model [] [] usual_budget
-means_outcome model image ran is built course =
-    sym (ap (λ c. c.outcome) course) ∙ ap (λ (i : Image). (course_of i [] [] usual_budget).outcome) is
-    ∙ course_is_meaning model [] [] usual_budget built
+means_outcome model image ran means course = sym (ap (λ c. c.outcome) course) ∙ means [] [] usual_budget
 
--- the run of a model of the first form is not stuck
-pub not_stuck : (model : Block) (image : Image) (ran : Ran) (many : ℕ) → image ≡ image_of model → IsFirst model many
-    → IsCourse image usual_budget ran → stop_of ran.halt ≢ Stuck
-not_stuck model image ran many is h course = λ stuck.
-    never_stuck model [] usual_budget h.works (sym (ap (λ m. m.stop) (means_outcome model image ran is h.built course)) ∙ stuck)
+-- the run of a model that is never stuck is not stuck
+pub not_stuck : (model : Block) (image : Image) (ran : Ran) → Means model image → NeverStuck model → IsCourse image usual_budget ran
+    → stop_of ran.halt ≢ Stuck
+not_stuck model image ran means never course = λ stuck.
+    never [] [] usual_budget (sym (ap (λ m. m.stop) (means_outcome model image ran means course)) ∙ stuck)
 
 -- the run follows its source
 pub run_follows : (name source : List ℕ) (lanes : ℕ) (model : Block) (image : Image) (ran : Ran) (end : End)
-    → image ≡ image_of model → IsBuiltBlock model → IsCourse image usual_budget ran → end_of (stop_of ran.halt) ≡ Some end
+    → Means model image → IsCourse image usual_budget ran → end_of (stop_of ran.halt) ≡ Some end
     → RunFollows (schedule_of (opening_on name source lanes) end) (opening_on name source lanes) 0 (line_of name end ran) 0 [] (listed name source)
     (record { statements = model; image = image })
-run_follows name source lanes model image ran end is built course ends =
+run_follows name source lanes model image ran end means course ends =
     let o = opening_on name source lanes in
     let journal = schedule_of o end in
     let none : replies_of 0 journal ≡ [] = no_replies o end in
     let same : meaning_of model [] (replies_of 0 journal) usual_budget ≡ outcome_of ran =
-    ap (λ replies. meaning_of model [] replies usual_budget) none ∙ sym (means_outcome model image ran is built course) in
+    ap (λ replies. meaning_of model [] replies usual_budget) none ∙ sym (means_outcome model image ran means course) in
     record {
       named = refl;
       replies_fit = subst (AllFit (calls_of 0 journal)) (sym none) (subst (λ calls. AllFit calls []) (sym (no_calls o end)) tt);
@@ -92,9 +84,9 @@ run_follows name source lanes model image ran end is built course ends =
     }
 
 follows_sources : (name source : List ℕ) (lanes : ℕ) (tree : Tree) (image : Image) (ran : Ran) (end : End)
-    → image ≡ image_of (statements_of tree) → IsBuiltBlock (statements_of tree) → IsCourse image usual_budget ran → end_of (stop_of ran.halt) ≡ Some end
+    → Means (statements_of tree) image → IsCourse image usual_budget ran → end_of (stop_of ran.halt) ≡ Some end
     → FollowsSources (schedule_of (opening_on name source lanes) end) (line_of name end ran ∷ []) (model_of tree image ∷ [])
-follows_sources name source lanes tree image ran end is built course ends =
+follows_sources name source lanes tree image ran end means course ends =
     let o = opening_on name source lanes in
     let journal = schedule_of o end in
     record { opened = o; opened_is = refl; all_runs = sym (one_run o end); each = each }
@@ -109,7 +101,7 @@ follows_sources name source lanes tree image ran end is built course ends =
       params_is = refl;
       file_is = refl;
       model_is = refl;
-      follows = run_follows name source lanes (statements_of tree) image ran end is built course ends;
+      follows = run_follows name source lanes (statements_of tree) image ran end means course ends;
     })
 
     each : (run : ℕ) (line : RunLine) → slice_get (line_of name end ran ∷ []) run ≡ Some line → Follows (schedule_of (opening_on name source lanes) end) (opening_on name source lanes) (model_of tree image ∷ []) run line
@@ -118,22 +110,19 @@ follows_sources name source lanes tree image ran end is built course ends =
 
 -- what `carry_out` promises
 pub is_job : (name source : List ℕ) (lanes : ℕ) (tree : Tree) (image : Image) (ran : Ran) (end : End)
-    → IsAccepted source tree → length source ≤ 1048576 → IsFit (RunCommand name lanes)
-    → image ≡ image_of (statements_of tree) → FitsFields image → length (texts_in_block (statements_of tree)) < 2 ^ 32 → IsCourse image usual_budget ran → end_of (stop_of ran.halt) ≡ Some end
+    → IsAccepted source tree → IsFit (RunCommand name lanes)
+    → Means (statements_of tree) image → FitsFields image → IsPlain image → IsCourse image usual_budget ran → end_of (stop_of ran.halt) ≡ Some end
     → IsJob (opening_on name source lanes) source tree image (schedule_of (opening_on name source lanes) end) (line_of name end ran ∷ [])
-is_job name source lanes tree image ran end form small fit is fields few course ends =
-    let h = first_model source tree form small in
-    record {
-      accepted = form;
-      means = λ params replies budget. ap (λ (i : Image). (course_of i params replies budget).outcome) is
-          ∙ course_is_meaning (statements_of tree) params replies budget h.built;
-      fields = fields;
-      plain = subst IsPlain (sym is) (is_plain (statements_of tree) h.works (let s = h.size in omega (arith, s, small, variables_few (statements_of tree))) few);
-      end = end;
-      schedule = refl;
-      whole = is_whole (opening_on name source lanes) end (can_open name source lanes fit);
-      follows = follows_sources name source lanes tree image ran end is h.built course ends;
-    }
+is_job name source lanes tree image ran end form fit means fields plain course ends = record {
+  accepted = form;
+  means = means;
+  fields = fields;
+  plain = plain;
+  end = end;
+  schedule = refl;
+  whole = is_whole (opening_on name source lanes) end (can_open name source lanes fit);
+  follows = follows_sources name source lanes tree image ran end means course ends;
+}
 
 pub puts_are : (name source : List ℕ) (lanes : ℕ) (tree : Tree) (image : Image) (end : End)
     → puts_of (opening_on name source lanes) (schedule_of (opening_on name source lanes) end) (model_of tree image ∷ [])

@@ -12,7 +12,7 @@ use Rattle.job_calls.specs.ReportExamples.{hello_entries, hello_file, entry}
 use Rattle.bim_code.specs.Tables.{image_bytes}
 use Rattle.mos_meaning.specs.Examples.{hello, hello_image}
 use Rattle.mos_meaning.specs.Syntax.{statements_of}
-use Rattle.mosel_run.specs.Compiled.{image_of}
+use Rattle.bim_compile.specs.Compiled.{image_of}
 use Rattle.mosel_run.specs.FirstFormLaws.{hello_tree}
 use Rattle.mosel_run.specs.Jobs.{opening_on}
 use Rattle.mosel_run.specs.Puts.{Put, puts_of}

@@ -1,4 +1,3 @@
-pub mod Closed
 pub mod Kept
 pub mod Stepping
 pub mod Schedule
@@ -20,3 +19,4 @@ pub mod Preparing
 pub mod Storing
 pub mod Examples
 pub mod Exact
+pub mod Spread

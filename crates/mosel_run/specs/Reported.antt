@@ -20,8 +20,8 @@ use Rattle.mos_meaning.specs.Syntax.{statements_of}
 use Rattle.mos_meaning.specs.Follows.{Model, FollowsSources}
 use Rattle.mosel_run.specs.Accepted.{IsAccepted}
 use Rattle.mosel_run.specs.Jobs.{opening_on}
-use Rattle.mosel_run.specs.Means.{Means}
-use Rattle.mosel_run.specs.Plain.{IsPlain}
+use Rattle.bim_compile.specs.Means.{Means}
+use Rattle.bim_compile.specs.Plain.{IsPlain}
 use Rattle.mosel_run.specs.Schedule.{schedule_of}
 use Rattle.mosel_run.specs.Puts.{Put, puts_of, put_all}
 

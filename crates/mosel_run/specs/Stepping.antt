@@ -10,6 +10,8 @@ use Rattle.mos_text.specs.declared.fault_kind.FaultKind.TheVariants.{OutFull}
 use Rattle.mos_meaning.specs.Values.{sum_of, difference_of, written}
 use Rattle.mosel_run.specs.declared.arithmetic.Operator.{Operator}
 use Rattle.mosel_run.specs.declared.arithmetic.Operator.TheVariants.{Sum, Difference}
+use Rattle.mosel_run.specs.declared.halt.Flow.{Flow}
+use Rattle.mosel_run.specs.declared.halt.Flow.TheVariants.{Goes, Jumps, Halts}
 use Rattle.mosel_run.specs.declared.halt.Halt.{Halt}
 use Rattle.mosel_run.specs.declared.halt.Halt.TheVariants as halt
 use Rattle.mosel_run.specs.Kept.{Kept}
@@ -21,23 +23,24 @@ stop_of (halt.Failed kind) = stop.Failed kind
 stop_of halt.Spent = stop.Spent
 stop_of halt.Stuck = stop.Stuck
 
--- the state of the abstract machine: at an address, or over
-abbrev pub lands : ℕ → Option Halt → Kept → Machine
-lands address None m = At address m.frame m.state
-lands address (Some h) m = Over (stop_of h) m.state
+-- the state of the abstract machine: behind the instruction, where that names, or over
+abbrev pub lands : ℕ → ℕ → Flow → Kept → Machine
+lands next named Goes m = At next m.frame m.state
+lands next named Jumps m = At named m.frame m.state
+lands next named (Halts h) m = Over (stop_of h) m.state
 
 -- the instruction leads from the one to the other, wherever it stands
-abbrev pub Leads : Image → Instruction → Kept → Option Halt → Kept → Type 0
-Leads image i before halt after =
-    (next : ℕ) → settle (act image i before.frame before.state.memory) next before.state ≡ lands next halt after
+abbrev pub Leads : Image → Instruction → Kept → Flow → Kept → Type 0
+Leads image i before flow after =
+    (next named : ℕ) → settle (act image i before.frame before.state.memory) next named before.state ≡ lands next named flow after
 
 -- an image that has nothing
 abbrev pub no_image : Image
 no_image = record { constants = []; types = []; params = []; globals = []; routines = []; points = []; code = [] }
 
 -- the same for an instruction that looks at nothing of the image
-abbrev pub LeadsAlways : Instruction → Kept → Option Halt → Kept → Type 0
-LeadsAlways i before halt after = Leads no_image i before halt after
+abbrev pub LeadsAlways : Instruction → Kept → Flow → Kept → Type 0
+LeadsAlways i before flow after = Leads no_image i before flow after
 
 -- the operator on integers that is carried out
 abbrev pub operation : Operator → ℤ → ℤ → Option ℤ
@@ -45,12 +48,12 @@ operation Sum = sum_of
 operation Difference = difference_of
 
 -- the operator on the two integers on top leads from the one to the other
-abbrev pub Combines : Operator → Kept → Option Halt → Kept → Type 0
-Combines operator before halt after =
-    (next : ℕ) → settle (on_integers (operation operator) before.frame before.state.memory) next before.state ≡ lands next halt after
+abbrev pub Combines : Operator → Kept → Flow → Kept → Type 0
+Combines operator before flow after =
+    (next named : ℕ) → settle (on_integers (operation operator) before.frame before.state.memory) next named before.state ≡ lands next named flow after
 
 -- all that is held leads to the output, where it still has room
-abbrev pub WritesHeld : Kept → Option Halt → Kept → Type 0
-WritesHeld before halt after =
-    (next : ℕ) → settle (or_fault OutFull (written before.state.memory before.frame.held) (λ m. On (record before.frame { held = [] }) m)) next before.state
-    ≡ lands next halt after
+abbrev pub WritesHeld : Kept → Flow → Kept → Type 0
+WritesHeld before flow after =
+    (next named : ℕ) → settle (or_fault OutFull (written before.state.memory before.frame.held) (λ m. On (record before.frame { held = [] }) m)) next named before.state
+    ≡ lands next named flow after

@@ -6,7 +6,7 @@ use Rattle.mos_tree.specs.declared.statement.Statement.TheOpen.{Statement-F, Ass
 use Rattle.mos_tree.specs.declared.statement.Statement.TheFolds.{fold-Statement}
 use Rattle.mos_tree.specs.declared.source.Top.{Top}
 use Rattle.mos_tree.specs.declared.source.Top.TheVariants as top
-use Rattle.mos_meaning.specs.Syntax.{Expression, name, plus, minus, Arguments, nothing, one_more, Effect, assign, writeln, unbuilt_effect, top_effect, has_name, names_after}
+use Rattle.mos_meaning.specs.Syntax.{Expression, name, apply, Arguments, nothing, one_more, Effect, assign, write, top_effect, has_name, names_after}
 
 -- the first of the two, or the second where there is no first
 abbrev pub or_other : Option (List ℕ) → Option (List ℕ) → Option (List ℕ)
@@ -20,8 +20,7 @@ unless_known known n = if has_name n known then None else Some n
 -- the first name of an expression, from the left, that is none of these
 abbrev pub unknown_in : List (List ℕ) → Expression → Option (List ℕ)
 unknown_in known (name n) = unless_known known n
-unknown_in known (plus a b) = or_other (unknown_in known a) (unknown_in known b)
-unknown_in known (minus a b) = or_other (unknown_in known a) (unknown_in known b)
+unknown_in known (apply operator a b) = or_other (unknown_in known a) (unknown_in known b)
 unknown_in known _ = None
 
 abbrev pub unknown_in_all : List (List ℕ) → Arguments → Option (List ℕ)
@@ -31,8 +30,8 @@ unknown_in_all known (one_more e es) = or_other (unknown_in known e) (unknown_in
 -- the first such name of a statement; an assignment uses its value's names before it assigns its own
 abbrev pub unknown_of : List (List ℕ) → Effect → Option (List ℕ)
 unknown_of known (assign n e) = unknown_in known e
-unknown_of known (writeln all) = unknown_in_all known all
-unknown_of known unbuilt_effect = None
+unknown_of known (write newline all) = unknown_in_all known all
+unknown_of known _ = None
 
 abbrev pub line_step : Statement-F ℕ → ℕ
 line_step (Assign line target operator value) = line

@@ -19,11 +19,11 @@ ghost use Rattle.mosel_run.specs.Schedule.{schedule_of};
 ghost use Rattle.mosel_run.specs.Jobs.{line_of};
 ghost use Rattle.mosel_run.specs.Stepping.{stop_of};
 
-use crate::compiler::compile;
 use crate::halt::Halt;
 use crate::runner::{Ran, run};
 use crate::schedule::schedule;
 use bim_code::Image;
+use bim_compile::compile;
 use bim_format::write_image;
 use hub_text::write_report;
 use job_calls::{End, Entry, Listed, RunEnd, RunLine};

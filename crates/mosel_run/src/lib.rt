@@ -3,7 +3,7 @@
 #![tactic(auto)]
 
 mod arithmetic;
-mod compiler;
+mod code;
 mod examples;
 mod halt;
 mod jobs;
@@ -15,7 +15,7 @@ mod schedule;
 mod status;
 mod top;
 
-pub use examples::{hello_job, refused_jobs};
+pub use examples::{hello_job, hello_model, refused_jobs, several_puts};
 pub use reader::first_form_laws;
 pub use status::Status;
 pub use top::tool;

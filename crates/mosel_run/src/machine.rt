@@ -5,10 +5,10 @@ ghost use Rattle.mos_meaning.specs.Meaning.{defaults as defaults_of};
 ghost use Rattle.mosel_run.specs.Running.{begins, IsToldOf};
 ghost use Rattle.mosel_run.specs.Stepping.{Leads, LeadsAlways, Combines, WritesHeld};
 
-use crate::arithmetic::{Operator, result_of};
-use crate::halt::Halt;
+use crate::arithmetic::{Operator, compared, result_of};
+use crate::halt::{Flow, Halt};
 use crate::runner::Ran;
-use bim_code::{Image, Instruction};
+use bim_code::{Comparison, Image, Instruction};
 use mos_text::{Blob, FaultKind, NoMemory, Scalar, Text};
 use std::alloc::Global;
 use std::marker::Model;
@@ -76,14 +76,14 @@ impl Machine {
         }
     }
 
-    /// Carries out one instruction; answers a halt where the run ends by it.
+    /// Carries out one instruction, and says where it leads.
     pub(crate) fn step(
         &mut self,
         alloc: Global,
         image: &Image,
         instruction: Instruction,
-    ) -> Result<Option<Halt>, NoMemory>
-        ensures { IfOk result (λ halt. Leads image.now instruction self.old halt self.new) }
+    ) -> Result<Flow, NoMemory>
+        ensures { IfOk result (λ flow. Leads image.now instruction self.old flow self.new) }
     {
         match instruction {
             Instruction::Tick => Ok(self.tick()),
@@ -92,38 +92,43 @@ impl Machine {
             Instruction::PushText(constant) => self.push_text(alloc, image, constant),
             Instruction::LoadGlobal(slot) => self.load(alloc, slot),
             Instruction::StoreGlobal(slot) => Ok(self.store(slot)),
+            Instruction::Swap => self.swap(),
+            Instruction::Compare(comparison) => self.compare(comparison),
+            Instruction::Jump(_) => Ok(Flow::Jumps),
+            Instruction::JumpIf(_) => Ok(self.jump_if()),
+            Instruction::JumpNot(_) => Ok(self.jump_not()),
             Instruction::Add => self.combine(Operator::Sum),
             Instruction::Subtract => self.combine(Operator::Difference),
             Instruction::Show => self.show(alloc),
             Instruction::Write => self.hold(),
             Instruction::Line => self.line(),
             Instruction::End => Ok(self.end()),
-            Instruction::Fault(kind) => Ok(Some(Halt::Failed(kind))),
+            Instruction::Fault(kind) => Ok(Flow::Halts(Halt::Failed(kind))),
         }
     }
 
-    fn tick(&mut self) -> Option<Halt>
+    fn tick(&mut self) -> Flow
         ensures { LeadsAlways Instruction.Tick self.old result self.new }
     {
         if self.ticks == 0 {
-            return Some(Halt::Spent);
+            return Flow::Halts(Halt::Spent);
         }
         self.ticks -= 1;
-        None
+        Flow::Goes
     }
 
-    fn push_int(&mut self, number: i32) -> Result<Option<Halt>, NoMemory>
-        ensures { IfOk result (λ halt. LeadsAlways (Instruction.PushInt number) self.old halt self.new) }
+    fn push_int(&mut self, number: i32) -> Result<Flow, NoMemory>
+        ensures { IfOk result (λ flow. LeadsAlways (Instruction.PushInt number) self.old flow self.new) }
     {
         self.stack.push(Scalar::Int(number))?;
-        Ok(None)
+        Ok(Flow::Goes)
     }
 
-    fn push_bool(&mut self, truth: bool) -> Result<Option<Halt>, NoMemory>
-        ensures { IfOk result (λ halt. LeadsAlways (Instruction.PushBool truth) self.old halt self.new) }
+    fn push_bool(&mut self, truth: bool) -> Result<Flow, NoMemory>
+        ensures { IfOk result (λ flow. LeadsAlways (Instruction.PushBool truth) self.old flow self.new) }
     {
         self.stack.push(Scalar::Bool(truth))?;
-        Ok(None)
+        Ok(Flow::Goes)
     }
 
     fn push_text(
@@ -131,97 +136,153 @@ impl Machine {
         alloc: Global,
         image: &Image,
         constant: u32,
-    ) -> Result<Option<Halt>, NoMemory>
-        ensures { IfOk result (λ halt. Leads image.now (Instruction.PushText constant) self.old halt self.new) }
+    ) -> Result<Flow, NoMemory>
+        ensures { IfOk result (λ flow. Leads image.now (Instruction.PushText constant) self.old flow self.new) }
     {
         match image.constants.get(constant as usize) {
-            None => Ok(Some(Halt::Stuck)),
+            None => Ok(Flow::Halts(Halt::Stuck)),
             Some(text) => {
                 if text.as_bytes().len() > TEXT_LIMIT {
-                    return Ok(Some(Halt::Failed(FaultKind::TooBig)));
+                    return Ok(Flow::Halts(Halt::Failed(FaultKind::TooBig)));
                 }
                 self.stack.push(Scalar::Str(text.copy(alloc)?))?;
-                Ok(None)
+                Ok(Flow::Goes)
             }
         }
     }
 
-    fn load(&mut self, alloc: Global, slot: u32) -> Result<Option<Halt>, NoMemory>
-        ensures { IfOk result (λ halt. LeadsAlways (Instruction.LoadGlobal slot) self.old halt self.new) }
+    fn load(&mut self, alloc: Global, slot: u32) -> Result<Flow, NoMemory>
+        ensures { IfOk result (λ flow. LeadsAlways (Instruction.LoadGlobal slot) self.old flow self.new) }
     {
         match sqlite_items::at(self.store.as_slice(), slot as usize) {
-            None => Ok(Some(Halt::Stuck)),
+            None => Ok(Flow::Halts(Halt::Stuck)),
             Some(value) => {
                 let value = value.copy(alloc)?;
                 self.stack.push(value)?;
-                Ok(None)
+                Ok(Flow::Goes)
             }
         }
     }
 
-    fn store(&mut self, slot: u32) -> Option<Halt>
+    fn store(&mut self, slot: u32) -> Flow
         ensures { LeadsAlways (Instruction.StoreGlobal slot) self.old result self.new }
     {
         match self.stack.pop() {
-            None => Some(Halt::Stuck),
+            None => Flow::Halts(Halt::Stuck),
             Some(value) => {
                 if slot as usize >= self.store.len() {
-                    return Some(Halt::Stuck);
+                    return Flow::Halts(Halt::Stuck);
                 }
                 self.store[slot as usize] = value;
-                None
+                Flow::Goes
             }
         }
     }
 
-    fn combine(&mut self, operator: Operator) -> Result<Option<Halt>, NoMemory>
-        ensures { IfOk result (λ halt. Combines operator self.old halt self.new) }
+    fn swap(&mut self) -> Result<Flow, NoMemory>
+        ensures { IfOk result (λ flow. LeadsAlways Instruction.Swap self.old flow self.new) }
+    {
+        match self.stack.pop() {
+            Some(above) => match self.stack.pop() {
+                Some(below) => {
+                    self.stack.push(above)?;
+                    self.stack.push(below)?;
+                    Ok(Flow::Goes)
+                }
+                None => Ok(Flow::Halts(Halt::Stuck)),
+            },
+            None => Ok(Flow::Halts(Halt::Stuck)),
+        }
+    }
+
+    fn compare(&mut self, comparison: Comparison) -> Result<Flow, NoMemory>
+        ensures { IfOk result (λ flow. LeadsAlways (Instruction.Compare comparison) self.old flow self.new) }
+    {
+        match self.stack.pop() {
+            Some(right) => match self.stack.pop() {
+                Some(left) => match compared(comparison, &left, &right) {
+                    Some(truth) => {
+                        self.stack.push(Scalar::Bool(truth))?;
+                        Ok(Flow::Goes)
+                    }
+                    None => Ok(Flow::Halts(Halt::Stuck)),
+                },
+                None => Ok(Flow::Halts(Halt::Stuck)),
+            },
+            None => Ok(Flow::Halts(Halt::Stuck)),
+        }
+    }
+
+    /// Jumps where the boolean on top, which it takes, is true. Which address it names does not matter.
+    fn jump_if(&mut self) -> Flow
+        ensures { LeadsAlways (Instruction.JumpIf 0) self.old result self.new }
+    {
+        match self.stack.pop() {
+            Some(Scalar::Bool(true)) => Flow::Jumps,
+            Some(Scalar::Bool(false)) => Flow::Goes,
+            _ => Flow::Halts(Halt::Stuck),
+        }
+    }
+
+    /// The same where it is false.
+    fn jump_not(&mut self) -> Flow
+        ensures { LeadsAlways (Instruction.JumpNot 0) self.old result self.new }
+    {
+        match self.stack.pop() {
+            Some(Scalar::Bool(true)) => Flow::Goes,
+            Some(Scalar::Bool(false)) => Flow::Jumps,
+            _ => Flow::Halts(Halt::Stuck),
+        }
+    }
+
+    fn combine(&mut self, operator: Operator) -> Result<Flow, NoMemory>
+        ensures { IfOk result (λ flow. Combines operator self.old flow self.new) }
     {
         match self.stack.pop() {
             Some(Scalar::Int(right)) => match self.stack.pop() {
                 Some(Scalar::Int(left)) => match result_of(operator, left, right) {
-                    None => Ok(Some(Halt::Failed(FaultKind::Overflow))),
+                    None => Ok(Flow::Halts(Halt::Failed(FaultKind::Overflow))),
                     Some(number) => {
                         self.stack.push(Scalar::Int(number))?;
-                        Ok(None)
+                        Ok(Flow::Goes)
                     }
                 },
-                _ => Ok(Some(Halt::Stuck)),
+                _ => Ok(Flow::Halts(Halt::Stuck)),
             },
-            _ => Ok(Some(Halt::Stuck)),
+            _ => Ok(Flow::Halts(Halt::Stuck)),
         }
     }
 
-    fn show(&mut self, alloc: Global) -> Result<Option<Halt>, NoMemory>
-        ensures { IfOk result (λ halt. LeadsAlways Instruction.Show self.old halt self.new) }
+    fn show(&mut self, alloc: Global) -> Result<Flow, NoMemory>
+        ensures { IfOk result (λ flow. LeadsAlways Instruction.Show self.old flow self.new) }
     {
         match self.stack.pop() {
-            None => Ok(Some(Halt::Stuck)),
+            None => Ok(Flow::Halts(Halt::Stuck)),
             Some(value) => {
                 let text = printed_form(alloc, value)?;
                 if text.as_bytes().len() > TEXT_LIMIT {
-                    return Ok(Some(Halt::Failed(FaultKind::TooBig)));
+                    return Ok(Flow::Halts(Halt::Failed(FaultKind::TooBig)));
                 }
                 self.stack.push(Scalar::Str(text))?;
-                Ok(None)
+                Ok(Flow::Goes)
             }
         }
     }
 
-    fn hold(&mut self) -> Result<Option<Halt>, NoMemory>
-        ensures { IfOk result (λ halt. LeadsAlways Instruction.Write self.old halt self.new) }
+    fn hold(&mut self) -> Result<Flow, NoMemory>
+        ensures { IfOk result (λ flow. LeadsAlways Instruction.Write self.old flow self.new) }
     {
         match self.stack.pop() {
             Some(Scalar::Str(text)) => {
                 self.held.extend_from_slice(text.as_bytes())?;
-                Ok(None)
+                Ok(Flow::Goes)
             }
-            _ => Ok(Some(Halt::Stuck)),
+            _ => Ok(Flow::Halts(Halt::Stuck)),
         }
     }
 
-    fn line(&mut self) -> Result<Option<Halt>, NoMemory>
-        ensures { IfOk result (λ halt. LeadsAlways Instruction.Line self.old halt self.new) }
+    fn line(&mut self) -> Result<Flow, NoMemory>
+        ensures { IfOk result (λ flow. LeadsAlways Instruction.Line self.old flow self.new) }
     {
         match self.stack.pop() {
             Some(Scalar::Bool(newline)) => {
@@ -230,28 +291,28 @@ impl Machine {
                 }
                 self.write_held()
             }
-            _ => Ok(Some(Halt::Stuck)),
+            _ => Ok(Flow::Halts(Halt::Stuck)),
         }
     }
 
     /// All that is held goes to the output, or nothing where that would be too much.
-    fn write_held(&mut self) -> Result<Option<Halt>, NoMemory>
-        ensures { IfOk result (λ halt. WritesHeld self.old halt self.new) }
+    fn write_held(&mut self) -> Result<Flow, NoMemory>
+        ensures { IfOk result (λ flow. WritesHeld self.old flow self.new) }
     {
         if self.output.len() + self.held.len() > OUTPUT_LIMIT {
-            return Ok(Some(Halt::Failed(FaultKind::OutFull)));
+            return Ok(Flow::Halts(Halt::Failed(FaultKind::OutFull)));
         }
         self.output.extend_from_slice(&self.held)?;
         self.held.clear();
-        Ok(None)
+        Ok(Flow::Goes)
     }
 
-    fn end(&mut self) -> Option<Halt>
+    fn end(&mut self) -> Flow
         ensures { LeadsAlways Instruction.End self.old result self.new }
     {
         match self.stack.pop() {
-            Some(Scalar::Int(code)) => Some(Halt::Exited(code)),
-            _ => Some(Halt::Stuck),
+            Some(Scalar::Int(code)) => Flow::Halts(Halt::Exited(code)),
+            _ => Flow::Halts(Halt::Stuck),
         }
     }
 }

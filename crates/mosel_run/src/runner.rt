@@ -1,11 +1,14 @@
 //! Carries out a whole image, and says what can be told of the run.
-ghost use Rattle.std.specs.Prelude.{◌≡◌, ℕ, ◌≤◌, ◌+◌, ◌*◌, [], IfOk, length};
-ghost use Rattle.mosel_run.specs.Closed.{IsClosed};
+ghost use Rattle.std.specs.Prelude.{◌≡◌, ◌<◌, ◌≤◌, ◌+◌, ◌*◌, ◌^◌, IfOk, length};
+ghost use Rattle.bim_code.specs.Code.{code_size};
+ghost use Rattle.mos_meaning.specs.MachineLaws.{KeepsTicks};
 ghost use Rattle.mosel_run.specs.Running.{IsCourse};
 
-use crate::halt::Halt;
+use crate::code::{begun_at, spread, target};
+use crate::halt::{Flow, Halt};
 use crate::machine::Machine;
 use bim_code::Image;
+use mos_meaning::machine_laws;
 use mos_text::{Blob, NoMemory};
 use std::alloc::Global;
 
@@ -22,16 +25,27 @@ pub(crate) struct Ran {
 
 /// Carries out an image with the empty parameter text, for so many ticks.
 pub(crate) fn run(alloc: Global, image: &Image, budget: u32) -> Result<Ran, NoMemory>
-    requires { IsClosed image.now }
+    requires keeps { KeepsTicks image.now }
+    requires small { code_size image.now.code < 2 ^ 30 }
     ensures course { IfOk result (λ ran. IsCourse image.now budget ran) }
     ensures ticks { IfOk result (λ ran. ran.ticks ≤ budget) }
     ensures steps { IfOk result (λ ran. ran.steps ≤ length image.now.code * (2 * ran.ticks + 2)) }
 {
+    machine_laws();
+    let code = spread(alloc, image.code.as_slice())?;
     let mut machine = Machine::begin(alloc, image.globals.len(), budget)?;
-    for (place, instruction) in image.code.as_slice().iter().enumerate() {
-        if let Some(halt) = machine.step(alloc, image, *instruction)? {
-            return Ok(machine.ended(halt, budget, place as u64 + 1));
+    let mut address: u32 = 0;
+    let mut steps: u64 = 0;
+    loop {
+        let Some(instruction) = begun_at(&code, address) else {
+            return Ok(machine.ended(Halt::Stuck, budget, steps + 1));
+        };
+        let next = address + instruction.width();
+        match machine.step(alloc, image, instruction)? {
+            Flow::Goes => address = next,
+            Flow::Jumps => address = target(instruction, next),
+            Flow::Halts(halt) => return Ok(machine.ended(halt, budget, steps + 1)),
         }
+        steps += 1;
     }
-    unreachable!()
 }

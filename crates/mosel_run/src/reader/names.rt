@@ -4,7 +4,7 @@ ghost use Rattle.mos_meaning.specs.Syntax.{expression, arguments, effect, top_ef
 ghost use Rattle.mosel_run.specs.Chains.{IsLeaf, IsChain, AreChains, HasChains, HaveChains};
 ghost use Rattle.mosel_run.specs.UnknownNames.{or_other, unless_known, unknown_in, unknown_in_all, unknown_of, line_of, line_of_top, first_unknown};
 
-use crate::compiler::names::{has, note_top};
+use bim_compile::names::{has, note_top};
 use mos_text::{NoMemory, Text};
 use mos_tree::{Assignment, BinaryOperator, Expr, Reference, Statement, Top};
 use sqlite_items::Items;

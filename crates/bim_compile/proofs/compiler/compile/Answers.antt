@@ -2,6 +2,7 @@
 use Rattle.std.proofs.Common.{◌≡◌, ◌≤◌, ◌<◌, ◌^◌, ◌*◌, ◌+◌, ℕ, length, Result, Ok, Err, sym, subst, arith}
 use Rattle.std.specs.Prelude.{IfOk}
 use Rattle.bim_code.specs.declared.image.Image.{Image}
+use Rattle.bim_code.specs.Code.{code_size}
 use Rattle.bim_code.specs.Limits.{FitsFields}
 use Rattle.mos_text.specs.declared.no_memory.NoMemory.{NoMemory}
 use Rattle.mos_meaning.specs.MachineLaws.{KeepsTicks}
@@ -9,11 +10,12 @@ use Rattle.mos_meaning.specs.Syntax.{statements_of, variables_of}
 use Rattle.bim_compile.specs.Compiled.{image_of, block_end, texts_in_block}
 use Rattle.bim_compile.specs.Means.{Means}
 use Rattle.bim_compile.specs.Plain.{IsPlain}
+use Rattle.bim_compile.specs.Sizes.{size_of_block}
 use Rattle.bim_compile.proofs.Course.{course_is_meaning}
 use Rattle.bim_compile.proofs.NeverStuck.{never_stuck}
 use Rattle.bim_compile.proofs.PlainImages.{is_plain}
 use Rattle.bim_compile.proofs.Rules.{keeps_ticks}
-use Rattle.bim_compile.proofs.SizeLemmas.{fits_fields, variables_few, texts_few_block, block_within}
+use Rattle.bim_compile.proofs.SizeLemmas.{fits_fields, code_within, variables_few, texts_few_block, block_within}
 use Rattle.bim_compile.proofs.WorkingModels.{block-built}
 use Rattle.bim_compile.proofs.compiler.compile.Goals as goal
 
@@ -50,3 +52,8 @@ returns-clause-plain c =
     let small = c.requires.small in
     of_it IsPlain (image_of model) c.build.result
     (is_plain model c.requires.works (omega (arith, variables_few model, small)) (omega (arith, texts_few_block model, small)) (omega (arith, block_within 0 model, small))) c.build.ensures
+
+pub returns-clause-size : goal.returns-clause-size
+returns-clause-size c =
+    let model = statements_of c.args.tree.now in
+    of_it (λ (image : Image). code_size image.code ≤ 13 * size_of_block model + 6) (image_of model) c.build.result (code_within model) c.build.ensures

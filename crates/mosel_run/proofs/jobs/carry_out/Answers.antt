@@ -1,15 +1,11 @@
 -- a source of the first form is compiled, is never stuck, and its journal is whole
-use Rattle.std.proofs.Common.{◌∙◌, ◌∷◌, [], ap, sym, subst, arith}
+use Rattle.std.proofs.Common.{◌∙◌, ◌∷◌, [], ap, arith}
 use Rattle.job_calls.specs.Runs.{finish_of}
-use Rattle.bim_code.specs.Limits.{FitsFields}
 use Rattle.mos_meaning.specs.Syntax.{statements_of}
-use Rattle.mosel_run.specs.Closed.{IsClosed}
 use Rattle.mosel_run.specs.Jobs.{opening_on}
 use Rattle.mosel_run.specs.Puts.{puts_of}
 use Rattle.mosel_run.specs.Reported.{model_of}
-use Rattle.mosel_run.proofs.Course.{is_closed}
 use Rattle.mosel_run.proofs.FirstModels.{first_model}
-use Rattle.mosel_run.proofs.SizeLemmas.{fits_fields, texts_few_block}
 use Rattle.mosel_run.proofs.Whole.{finish_is}
 use Rattle.mosel_run.proofs.WholeJobs.{not_stuck, is_job, puts_are}
 use Rattle.mosel_run.proofs.jobs.carry_out.Goals as goal
@@ -17,28 +13,25 @@ use Rattle.mosel_run.proofs.jobs.carry_out.Goals as goal
 pub compile-requires : goal.compile-requires
 compile-requires c =
     let h = first_model c.args.source.now c.args.tree.now c.requires.accepted c.requires.small in
-    record { built = h.built; small = let s = h.size in omega (arith, c.requires.small) }
+    let size = h.size in
+    record { works = h.works; small = omega (arith, size, c.requires.small); short = h.short }
 
-pub run-requires : goal.run-requires
-run-requires c = subst IsClosed (sym c.in_ok-image.ensures.image) (is_closed (statements_of c.args.tree.now))
+pub run-requires-clause-small : goal.run-requires-clause-small
+run-requires-clause-small c =
+    let h = first_model c.args.source.now c.args.tree.now c.requires.accepted c.requires.small in
+    let size = h.size in
+    let code = c.in_ok-image.ensures.size in
+    omega (arith, size, code, c.requires.small)
 
 pub end_by-end-requires : goal.end_by-end-requires
 end_by-end-requires c =
-    not_stuck (statements_of c.args.tree.now) c.in_ok-image.image c.in_ok-ran.ran _ c.in_ok-image.ensures.image
-    (first_model c.args.source.now c.args.tree.now c.requires.accepted c.requires.small) c.in_ok-ran.ensures.course
-
-pub returns-clause-fields : goal.returns-clause-fields
-returns-clause-fields c =
-    let h = first_model c.args.source.now c.args.tree.now c.requires.accepted c.requires.small in
-    subst FitsFields (sym c.in_ok-image.ensures.image)
-    (fits_fields (statements_of c.args.tree.now) (let s = h.size in omega (arith, c.requires.small)) h.short)
+    not_stuck (statements_of c.args.tree.now) c.in_ok-image.image c.in_ok-ran.ran c.in_ok-image.ensures.means c.compile.ensures.never_stuck c.in_ok-ran.ensures.course
 
 pub returns-clause-job : goal.returns-clause-job
 returns-clause-job c =
     rw (c.in_ok-journal.ensures, c.in_ok-lines.ensures)
     (is_job c.args.name.now c.args.source.now c.args.lanes c.args.tree.now c.in_ok-image.image c.in_ok-ran.ran c.end_by-end.result
-    c.requires.accepted c.requires.small c.requires.fit c.in_ok-image.ensures.image (returns-clause-fields c)
-    (let h = first_model c.args.source.now c.args.tree.now c.requires.accepted c.requires.small in let s = h.size in omega (arith, texts_few_block (statements_of c.args.tree.now), c.requires.small))
+    c.requires.accepted c.requires.fit c.in_ok-image.ensures.means c.in_ok-image.ensures.fields c.in_ok-image.ensures.plain
     c.in_ok-ran.ensures.course c.end_by-end.ensures.end)
 
 pub returns-clause-puts : goal.returns-clause-puts

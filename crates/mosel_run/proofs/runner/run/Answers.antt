@@ -1,43 +1,116 @@
 -- each pass is one step of the machine, and the last is the end of its course
-use Rattle.std.proofs.Common.{◌≡◌, ◌≤◌, ◌<◌, ◌∙◌, ap, sym, subst, length, ◌+◌, [], None, Some, arith}
-use Rattle.bim_code.specs.declared.instruction.Instruction.TheVariants.{Tick}
-use Rattle.mos_meaning.specs.Machine.{Over, run, steps_taken, start, most_steps, told_machine}
-use Rattle.mosel_run.specs.Stepping.{stop_of}
-use Rattle.mosel_run.proofs.Steps.{one_step, one_step_more, stopped, steps_stopped, within_most, course_eq, never_over}
+use Rattle.std.proofs.Common.{◌≡◌, ◌≤◌, ◌<◌, ◌+◌, ℕ, ap, sym, subst, ◌∙◌, [], None, Some, arith}
+use Rattle.bim_code.specs.Code.{instruction_at}
+use Rattle.mos_meaning.specs.Machine.{At, Over, run, start, target, most_steps}
+use Rattle.mosel_run.specs.declared.halt.Halt.TheVariants as halt
+use Rattle.mosel_run.specs.declared.halt.Flow.TheVariants.{Goes, Jumps, Halts}
+use Rattle.mosel_run.specs.Stepping.{Leads}
+use Rattle.mosel_run.proofs.Courses.{still_few, steps_fit, found_there, leads_on, stuck_on, Stops, is_course, few_steps, is_stop}
+use Rattle.mosel_run.proofs.SpreadCode.{at_within}
 use Rattle.mosel_run.proofs.runner.run.Goals as goal
+use Rattle.mosel_run.proofs.runner.run.Goals.{in-Goes, in-Jumps}
 
-pub returns-in-Some-clause-course : goal.returns-in-Some-clause-course
-returns-in-Some-clause-course c =
-    let image = c.args.image.now in
-    let first = start image [] c.args.budget in
-    let k = c.loop-place.place in
-    let items = c.as_slice-instruction-items.result.now in
-    let same = c.as_slice-instruction-items.ensures in
-    let within : k < length image.code = subst (λ (code : _). k < length code) same c.loop-place-test.true in
-    let most : k + 1 ≤ most_steps image c.args.budget = within_most (length image.code) c.args.budget k within in
-    let over : run image (k + 1) first ≡ Over (stop_of c.in-Some.halt) c.step.new.self.state =
-    one_step image first items k Tick c.loop-place.machine.frame c.loop-place.machine.state (Some c.in-Some.halt) c.step.new.self
-    same c.loop-place-test.true c.loop-place.invariant.stands (rw c.in-Some.is at c.in_ok-halt.ensures) in
-    let steps : steps_taken image (k + 1) first ≡ k + 1 =
-    one_step_more image first k _ _ _ c.loop-place.invariant.stands c.loop-place.invariant.steps in
-    course_eq _ _ _ _
-    (ap (told_machine c.args.budget) (stopped image first (k + 1) (most_steps image c.args.budget) _ _ most over) ∙ sym c.ended.ensures.0)
-    (steps_stopped image first (k + 1) (most_steps image c.args.budget) _ _ most over ∙ steps ∙ sym c.ended.ensures.1)
+pub overflow_add-steps : goal.overflow_add-steps
+overflow_add-steps c =
+    let laws = c.machine_laws.ensures in
+    let few = still_few c.args.image.now c.args.budget c.loop-instruction.steps _ _ _ laws.over_in_time laws.stays_over c.requires.keeps c.loop-instruction.invariant.stands in
+    let fit = steps_fit c.args.image.now c.args.budget c.requires.small c.ranges.budget.fits in
+    omega (arith, few, fit)
 
-pub loop-place-preserved : goal.loop-place-preserved
-loop-place-preserved c =
+pub overflow_add-steps-in-Halts : goal.overflow_add-steps-in-Halts
+overflow_add-steps-in-Halts c =
+    let laws = c.machine_laws.ensures in
+    let few = still_few c.args.image.now c.args.budget c.loop-instruction.steps _ _ _ laws.over_in_time laws.stays_over c.requires.keeps c.loop-instruction.invariant.stands in
+    let fit = steps_fit c.args.image.now c.args.budget c.requires.small c.ranges.budget.fits in
+    omega (arith, few, fit)
+
+pub overflow_add-steps-in-loop-instruction : goal.overflow_add-steps-in-loop-instruction
+overflow_add-steps-in-loop-instruction c =
+    let laws = c.machine_laws.ensures in
+    let few = still_few c.args.image.now c.args.budget c.loop-instruction.steps _ _ _ laws.over_in_time laws.stays_over c.requires.keeps c.loop-instruction.invariant.stands in
+    let fit = steps_fit c.args.image.now c.args.budget c.requires.small c.ranges.budget.fits in
+    omega (arith, few, fit)
+
+pub loop-instruction-smaller : goal.loop-instruction-smaller
+loop-instruction-smaller c =
+    let laws = c.machine_laws.ensures in
+    let few : c.loop-instruction.steps < most_steps c.args.image.now c.args.budget =
+    still_few c.args.image.now c.args.budget c.loop-instruction.steps _ _ _ laws.over_in_time laws.stays_over c.requires.keeps c.loop-instruction.invariant.stands in
+    omega (arith, few)
+
+pub overflow_add-next : goal.overflow_add-next
+overflow_add-next c =
+    let code = c.args.image.now.code in
+    let found : instruction_at code c.loop-instruction.address ≡ Some c.in-Some.instruction =
+    found_there c.args.image.now _ c.loop-instruction.address (Some c.in-Some.instruction) (c.deref.ensures.value ∙ c.loop-instruction.invariant.code) (sym c.begun_at.ensures ∙ c.in-Some.is) in
+    let within = at_within code c.loop-instruction.address c.in-Some.instruction found in
+    omega (arith, within, c.requires.small, c.width.ensures)
+
+pub returns-in_default-clause-course : goal.returns-in_default-clause-course
+returns-in_default-clause-course c =
+    let laws = c.machine_laws.ensures in
     let image = c.args.image.now in
-    let first = start image [] c.args.budget in
+    let steps = c.loop-instruction.steps in
+    let none = found_there image _ c.loop-instruction.address None (c.deref.ensures.value ∙ c.loop-instruction.invariant.code) (sym c.begun_at.ensures ∙ c.in_default.is) in
+    let over = stuck_on image c.args.budget steps c.loop-instruction.address c.loop-instruction.machine laws.step_by_step c.loop-instruction.invariant.stands none in
+    is_course image c.args.budget steps halt.Stuck c.loop-instruction.machine c.ended.result laws.stays_over
+    (is_stop image c.args.budget steps c.loop-instruction.address c.loop-instruction.machine halt.Stuck c.loop-instruction.machine c.ended.result
+    laws.over_in_time laws.stays_over laws.step_by_step c.requires.keeps c.loop-instruction.invariant.stands over c.ended.ensures)
+
+pub returns-in_default-clause-steps : goal.returns-in_default-clause-steps
+returns-in_default-clause-steps c =
+    let laws = c.machine_laws.ensures in
+    let image = c.args.image.now in
+    let steps = c.loop-instruction.steps in
+    let none = found_there image _ c.loop-instruction.address None (c.deref.ensures.value ∙ c.loop-instruction.invariant.code) (sym c.begun_at.ensures ∙ c.in_default.is) in
+    let over = stuck_on image c.args.budget steps c.loop-instruction.address c.loop-instruction.machine laws.step_by_step c.loop-instruction.invariant.stands none in
+    few_steps image c.args.budget steps halt.Stuck c.loop-instruction.machine c.ended.result laws.few_steps c.requires.keeps
+    (is_stop image c.args.budget steps c.loop-instruction.address c.loop-instruction.machine halt.Stuck c.loop-instruction.machine c.ended.result
+    laws.over_in_time laws.stays_over laws.step_by_step c.requires.keeps c.loop-instruction.invariant.stands over c.ended.ensures)
+
+pub returns-in-Halts-clause-course : goal.returns-in-Halts-clause-course
+returns-in-Halts-clause-course c =
+    let laws = c.machine_laws.ensures in
+    let image = c.args.image.now in
+    let steps = c.loop-instruction.steps in
+    let found : instruction_at image.code c.loop-instruction.address ≡ Some c.in-Some.instruction =
+    found_there image _ c.loop-instruction.address (Some c.in-Some.instruction) (c.deref.ensures.value ∙ c.loop-instruction.invariant.code) (sym c.begun_at.ensures ∙ c.in-Some.is) in
+    let over = leads_on image c.args.budget steps c.loop-instruction.address c.loop-instruction.machine c.in-Some.instruction (Halts c.in-Halts.halt) c.step.new.self laws.step_by_step c.loop-instruction.invariant.stands found
+    (rw c.in-Halts.is at c.in_ok-step.ensures) in
+    is_course image c.args.budget steps c.in-Halts.halt c.step.new.self c.ended-in-Halts.result laws.stays_over
+    (is_stop image c.args.budget steps c.loop-instruction.address c.loop-instruction.machine c.in-Halts.halt c.step.new.self c.ended-in-Halts.result
+    laws.over_in_time laws.stays_over laws.step_by_step c.requires.keeps c.loop-instruction.invariant.stands over c.ended-in-Halts.ensures)
+
+pub returns-in-Halts-clause-steps : goal.returns-in-Halts-clause-steps
+returns-in-Halts-clause-steps c =
+    let laws = c.machine_laws.ensures in
+    let image = c.args.image.now in
+    let steps = c.loop-instruction.steps in
+    let found : instruction_at image.code c.loop-instruction.address ≡ Some c.in-Some.instruction =
+    found_there image _ c.loop-instruction.address (Some c.in-Some.instruction) (c.deref.ensures.value ∙ c.loop-instruction.invariant.code) (sym c.begun_at.ensures ∙ c.in-Some.is) in
+    let over = leads_on image c.args.budget steps c.loop-instruction.address c.loop-instruction.machine c.in-Some.instruction (Halts c.in-Halts.halt) c.step.new.self laws.step_by_step c.loop-instruction.invariant.stands found
+    (rw c.in-Halts.is at c.in_ok-step.ensures) in
+    few_steps image c.args.budget steps c.in-Halts.halt c.step.new.self c.ended-in-Halts.result laws.few_steps c.requires.keeps
+    (is_stop image c.args.budget steps c.loop-instruction.address c.loop-instruction.machine c.in-Halts.halt c.step.new.self c.ended-in-Halts.result
+    laws.over_in_time laws.stays_over laws.step_by_step c.requires.keeps c.loop-instruction.invariant.stands over c.ended-in-Halts.ensures)
+
+pub loop-instruction-preserved : goal.loop-instruction-preserved
+loop-instruction-preserved c =
+    let laws = c.machine_laws.ensures in
+    let image = c.args.image.now in
+    let found : instruction_at image.code c.loop-instruction.address ≡ Some c.in-Some.instruction =
+    found_there image _ c.loop-instruction.address (Some c.in-Some.instruction) (c.deref.ensures.value ∙ c.loop-instruction.invariant.code) (sym c.begun_at.ensures ∙ c.in-Some.is) in
     record {
-      stands = one_step image first c.as_slice-instruction-items.result.now c.loop-place.place Tick
-          c.loop-place.machine.frame c.loop-place.machine.state None c.step.new.self
-          c.as_slice-instruction-items.ensures c.loop-place-test.true c.loop-place.invariant.stands (rw c.in_default.is at c.in_ok-halt.ensures);
-      steps = one_step_more image first c.loop-place.place _ _ _ c.loop-place.invariant.stands c.loop-place.invariant.steps;
+      code = c.loop-instruction.invariant.code;
+      stands = elim c.match-branch-4.branch [
+        in-Goes w ↦
+          leads_on image c.args.budget c.loop-instruction.steps c.loop-instruction.address c.loop-instruction.machine c.in-Some.instruction Goes c.step.new.self
+          laws.step_by_step c.loop-instruction.invariant.stands found (rw w.in-Goes.is at c.in_ok-step.ensures)
+          ∙ ap (λ address. At address c.step.new.self.frame c.step.new.self.state) (ap (λ wide. c.loop-instruction.address + wide) (sym c.width.ensures) ∙ sym w.address-is)
+        | in-Jumps w ↦
+          leads_on image c.args.budget c.loop-instruction.steps c.loop-instruction.address c.loop-instruction.machine c.in-Some.instruction Jumps c.step.new.self
+          laws.step_by_step c.loop-instruction.invariant.stands found (rw w.in-Jumps.is at c.in_ok-step.ensures)
+          ∙ ap (λ address. At address c.step.new.self.frame c.step.new.self.state)
+          (ap (λ wide. target c.in-Some.instruction (c.loop-instruction.address + wide)) (sym c.width.ensures) ∙ sym w.target-address.ensures ∙ sym w.address-is)
+      ];
     }
-
-pub unreachable-requires : goal.unreachable-requires
-unreachable-requires c =
-    let same = ap (λ code. length code) c.as_slice-instruction-items.ensures in
-    let end = c.loop-place.auto.place-end in
-    let past = c.loop-place-test.false in
-    never_over c.args.image.now c.requires c.args.budget c.loop-place.place _ _ _ (omega (arith, same, end, past)) c.loop-place.invariant.stands

@@ -1,11 +1,14 @@
--- the machine stands where so many steps lead from the beginning
-use Rattle.std.proofs.Common.{◌≡◌, take, []}
-use Rattle.mos_meaning.specs.Machine.{At, run, steps_taken, start}
-use Rattle.mosel_run.proofs.Standing.{after}
+-- the machine stands where so many steps lead from the beginning, and fewer are left
+use Rattle.std.proofs.Common.{◌≡◌, ◌-◌, []}
+use Rattle.mos_meaning.specs.Machine.{At, run, start, most_steps}
+use Rattle.mosel_run.specs.Spread.{spread}
 use Rattle.mosel_run.proofs.runner.run.Given as goal
 
-abbrev pub invariant-loop-place : goal.invariant-loop-place
-invariant-loop-place l = record {
-  stands : run l.image l.place (start l.image [] l.budget) ≡ At (after 0 (take l.place l.image.code)) l.machine.frame l.machine.state;
-  steps : steps_taken l.image l.place (start l.image [] l.budget) ≡ l.place;
+abbrev pub invariant-loop-instruction : goal.invariant-loop-instruction
+invariant-loop-instruction l = record {
+  code : l.code.items ≡ spread l.image.code;
+  stands : run l.image l.steps (start l.image [] l.budget) ≡ At l.address l.machine.frame l.machine.state;
 }
+
+abbrev pub decreases-loop-instruction : goal.decreases-loop-instruction
+decreases-loop-instruction l = most_steps l.image l.budget - l.steps

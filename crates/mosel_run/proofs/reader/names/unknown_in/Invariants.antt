@@ -2,7 +2,7 @@ use Rattle.std.proofs.Common.{◌≡◌}
 use Rattle.std.specs.Prelude.{option_copied}
 use Rattle.mos_meaning.specs.Syntax.{expression}
 use Rattle.mosel_run.specs.Chains.{IsChain}
-use Rattle.mosel_run.specs.Sizes.{size_of}
+use Rattle.bim_compile.specs.Sizes.{size_of}
 use Rattle.mosel_run.specs.UnknownNames.{or_other, unknown_in}
 use Rattle.mosel_run.proofs.reader.names.unknown_in.Given as goal
 
