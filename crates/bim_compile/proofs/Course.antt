@@ -1,6 +1,6 @@
 -- The course of a model's image is the model's meaning.
 
-use Rattle.std.proofs.Common.{◌≡◌, ℕ, ◌+◌, pos, List, [], ◌∷◌, ◌++◌, length, Option, Some, None, refl, sym, ap, ◌∙◌, subst}
+use Rattle.std.proofs.Common.{◌≡◌, ℕ, ◌+◌, pos, List, [], ◌∷◌, length, Some, refl, sym, ap, ◌∙◌, subst}
 use Rattle.std.proofs.lemmas.List.{length-replicate}
 use Rattle.job_calls.specs.declared.reply.Reply.{Reply}
 use Rattle.bim_code.specs.declared.image.Image.{Image}
@@ -10,7 +10,7 @@ use Rattle.mos_meaning.specs.State.{State, Stop, Exited, beginning}
 use Rattle.mos_meaning.specs.Syntax.{Block, variables_of}
 use Rattle.mos_meaning.specs.Effects.{Done, Goes, Broke, Continues, Ends, effects_of}
 use Rattle.mos_meaning.specs.Meaning.{told, told_done, defaults, meaning_of}
-use Rattle.mos_meaning.specs.Machine.{Machine, At, Over, run, start, most_steps, told_machine, course_of}
+use Rattle.mos_meaning.specs.Machine.{Machine, At, Over, start, most_steps, told_machine}
 use Rattle.mos_meaning.specs.MachineLaws.{OverInTime, TicksFall, OneEnd}
 use Rattle.bim_compile.specs.Compiled.{block_code, block_end, image_of}
 use Rattle.bim_compile.specs.Built.{IsBuiltBlock}

@@ -1,28 +1,27 @@
 -- The code of a statement does what the statement does, and lands behind itself, where `break` and `next`
 -- lead, or stops as it does.
 
-use Rattle.std.proofs.Common.{◌≡◌, ℕ, ◌+◌, suc, ℤ, List, [], ◌∷◌, ◌++◌, length, Option, Some, None, Bool, true, false, refl, sym, ap, ◌∙◌, slice_get, slice_set, subst, nat_lt, append_assoc, arith}
+use Rattle.std.proofs.Common.{◌≡◌, ℕ, ◌+◌, suc, List, [], ◌∷◌, ◌++◌, length, Option, Some, None, Bool, true, false, refl, sym, ap, slice_get, slice_set, nat_lt, arith}
 use Rattle.std.specs.Prelude.{if◌then◌else◌}
 use Rattle.mos_text.specs.declared.scalar.Scalar.{Scalar}
-use Rattle.mos_text.specs.declared.scalar.Scalar.TheVariants.{Int, Bool as Truth, Str}
+use Rattle.mos_text.specs.declared.scalar.Scalar.TheVariants.{Bool as Truth, Str}
 use Rattle.mos_text.specs.declared.fault_kind.FaultKind.TheVariants.{TooBig, OutFull}
 use Rattle.bim_code.specs.declared.image.Image.{Image}
-use Rattle.bim_code.specs.declared.instruction.Instruction.{Instruction}
-use Rattle.bim_code.specs.declared.instruction.Instruction.TheVariants.{Tick, PushBool, LoadGlobal, StoreGlobal, Swap, Add, Subtract, Jump, JumpIf, JumpNot, Show, Write, Line}
+use Rattle.bim_code.specs.declared.instruction.Instruction.TheVariants.{PushBool, LoadGlobal, StoreGlobal, Swap, Add, Subtract, Jump, JumpIf, JumpNot, Show, Write, Line}
 use Rattle.bim_code.specs.Code.{instruction_at}
-use Rattle.mos_meaning.specs.State.{Memory, State, Failed, Got, Stuck}
+use Rattle.mos_meaning.specs.State.{Memory, State, Failed, Stuck}
 use Rattle.mos_meaning.specs.Values.{sum_of, difference_of, shown, line_end, written}
 use Rattle.mos_meaning.specs.Syntax.{Arguments, nothing, one_more, Change, increase, decrease, Effect, assign, change, write, choose, loop, group, leave, skip, unbuilt_effect, Branches, otherwise, branch, Block, done, first}
-use Rattle.mos_meaning.specs.Effects.{place_of, value_of, combined, change_operator, Done, Goes, Broke, Continues, Ends, do_with, put, put_written, do_shown, do_loaded, change_by, write_all, do_truth, passes, effect_of, branch_of, effects_of}
+use Rattle.mos_meaning.specs.Effects.{place_of, value_of, combined, change_operator, Done, Goes, Broke, Continues, Ends, do_with, put, put_written, do_shown, do_loaded, change_by, write_all, passes, effect_of, branch_of, effects_of}
 use Rattle.mos_meaning.specs.MachineLaws.{TicksFall}
-use Rattle.mos_meaning.specs.Machine.{Machine, At, Over, Frame, On, Stops, pushed, settle, stored, on_some, or_fault as act_or_fault}
+use Rattle.mos_meaning.specs.Machine.{At, Over, Frame, On, Stops, pushed, settle, stored, on_some, or_fault as act_or_fault}
 use Rattle.bim_compile.specs.Compiled.{texts_in, texts_in_all, texts_in_effect, texts_in_branches, texts_in_block, expression_code, expression_end, arguments_code, arguments_end, change_code, effect_code, effect_end, branches_code, branches_end, block_code, block_end}
 use Rattle.bim_compile.specs.Built.{AreBuilt, IsBuiltEffect, AreBuiltBranches, IsBuiltBlock}
-use Rattle.bim_compile.proofs.Leads.{Leads, same, chain, then_one}
+use Rattle.bim_compile.proofs.Leads.{Leads, same, then_one}
 use Rattle.bim_compile.proofs.Standing.{HasAt, HasTexts, text_parts}
 use Rattle.bim_compile.proofs.EndLemmas.{expression_after, arguments_after, effect_after, block_after, cut_at}
-use Rattle.bim_compile.proofs.ExpressionRuns.{push, one_gives_on, operates, expression_runs}
-use Rattle.bim_compile.proofs.Passes.{idle, land, Runs, then_with, then_on, like, ending, then_tick, then_not, then_jump, Loop, passes_run}
+use Rattle.bim_compile.proofs.ExpressionRuns.{one_gives_on, operates, expression_runs}
+use Rattle.bim_compile.proofs.Passes.{idle, land, Runs, then_with, then_on, like, ending, then_tick, then_not, then_jump, passes_run}
 
 abbrev pub holding : List ℕ → Frame
 holding held = record { stack = []; held = held }
@@ -64,6 +63,7 @@ changes image how place address out next value s h =
         (operates difference_of (address + 5 + 1 + 1) (address + 5 + 1 + 1) idle old value s))
         (λ new s1. then_one image (StoreGlobal place) (address + 5 + 1 + 1) (pushed new idle) s1 _ k.1.0
         (ending image _ _ (stores (address + 5 + 1 + 1 + 5) out next (address + 5 + 1 + 1 + 5) place new s1)))
+
     loaded : (found : Option Scalar) (how : Change) → HasAt image.code (address + 5) (Swap ∷ change_code how ∷ StoreGlobal place ∷ [])
         → Leads image (settle (on_some found (λ old. On (pushed old (pushed value idle)) s.memory)) (address + 5) (address + 5) s)
         (land (address + 5 + 1 + 1 + 5) out next (do_loaded found s (λ old. do_with (combined (change_operator how) old value s) (λ new s1. put place new s1))))

@@ -1,8 +1,8 @@
 -- The code of a form ends where the form's end is said to be.
 
-use Rattle.std.proofs.Common.{◌≡◌, ℕ, ◌+◌, List, [], ◌∷◌, ◌++◌, length, refl, sym, ap, ◌∙◌, subst}
+use Rattle.std.proofs.Common.{◌≡◌, ℕ, ◌+◌, List, [], ◌∷◌, ◌++◌, length, refl, ap, ◌∙◌, subst}
 use Rattle.bim_code.specs.declared.instruction.Instruction.{Instruction}
-use Rattle.bim_code.specs.declared.instruction.Instruction.TheVariants.{Tick, PushBool, LoadGlobal, StoreGlobal, Swap, Add, Subtract, Compare, Jump, JumpIf, JumpNot, Show, Write, Line}
+use Rattle.bim_code.specs.declared.instruction.Instruction.TheVariants.{PushBool, LoadGlobal, StoreGlobal, Swap, Jump, JumpIf, JumpNot, Show, Write, Line}
 use Rattle.mos_meaning.specs.Syntax.{Operator, plus, minus, compare, Expression, number, text, truth, name, apply, unbuilt, Arguments, nothing, one_more, Change, increase, decrease, Effect, assign, change, write, choose, loop, group, leave, skip, unbuilt_effect, Branches, otherwise, branch, Block, done, first}
 use Rattle.mos_meaning.specs.Effects.{place_of}
 use Rattle.bim_compile.specs.Compiled.{texts_in, texts_in_effect, texts_in_block, expression_code, expression_end, arguments_code, arguments_end, operator_code, change_code, effect_code, effect_end, branches_code, branches_end, block_code, block_end}

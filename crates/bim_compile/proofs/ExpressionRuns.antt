@@ -6,11 +6,10 @@ use Rattle.mos_text.specs.declared.scalar.Scalar.TheVariants.{Int, Bool as Truth
 use Rattle.mos_text.specs.declared.fault_kind.FaultKind.TheVariants.{Overflow, TooBig}
 use Rattle.bim_code.specs.declared.image.Image.{Image}
 use Rattle.bim_code.specs.declared.instruction.Instruction.{Instruction}
-use Rattle.bim_code.specs.declared.instruction.Instruction.TheVariants.{PushInt, PushBool, PushText, LoadGlobal, Add, Subtract, Compare}
-use Rattle.bim_code.specs.declared.instruction.Comparison.{Comparison}
+use Rattle.bim_code.specs.declared.instruction.Instruction.TheVariants.{PushInt, PushBool, PushText, LoadGlobal}
 use Rattle.bim_code.specs.Rows.{width}
 use Rattle.bim_code.specs.Code.{instruction_at}
-use Rattle.mos_meaning.specs.State.{Memory, State, Got, Gave, Halts, Stuck}
+use Rattle.mos_meaning.specs.State.{State, Got, Gave, Halts, Stuck}
 use Rattle.mos_meaning.specs.Values.{sum_of, difference_of, compared, limited}
 use Rattle.mos_meaning.specs.Syntax.{Operator, plus, minus, compare, Expression, number, text, truth, name, apply, unbuilt}
 use Rattle.mos_meaning.specs.Effects.{place_of, give, or_fault, or_stuck, combined, told_truth, applied, value_of}

@@ -1,12 +1,12 @@
 -- The machine leads from one of its states to another.
 
-use Rattle.std.proofs.Common.{◌≡◌, ◌≤◌, ℕ, ◌+◌, suc, zero, Option, Some, refl, sym, ap, subst, arith}
+use Rattle.std.proofs.Common.{◌≡◌, ◌≤◌, ℕ, ◌+◌, suc, zero, Some, refl, sym, ap, subst, arith}
 use Rattle.bim_code.specs.declared.image.Image.{Image}
 use Rattle.bim_code.specs.declared.instruction.Instruction.{Instruction}
 use Rattle.bim_code.specs.Rows.{width}
 use Rattle.bim_code.specs.Code.{instruction_at}
-use Rattle.mos_meaning.specs.State.{State, Stop}
-use Rattle.mos_meaning.specs.Machine.{Machine, At, Over, Frame, act, target, settle, decoded, step, run}
+use Rattle.mos_meaning.specs.State.{State}
+use Rattle.mos_meaning.specs.Machine.{Machine, At, Frame, act, target, settle, decoded, step, run}
 use Rattle.mos_meaning.specs.MachineLaws.{TicksFall, ticks_left}
 
 -- some number of steps leads from one state to the other

@@ -11,14 +11,13 @@ use Rattle.mos_text.specs.declared.scalar.Scalar.{Scalar}
 use Rattle.mos_text.specs.declared.scalar.Scalar.TheVariants.{Int, Bool as Truth, Str, Model, Event}
 use Rattle.mos_text.specs.declared.fault_kind.FaultKind.{FaultKind}
 use Rattle.mos_text.specs.declared.fault_kind.FaultKind.TheVariants.{TooBig, OutFull, Overflow}
-use Rattle.job_calls.specs.declared.reply.Reply.{Reply}
 use Rattle.bim_code.specs.declared.instruction.Comparison.{Comparison}
 use Rattle.bim_code.specs.declared.instruction.Comparison.TheVariants.{Equal, NotEqual, Less, AtMost, Greater, AtLeast}
 use Rattle.mos_meaning.specs.State.{State, Stop, Failed, Spent, Stuck, Got, Gave, Halts, ticked}
 use Rattle.mos_meaning.specs.Values.{limited, shown, line_end, sum_of, difference_of, compared}
-use Rattle.mos_meaning.specs.Syntax.{plus, minus, compare, Expression, number, text, truth, name, apply, unbuilt, Arguments, nothing, one_more, Change, increase, decrease, Effect, assign, change, write, choose, loop, group, leave, skip, unbuilt_effect, Branches, otherwise, branch, Block, done, first, has_name, variables_of}
+use Rattle.mos_meaning.specs.Syntax.{plus, minus, compare, Expression, number, text, truth, name, apply, unbuilt, Arguments, nothing, one_more, Change, Effect, assign, change, write, choose, loop, group, leave, skip, unbuilt_effect, Branches, otherwise, branch, Block, done, first, has_name, variables_of}
 use Rattle.mos_meaning.specs.Effects.{Done, Goes, Broke, Continues, Ends, give, or_fault, or_stuck, combined, told_truth, change_operator, value_of, place_of, do_with, then_do, do_ticked, do_shown, do_loaded, do_truth, put, put_written, change_by, after_pass, passes, write_all, effect_of, branch_of, effects_of}
-use Rattle.mos_meaning.specs.Meaning.{meaning_of, told_done}
+use Rattle.mos_meaning.specs.Meaning.{told_done}
 use Rattle.bim_compile.specs.Working.{IsNumeric, IsShown, IsCondition, AreShown, Works, BranchesWork, AllWork}
 use Rattle.bim_compile.specs.Means.{NeverStuck}
 
@@ -95,6 +94,7 @@ fine_condition names (apply (compare how) a b) s sound h = first_is (value_of na
     second_is : (m : ℤ) (got : Got) → FineValue s got → FineTruth s (give got (λ y s2. told_truth (compared how (Int m) y) s2))
     second_is m _ (gives n) = fine_compared how m n s
     second_is m _ (halts stop after why) = fails stop after why
+
     first_is : (got : Got) → FineValue s got → FineTruth s (give got (λ x s1. give (value_of names b s1) (λ y s2. told_truth (compared how x y) s2)))
     first_is _ (gives m) = second_is m (value_of names b s) (fine_value names b s sound h.1)
     first_is _ (halts stop after why) = fails stop after why
@@ -166,6 +166,7 @@ fine_change names most place how n s within sound less =
     made : (found : Option ℤ) → Fine names most (do_with (or_fault Overflow found Int s) (λ new s1. put place new s1))
     made None = failed names most Overflow s
     made (Some m) = fine_put names most place m s within sound less
+
     loaded : (found : Option Scalar) (old : Scalar) → found ≡ Some old → IsInt old
         → Fine names most (do_loaded found s (λ old. do_with (combined (change_operator how) old (Int n) s) (λ new s1. put place new s1)))
     loaded found (Int m) e h =

@@ -1,12 +1,12 @@
 -- Where statements land, and the passes of a loop.
 
-use Rattle.std.proofs.Common.{◌≡◌, ◌<◌, ◌≤◌, ℕ, ◌+◌, zero, suc, [], Option, Some, None, Bool, true, false, refl, sym, subst, arith}
+use Rattle.std.proofs.Common.{◌≡◌, ◌<◌, ◌≤◌, ℕ, ◌+◌, zero, suc, [], Option, Some, None, true, false, refl, sym, subst, arith}
 use Rattle.mos_text.specs.declared.scalar.Scalar.{Scalar}
 use Rattle.mos_text.specs.declared.scalar.Scalar.TheVariants.{Int, Bool as Truth, Str, Model, Event}
 use Rattle.bim_code.specs.declared.image.Image.{Image}
 use Rattle.bim_code.specs.declared.instruction.Instruction.TheVariants.{Tick, JumpIf, JumpNot, Jump}
 use Rattle.bim_code.specs.Code.{instruction_at}
-use Rattle.mos_meaning.specs.State.{State, Stop, Got, Gave, Halts, Spent, Stuck, ticked}
+use Rattle.mos_meaning.specs.State.{State, Got, Gave, Halts, Spent, Stuck, ticked}
 use Rattle.mos_meaning.specs.Effects.{Done, Goes, Broke, Continues, Ends, do_with, then_do, do_ticked, tick_do, do_truth, after_pass, passes}
 use Rattle.mos_meaning.specs.MachineLaws.{TicksFall}
 use Rattle.mos_meaning.specs.Machine.{Machine, At, Over, Frame, pushed, tick_to}
@@ -147,6 +147,7 @@ passes_run image test last pass out next condition body l (suc n) s less =
         chain image (At (pass + 1) idle later) (At test idle s3) _ p
         (more s3 (omega (arith, falls, fewer, few, less)))
     again more s1 later fewer few (Ends stop s3) p = p
+
     tested : (g : Got) → Leads image (At test idle s) (push last idle g) → FewerPasses image test last out next n condition body
         → Leads image (At test idle s)
         (land (last + 5) out next (do_with g (λ c s1. do_truth c s1 (tick_do s1 (λ s2. after_pass (passes n condition body) (body s2))) (Goes s1))))

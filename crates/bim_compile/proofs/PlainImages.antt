@@ -1,7 +1,7 @@
 -- The image of a model whose statements work is plain.
 
 use Rattle.std.proofs.Common.{◌≡◌, ◌<◌, ◌^◌, ◌+◌, ℕ, pos, List, [], ◌∷◌, ◌++◌, length, refl, arith, length-append, rules}
-use Rattle.std.specs.Prelude.{All, FitsSigned, true}
+use Rattle.std.specs.Prelude.{All, FitsSigned}
 use Rattle.std.specs.Int.{w32}
 use Rattle.std.proofs.lemmas.List.Elements.{All-nil, All-cons, All-append, All-replicate}
 use Rattle.bim_code.specs.declared.instruction.Instruction.{Instruction}

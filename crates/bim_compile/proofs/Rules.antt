@@ -1,10 +1,10 @@
 -- Every jump of a model's code leads forward, or back to a tick.
 
-use Rattle.std.proofs.Common.{◌≡◌, ◌≤◌, ◌<◌, ℕ, ◌+◌, suc, pos, Bool, true, false, List, [], ◌∷◌, ◌++◌, length, Option, Some, None, refl, sym, ap, ◌∙◌, subst, nat_eq, length-append, arith}
+use Rattle.std.proofs.Common.{◌≡◌, ◌≤◌, ◌<◌, ℕ, ◌+◌, pos, Bool, true, false, List, [], ◌∷◌, ◌++◌, length, Some, refl, sym, subst, nat_eq, length-append, arith}
 use Rattle.std.specs.Prelude.{if◌then◌else◌}
 use Rattle.std.proofs.lemmas.Bool.Decides.{nat_tests}
 use Rattle.bim_code.specs.declared.instruction.Instruction.{Instruction}
-use Rattle.bim_code.specs.declared.instruction.Instruction.TheVariants.{Tick, PushInt, PushBool, PushText, LoadGlobal, StoreGlobal, Swap, Add, Subtract, Compare, Jump, JumpIf, JumpNot, Show, Write, Line, End}
+use Rattle.bim_code.specs.declared.instruction.Instruction.TheVariants.{Tick, PushInt, PushBool, LoadGlobal, StoreGlobal, Swap, Jump, JumpIf, JumpNot, Show, Write, Line, End}
 use Rattle.bim_code.specs.Rows.{width}
 use Rattle.bim_code.specs.Code.{instruction_at, instruction_from}
 use Rattle.mos_meaning.specs.Syntax.{Operator, plus, minus, compare, Expression, number, text, truth, name, apply, unbuilt, Arguments, nothing, one_more, Change, increase, decrease, Effect, assign, change, write, choose, loop, group, leave, skip, unbuilt_effect, Branches, otherwise, branch, Block, done, first, variables_of}
@@ -12,8 +12,8 @@ use Rattle.mos_meaning.specs.Effects.{place_of}
 use Rattle.mos_meaning.specs.Machine.{target}
 use Rattle.mos_meaning.specs.MachineLaws.{KeepsTicks}
 use Rattle.bim_compile.specs.Compiled.{texts_in, texts_in_effect, texts_in_block, expression_code, expression_end, arguments_code, arguments_end, operator_code, change_code, effect_code, effect_end, branches_code, branches_end, block_code, block_end, image_of}
-use Rattle.bim_compile.proofs.Standing.{HasAt, after, after-append, parts, whole}
-use Rattle.bim_compile.proofs.EndLemmas.{expression_after, arguments_after, effect_after, branches_after, block_after, cut_at}
+use Rattle.bim_compile.proofs.Standing.{HasAt, after, whole}
+use Rattle.bim_compile.proofs.EndLemmas.{expression_after, arguments_after, effect_after, block_after, cut_at}
 
 -- forward, or back to a tick
 abbrev IsFair : List Instruction → ℕ → Instruction → Type 0
@@ -103,16 +103,22 @@ mutual
   effect_fair : (code : List Instruction) (names : List (List ℕ)) (k at out next : ℕ) (e : Effect)
       → HasAt code at (effect_code names k at out next e) → effect_end at e ≤ out → effect_end at e ≤ next
       → AreFair code at (effect_code names k at out next e)
-  effect_fair code names k at out next (assign n e) h o x =
-      (λ t. absurd (omega (arith, t)), fair_append code (at + 1) (expression_end (at + 1) e) (expression_code names k e) (StoreGlobal (place_of n names) ∷ [])
-      (expression_after names k (at + 1) e) (expression_fair code names k (at + 1) e) (λ t. absurd (omega (arith, t)), tt))
-  effect_fair code names k at out next (change how n e) h o x =
-      (λ t. absurd (omega (arith, t)), fair_append code (at + 1) (expression_end (at + 1) e) (expression_code names k e)
-      (LoadGlobal (place_of n names) ∷ Swap ∷ change_code how ∷ StoreGlobal (place_of n names) ∷ [])
-      (expression_after names k (at + 1) e) (expression_fair code names k (at + 1) e) (change_fair code (expression_end (at + 1) e) (place_of n names) how))
-  effect_fair code names k at out next (write newline all) h o x =
-      (λ t. absurd (omega (arith, t)), fair_append code (at + 1) (arguments_end (at + 1) all) (arguments_code names k all) (PushBool newline ∷ Line ∷ [])
-      (arguments_after names k (at + 1) all) (arguments_fair code names k (at + 1) all) (λ t. absurd (omega (arith, t)), (λ t. absurd (omega (arith, t)), tt)))
+  effect_fair code names k at out next (assign n e) h o x = (
+    λ t. absurd (omega (arith, t)),
+    fair_append code (at + 1) (expression_end (at + 1) e) (expression_code names k e) (StoreGlobal (place_of n names) ∷ [])
+        (expression_after names k (at + 1) e) (expression_fair code names k (at + 1) e) (λ t. absurd (omega (arith, t)), tt),
+  )
+  effect_fair code names k at out next (change how n e) h o x = (
+    λ t. absurd (omega (arith, t)),
+    fair_append code (at + 1) (expression_end (at + 1) e) (expression_code names k e)
+        (LoadGlobal (place_of n names) ∷ Swap ∷ change_code how ∷ StoreGlobal (place_of n names) ∷ [])
+        (expression_after names k (at + 1) e) (expression_fair code names k (at + 1) e) (change_fair code (expression_end (at + 1) e) (place_of n names) how),
+  )
+  effect_fair code names k at out next (write newline all) h o x = (
+    λ t. absurd (omega (arith, t)),
+    fair_append code (at + 1) (arguments_end (at + 1) all) (arguments_code names k all) (PushBool newline ∷ Line ∷ [])
+        (arguments_after names k (at + 1) all) (arguments_fair code names k (at + 1) all) (λ t. absurd (omega (arith, t)), (λ t. absurd (omega (arith, t)), tt)),
+  )
   effect_fair code names k at out next (choose all) h o x =
       (λ t. absurd (omega (arith, t)), branches_fair code names k (at + 1) out next all h.1 o x)
   effect_fair code names k at out next (loop e body) h o x =
@@ -123,12 +129,19 @@ mutual
       let inner = effect_code names k (pass + 1) (last + 5) test body in
       let cuts = cut_at code (pass + 1) test inner (expression_code names l e ++ JumpIf pass ∷ []) (effect_after names k (pass + 1) (last + 5) test body) h.1.1.1 in
       let above = effect_above (pass + 1) body in
-      let later = expression_above test e in
-      (λ t. absurd (omega (arith, t)), (λ t. absurd (omega (arith, t, above)), (λ t. absurd (omega (arith, t)),
-      fair_append code (pass + 1) test inner (expression_code names l e ++ JumpIf pass ∷ []) (effect_after names k (pass + 1) (last + 5) test body)
-      (effect_fair code names k (pass + 1) (last + 5) test body cuts.0 (omega (arith, later)) (omega arith))
-      (fair_append code test last (expression_code names l e) (JumpIf pass ∷ []) (expression_after names l test e) (expression_fair code names l test e)
-      (λ t. h.1.1.0, tt)))))
+      let later = expression_above test e in (
+        λ t. absurd (omega (arith, t)),
+        (
+          λ t. absurd (omega (arith, t, above)),
+          (
+            λ t. absurd (omega (arith, t)),
+            fair_append code (pass + 1) test inner (expression_code names l e ++ JumpIf pass ∷ []) (effect_after names k (pass + 1) (last + 5) test body)
+                (effect_fair code names k (pass + 1) (last + 5) test body cuts.0 (omega (arith, later)) (omega arith))
+                (fair_append code test last (expression_code names l e) (JumpIf pass ∷ []) (expression_after names l test e) (expression_fair code names l test e)
+                (λ t. h.1.1.0, tt)),
+          ),
+        ),
+      )
   effect_fair code names k at out next (group all) h o x = block_fair code names k at out next all h o x
   effect_fair code names k at out next leave h o x = (λ t. absurd (omega (arith, t)), (λ t. absurd (omega (arith, t, o)), tt))
   effect_fair code names k at out next skip h o x = (λ t. absurd (omega (arith, t)), (λ t. absurd (omega (arith, t, x)), tt))
@@ -152,10 +165,12 @@ mutual
       let ends = cut_at code body jump inner (Jump end ∷ later) (block_after names l body out next all) cuts.1.1 in
       let above = block_above body all in
       let more = branches_above other rest in
-      fair_append code at behind (expression_code names k e) (JumpNot other ∷ (inner ++ Jump end ∷ later)) (expression_after names k at e) (expression_fair code names k at e)
-      (λ t. absurd (omega (arith, t, above)), fair_append code body jump inner (Jump end ∷ later) (block_after names l body out next all)
-      (block_fair code names l body out next all ends.0 (omega (arith, o, more)) (omega (arith, x, more)))
-      (λ t. absurd (omega (arith, t, more)), branches_fair code names m other out next rest ends.1.1 o x))
+      fair_append code at behind (expression_code names k e) (JumpNot other ∷ (inner ++ Jump end ∷ later)) (expression_after names k at e) (expression_fair code names k at e) (
+        λ t. absurd (omega (arith, t, above)),
+        fair_append code body jump inner (Jump end ∷ later) (block_after names l body out next all)
+            (block_fair code names l body out next all ends.0 (omega (arith, o, more)) (omega (arith, x, more)))
+            (λ t. absurd (omega (arith, t, more)), branches_fair code names m other out next rest ends.1.1 o x),
+      )
 
   block_fair : (code : List Instruction) (names : List (List ℕ)) (k at out next : ℕ) (all : Block)
       → HasAt code at (block_code names k at out next all) → block_end at all ≤ out → block_end at all ≤ next

@@ -6,14 +6,13 @@ use Rattle.std.proofs.lemmas.List.{length-replicate}
 use Rattle.std.proofs.lemmas.List.Elements.{All-nil}
 use Rattle.bim_code.specs.declared.image.ImageType.{ImageType}
 use Rattle.bim_code.specs.declared.instruction.Instruction.{Instruction}
-use Rattle.bim_code.specs.declared.instruction.Instruction.TheVariants.{Tick, PushInt, PushBool, LoadGlobal, StoreGlobal, Swap, Jump, JumpIf, JumpNot, Line, Show, Write, End}
+use Rattle.bim_code.specs.declared.instruction.Instruction.TheVariants.{PushInt, End}
 use Rattle.bim_code.specs.declared.image.ImageType.TheVariants.{Integer}
 use Rattle.bim_code.specs.Code.{code_size}
 use Rattle.bim_code.specs.Rows.{width}
 use Rattle.bim_code.specs.Limits.{FitsFields, TypeFits}
-use Rattle.mos_meaning.specs.Syntax.{Operator, plus, minus, compare, Expression, number, text, truth, name, apply, unbuilt, Arguments, nothing, one_more, Change, increase, decrease, Effect, assign, change, write, choose, loop, group, leave, skip, unbuilt_effect, Branches, otherwise, branch, Block, done, first, has_name, with_name, names_after, names_in_branches, names_from, variables_of}
-use Rattle.mos_meaning.specs.Effects.{place_of}
-use Rattle.bim_compile.specs.Compiled.{texts_in, texts_in_all, texts_in_effect, texts_in_branches, texts_in_block, operator_code, change_code, expression_code, expression_end, arguments_code, arguments_end, effect_code, effect_end, branches_code, branches_end, block_code, block_end, types_of, image_of}
+use Rattle.mos_meaning.specs.Syntax.{Expression, number, text, truth, name, apply, unbuilt, Arguments, nothing, one_more, Effect, assign, change, write, choose, loop, group, leave, skip, unbuilt_effect, Branches, otherwise, branch, Block, done, first, has_name, with_name, names_after, names_in_branches, names_from, variables_of}
+use Rattle.bim_compile.specs.Compiled.{texts_in, texts_in_all, texts_in_effect, texts_in_branches, texts_in_block, expression_end, arguments_end, effect_end, branches_end, block_code, block_end, types_of, image_of}
 use Rattle.bim_compile.proofs.Standing.{after, after-append}
 use Rattle.bim_compile.proofs.EndLemmas.{block_after}
 use Rattle.bim_compile.specs.Sizes.{size_of, size_of_all, size_of_effect, size_of_branches, size_of_block}

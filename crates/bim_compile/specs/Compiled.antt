@@ -1,7 +1,7 @@
 -- The image of a model: what code each form becomes. Instructions stand one behind the other; the
 -- constants are the model's texts, in the order in which their code stands.
 
-use Rattle.std.specs.Prelude.{ℕ, ◌+◌, pos, List, [], ◌∷◌, ◌++◌, length, true, replicate}
+use Rattle.std.specs.Prelude.{ℕ, ◌+◌, pos, List, [], ◌∷◌, ◌++◌, length, replicate}
 use Rattle.bim_code.specs.declared.image.Image.{Image}
 use Rattle.bim_code.specs.declared.image.ImageType.{ImageType}
 use Rattle.bim_code.specs.declared.image.ImageType.TheVariants.{Integer}

@@ -4,3 +4,4 @@ pub mod Sizes
 pub mod Working
 pub mod Means
 pub mod Plain
+pub mod Examples

@@ -65,7 +65,11 @@ fn build(alloc: Global, tree: &Tree) -> Result<Image, NoMemory>
     draft.put(Instruction::End)?;
     let types = types(alloc, names.as_slice())?;
     let globals = globals(alloc, names.len())?;
-    let Draft { constants, code, .. } = draft;
+    let Draft {
+        constants,
+        code,
+        ..
+    } = draft;
     Ok(Image {
         constants,
         types,

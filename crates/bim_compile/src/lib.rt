@@ -7,8 +7,10 @@
 mod compiler;
 mod draft;
 mod ends;
+mod examples;
 mod expressions;
 pub mod names;
 mod statements;
 
 pub use compiler::compile;
+pub use examples::{compiled_models, courses_of_loops};

@@ -88,7 +88,13 @@ fn emit_statement(
             name,
             arguments,
             ..
-        } => emit_write(alloc, draft, names, name.as_str() == "writeln", arguments.as_slice()),
+        } => emit_write(
+            alloc,
+            draft,
+            names,
+            name.as_str() == "writeln",
+            arguments.as_slice(),
+        ),
         Statement::If { .. } => {
             let end = end_of_statement(draft.at, statement);
             draft.put(Instruction::Tick)?;
@@ -133,7 +139,12 @@ fn emit_branches(
     ensures at { OnOk result (draft.new.at ≡ branches_end draft.old.at (choice_of (effect statement.now))) }
     ensures within { OnOk result (draft.new.at ≤ draft.old.at + 13 * size_of_branches (choice_of (effect statement.now))) }
 {
-    let Statement::If { arms, otherwise, .. } = statement else {
+    let Statement::If {
+        arms,
+        otherwise,
+        ..
+    } = statement
+    else {
         unreachable!()
     };
     for arm in arms.as_slice() {
@@ -165,23 +176,19 @@ fn emit_loop(
     ensures at { OnOk result (draft.new.at ≡ effect_end draft.old.at (effect statement.now)) }
     ensures within { OnOk result (draft.new.at ≤ draft.old.at + 13 * size_of_effect (effect statement.now)) }
 {
-    let Statement::While { condition, body, .. } = statement else {
+    let Statement::While {
+        condition,
+        body,
+        ..
+    } = statement
+    else {
         unreachable!()
     };
     let pass = draft.at + 1 + 5;
     let test = end_of_statement(pass + 1, body.get());
     let out = end_of_expression(test, condition) + 5;
     emit_first_test(draft, test)?;
-    emit_statement(
-        alloc,
-        draft,
-        names,
-        Exits {
-            out,
-            next: test,
-        },
-        body.get(),
-    )?;
+    emit_statement(alloc, draft, names, Exits { out, next: test }, body.get())?;
     emit_test(alloc, draft, names, condition, pass)
 }
 

@@ -1,6 +1,6 @@
 -- The machine takes few steps for each tick: what is left to it falls at each step.
 
-use Rattle.std.proofs.Common.{◌≡◌, ◌≤◌, ◌<◌, ℕ, ◌+◌, ◌-◌, ◌*◌, zero, suc, Bool, true, false, List, [], ◌∷◌, length, Option, Some, None, refl, sym, ap, ◌∙◌, subst, nat_le, mul-add, arith}
+use Rattle.std.proofs.Common.{◌≡◌, ◌≤◌, ◌<◌, ℕ, ◌+◌, ◌-◌, ◌*◌, zero, suc, Bool, true, false, List, length, Option, Some, None, refl, sym, ap, ◌∙◌, subst, nat_le, mul-add, arith}
 use Rattle.std.specs.Prelude.{if◌then◌else◌}
 use Rattle.std.proofs.lemmas.Bool.Decides.{nat_tests}
 use Rattle.job_calls.specs.declared.reply.Reply.{Reply}
@@ -13,7 +13,7 @@ use Rattle.mos_meaning.specs.State.{State, Stop, Spent, Stuck, ticked}
 use Rattle.mos_meaning.specs.Machine.{Machine, At, Over, Frame, Act, On, Jumps, Ticks, Stops, act, tick_to, target, settle, decoded, step, run, steps_taken, start, most_steps}
 use Rattle.mos_meaning.specs.MachineLaws.{KeepsTicks, IsOver, ticks_left}
 use Rattle.mos_meaning.proofs.Runs.{run_over, steps_over, ticks_fall}
-use Rattle.mos_meaning.proofs.Places.{place_from, place_within, place_next, place_first, place_behind}
+use Rattle.mos_meaning.proofs.Places.{place_from, place_next, place_first, place_behind}
 
 -- what the ticks that are left are worth, two steps for each instruction
 abbrev worth : ℕ → ℕ → ℕ
@@ -109,6 +109,7 @@ step_fewer image keeps address f s = seen (instruction_at image.code address) re
         let within = left_within image (address + 1) m in
         let more = tick_worth (length image.code) s.ticks m less in
         omega (arith, within, one, two, more)))
+
     others_on : (i : Instruction) → instruction_at image.code address ≡ Some i → is_tick i ≡ false
         → Fewer image (left_at image address s.ticks) (settle (act image i f s.memory) (address + width i) (target i (address + width i)) s)
     others_on i found e =
@@ -142,10 +143,12 @@ step_fewer image keeps address f s = seen (instruction_at image.code address) re
             let more = behind less in
             let within = left_within image named s.ticks in
             omega (arith, more, within, spared, two)
+
     by_test : (i : Instruction) → instruction_at image.code address ≡ Some i → (b : Bool) → is_tick i ≡ b
         → Fewer image (left_at image address s.ticks) (settle (act image i f s.memory) (address + width i) (target i (address + width i)) s)
     by_test i found true e = ticks_on i found (is_tick_only i e)
     by_test i found false e = others_on i found e
+
     seen : (found : Option Instruction) → instruction_at image.code address ≡ found → Fewer image (left_at image address s.ticks) (decoded image found address f s)
     seen None e =
         let spared : spare (length image.code) (instruction_at image.code address) ≡ length image.code = ap (spare (length image.code)) e in

@@ -10,7 +10,7 @@ use Rattle.bim_code.specs.declared.instruction.Comparison.TheVariants.{Greater}
 use Rattle.mos_meaning.specs.State.{Outcome, Stop, Exited, Failed, Spent}
 use Rattle.mos_meaning.specs.Syntax.{Block, done, first, assign, change, decrease, write, loop, group, skip, nothing, one_more, number, text, truth, name, apply, plus, compare}
 use Rattle.mos_meaning.specs.Meaning.{meaning_of}
-use Rattle.mos_meaning.specs.Machine.{Course, course_of}
+use Rattle.mos_meaning.specs.Machine.{course_of}
 use Rattle.mos_meaning.specs.Follows.{Model, FollowsSources}
 
 abbrev pub told : List ℕ → ℕ → Stop → Outcome

@@ -1,7 +1,7 @@
 -- A journal with its run lines follows its sources: each run's calls are those that its source
 -- means, given the replies, and its line says what the source means and what its image does.
 
-use Rattle.std.specs.Prelude.{◌≡◌, ℕ, ◌<◌, List, [], ◌∷◌, Option, Some, None, length, slice_get}
+use Rattle.std.specs.Prelude.{◌≡◌, ℕ, List, Option, Some, None, length, slice_get}
 use Rattle.job_calls.specs.declared.entry.Entry.{Entry}
 use Rattle.job_calls.specs.declared.entry.Listed.{Listed}
 use Rattle.job_calls.specs.declared.end.End.{End}
@@ -13,10 +13,10 @@ use Rattle.job_calls.specs.Words.{run_count}
 use Rattle.job_calls.specs.Runs.{Opening, opening, source_of, params_of, calls_of, replies_of, finish_of}
 use Rattle.job_calls.specs.Replies.{AllFit}
 use Rattle.bim_code.specs.declared.image.Image.{Image}
-use Rattle.mos_meaning.specs.State.{Stop, Exited, Failed, Spent, Stopped, Asking, Stuck, Outcome}
+use Rattle.mos_meaning.specs.State.{Stop, Exited, Failed, Spent, Stopped, Asking, Stuck}
 use Rattle.mos_meaning.specs.Syntax.{Block}
 use Rattle.mos_meaning.specs.Meaning.{meaning_of}
-use Rattle.mos_meaning.specs.Machine.{Course, course_of}
+use Rattle.mos_meaning.specs.Machine.{course_of}
 
 -- an accepted source: its statements and its image
 pub record Model : Type 0 where

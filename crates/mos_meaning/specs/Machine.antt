@@ -2,7 +2,7 @@
 -- instruction does to operands and memory; `settle` makes the machine's next state of it; only it
 -- sees ticks, calls and addresses.
 
-use Rattle.std.specs.Prelude.{ℕ, ◌+◌, ◌-◌, ◌*◌, zero, suc, ℤ, pos, Bool, true, false, List, [], ◌∷◌, ◌++◌, Option, Some, None, slice_get, slice_set, nat_lt, length, replicate, if◌then◌else◌}
+use Rattle.std.specs.Prelude.{ℕ, ◌+◌, ◌*◌, zero, suc, ℤ, Bool, true, false, List, [], ◌∷◌, ◌++◌, Option, Some, None, slice_get, slice_set, nat_lt, length, if◌then◌else◌}
 use Rattle.mos_text.specs.declared.fault_kind.FaultKind.{FaultKind}
 use Rattle.mos_text.specs.declared.fault_kind.FaultKind.TheVariants.{Overflow, TooBig, OutFull}
 use Rattle.mos_text.specs.declared.scalar.Scalar.{Scalar}

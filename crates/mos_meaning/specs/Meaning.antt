@@ -6,7 +6,7 @@ use Rattle.mos_text.specs.declared.fault_kind.FaultKind.TheVariants.{BadParam}
 use Rattle.mos_text.specs.declared.scalar.Scalar.{Scalar}
 use Rattle.mos_text.specs.declared.scalar.Scalar.TheVariants.{Int}
 use Rattle.job_calls.specs.declared.reply.Reply.{Reply}
-use Rattle.mos_meaning.specs.State.{State, Stop, Exited, Failed, Stuck, Outcome, beginning}
+use Rattle.mos_meaning.specs.State.{State, Stop, Exited, Failed, Outcome, beginning}
 use Rattle.mos_meaning.specs.Syntax.{Block, variables_of}
 use Rattle.mos_meaning.specs.Effects.{Done, Goes, Broke, Continues, Ends, effects_of}
 

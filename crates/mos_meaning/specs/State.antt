@@ -1,6 +1,6 @@
 -- The state of a run, and how it can stop: the same for the meaning of a model and for the machine.
 
-use Rattle.std.specs.Prelude.{ℕ, zero, suc, ℤ, List, [], ◌∷◌, ◌++◌, Option, Some, None}
+use Rattle.std.specs.Prelude.{ℕ, zero, suc, ℤ, List, [], Option, Some, None}
 use Rattle.mos_text.specs.declared.fault_kind.FaultKind.{FaultKind}
 use Rattle.mos_text.specs.declared.scalar.Scalar.{Scalar}
 use Rattle.job_calls.specs.declared.call.Call.{Call}

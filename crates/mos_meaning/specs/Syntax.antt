@@ -168,9 +168,11 @@ abbrev mutual
   names_after names (loop e body) = names_after names body
   names_after names (group all) = names_from names all
   names_after names _ = names
+
   pub names_in_branches : List (List ℕ) → Branches → List (List ℕ)
   names_in_branches names (otherwise all) = names_from names all
   names_in_branches names (branch e all rest) = names_in_branches (names_from names all) rest
+
   pub names_from : List (List ℕ) → Block → List (List ℕ)
   names_from names done = names
   names_from names (first e rest) = names_from (names_after names e) rest

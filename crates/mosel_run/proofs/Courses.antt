@@ -1,23 +1,20 @@
 -- The course of an image, step by step.
 
-use Rattle.std.proofs.Common.{◌≡◌, ◌≤◌, ◌<◌, ◌^◌, ◌*◌, ℕ, ◌+◌, ◌-◌, suc, List, [], length, Option, Some, None, refl, sym, ap, ◌∙◌, subst, mul-le-mul_right, true, false, arith}
+use Rattle.std.proofs.Common.{◌≡◌, ◌≤◌, ◌<◌, ◌^◌, ◌*◌, ℕ, ◌+◌, ◌-◌, List, [], length, Option, Some, None, refl, sym, ap, ◌∙◌, mul-le-mul_right, true, false, arith}
 use Rattle.std.proofs.lemmas.Bool.Decides.{nat_tests}
 use Rattle.std.specs.Prelude.{nat_le}
 use Rattle.bim_code.specs.declared.image.Image.{Image}
 use Rattle.bim_code.specs.declared.instruction.Instruction.{Instruction}
 use Rattle.bim_code.specs.Rows.{width}
 use Rattle.bim_code.specs.Code.{instruction_at, code_size}
-use Rattle.mos_meaning.specs.State.{State, Stop, Stuck}
-use Rattle.mos_meaning.specs.Meaning.{told}
-use Rattle.mos_meaning.specs.Machine.{Machine, At, Over, Frame, act, target, settle, decoded, step, run, steps_taken, start, most_steps, told_machine, Course, course_of}
-use Rattle.mos_meaning.specs.MachineLaws.{KeepsTicks, IsOver, ticks_left, OverInTime, FewSteps, StepByStep, StaysOver}
+use Rattle.mos_meaning.specs.State.{State, Stuck}
+use Rattle.mos_meaning.specs.Machine.{At, Over, Frame, target, decoded, run, steps_taken, start, most_steps, told_machine, Course}
+use Rattle.mos_meaning.specs.MachineLaws.{KeepsTicks, ticks_left, OverInTime, FewSteps, StepByStep, StaysOver}
 use Rattle.mosel_run.specs.declared.halt.Halt.{Halt}
-use Rattle.mosel_run.specs.declared.halt.Halt.TheVariants as halt
 use Rattle.mosel_run.specs.declared.halt.Flow.{Flow}
-use Rattle.mosel_run.specs.declared.halt.Flow.TheVariants.{Halts}
 use Rattle.mosel_run.specs.declared.runner.Ran.{Ran}
 use Rattle.mosel_run.specs.Kept.{Kept}
-use Rattle.mosel_run.specs.Running.{IsCourse, IsToldOf, outcome_of}
+use Rattle.mosel_run.specs.Running.{IsCourse, IsToldOf}
 use Rattle.mosel_run.specs.Spread.{spread, begun_at}
 use Rattle.mosel_run.specs.Stepping.{Leads, lands, stop_of}
 use Rattle.mosel_run.proofs.SpreadCode.{begun_is, length_within}

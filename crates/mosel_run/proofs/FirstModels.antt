@@ -15,7 +15,7 @@ use Rattle.mos_tree.specs.declared.expr.Expr.TheVariants as expr
 use Rattle.mos_tree.specs.declared.statement.Statement.{Statement}
 use Rattle.mos_tree.specs.declared.source.Top.{Top}
 use Rattle.mos_tree.specs.declared.source.Tree.{Tree}
-use Rattle.mos_meaning.specs.Syntax.{plus, minus, compare, Expression, number, text, truth, name, apply, unbuilt, Arguments, nothing, one_more, Effect, assign, change, write, choose, loop, group, leave, skip, unbuilt_effect, Block, done, first, expression, effect, top_effect, block, statements_of, has_name, names_after, names_from, variables_of}
+use Rattle.mos_meaning.specs.Syntax.{plus, minus, compare, Expression, number, text, truth, name, apply, unbuilt, Arguments, nothing, one_more, Effect, assign, change, write, choose, loop, group, leave, skip, unbuilt_effect, Block, first, expression, effect, top_effect, block, statements_of, has_name, names_after, names_from, variables_of}
 use Rattle.mosel_run.specs.Accepted.{IsAccepted}
 use Rattle.bim_compile.specs.Compiled.{texts_in, texts_in_effect, texts_in_block}
 use Rattle.mosel_run.specs.FirstForm as form

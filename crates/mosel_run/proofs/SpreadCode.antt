@@ -1,6 +1,6 @@
 -- What begins at a byte of spread code is the instruction at that address.
 
-use Rattle.std.proofs.Common.{◌≡◌, ◌≤◌, ◌<◌, ℕ, ◌+◌, ◌-◌, zero, suc, Bool, true, false, List, [], ◌∷◌, ◌++◌, length, replicate, Option, Some, None, refl, sym, ap, ◌∙◌, subst, nat_eq, nat_lt, arith}
+use Rattle.std.proofs.Common.{◌≡◌, ◌≤◌, ◌<◌, ℕ, ◌+◌, ◌-◌, zero, suc, Bool, true, false, List, [], ◌∷◌, ◌++◌, length, replicate, Option, Some, None, refl, sym, ap, ◌∙◌, nat_eq, nat_lt, arith}
 use Rattle.std.specs.Prelude.{if◌then◌else◌}
 use Rattle.std.proofs.lemmas.Bool.Decides.{nat_tests}
 use Rattle.bim_code.specs.declared.instruction.Instruction.{Instruction}
@@ -34,6 +34,7 @@ begun_spread at (i ∷ is) (suc n) = tested (nat_lt n (width i - 1)) refl (λ m.
   where
     apart : nat_eq at (at + suc n) ≡ false
     apart = grind (arith, nat_tests)
+
     tested : (b : Bool) → nat_lt n (width i - 1) ≡ b
         → ((m : ℕ) → begun_at (spread is) m ≡ instruction_from (at + width i) is (at + width i + m))
         → begun_at (spread (i ∷ is)) (suc n) ≡ instruction_from at (i ∷ is) (at + suc n)

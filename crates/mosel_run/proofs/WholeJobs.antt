@@ -1,6 +1,6 @@
 -- A job over one source of the first form is a whole job.
 
-use Rattle.std.proofs.Common.{◌≡◌, ◌≤◌, ◌<◌, ◌≢◌, ◌^◌, ℕ, zero, suc, true, List, [], ◌∷◌, length, Some, refl, sym, ap, ◌∙◌, subst, inl, drop, ◌-◌, arith}
+use Rattle.std.proofs.Common.{◌≡◌, ◌≢◌, ℕ, zero, suc, true, List, [], ◌∷◌, length, Some, refl, sym, ap, ◌∙◌, subst, inl, drop, ◌-◌, arith}
 use Rattle.std.specs.Prelude.{slice_get, codes, ◌&&◌}
 use Rattle.std.proofs.lemmas.List.Elements.{All-nil}
 use Rattle.std.proofs.lemmas.Slice.Eq.{bytes_eq-Decides}

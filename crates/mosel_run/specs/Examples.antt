@@ -12,7 +12,6 @@ use Rattle.job_calls.specs.ReportExamples.{hello_entries, hello_file, entry}
 use Rattle.bim_code.specs.Tables.{image_bytes}
 use Rattle.mos_meaning.specs.Examples.{hello, hello_image}
 use Rattle.mos_meaning.specs.Syntax.{statements_of}
-use Rattle.bim_compile.specs.Compiled.{image_of}
 use Rattle.mosel_run.specs.FirstFormLaws.{hello_tree}
 use Rattle.mosel_run.specs.Jobs.{opening_on}
 use Rattle.mosel_run.specs.Puts.{Put, puts_of}
@@ -41,12 +40,9 @@ HelloBytes = image_bytes hello_image ≡
     ∷ 0 ∷ 0 ∷ 0 ∷ 20 ∷ 1 ∷ 5 ∷ 0 ∷ 0 ∷ 0 ∷ 0 ∷ 0x1a ∷ 0x43 ∷ 4 ∷ 0 ∷ 0 ∷ 0 ∷ 1 ∷ 0x44
     ∷ 3 ∷ 0 ∷ 0 ∷ 0 ∷ 0 ∷ 0x45 ∷ []
 
--- the statements of its tree, and what they are compiled to
+-- the statements of its tree
 abbrev pub HelloStatements : Type 0
 HelloStatements = statements_of hello_tree ≡ hello
-
-abbrev pub HelloCompiled : Type 0
-HelloCompiled = image_of hello ≡ hello_image
 
 -- its journal is that of a job that came to its end
 abbrev pub HelloIsWhole : Type 0

@@ -1,6 +1,6 @@
 -- What one instruction makes of the machine that the program keeps.
 
-use Rattle.std.specs.Prelude.{◌≡◌, ℕ, ℤ, [], Option, Some, None}
+use Rattle.std.specs.Prelude.{◌≡◌, ℕ, ℤ, [], Option}
 use Rattle.bim_code.specs.declared.image.Image.{Image}
 use Rattle.bim_code.specs.declared.instruction.Instruction.{Instruction}
 use Rattle.mos_meaning.specs.State.{State, Stop}

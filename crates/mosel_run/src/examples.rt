@@ -1,5 +1,5 @@
 //! Worked examples of the definitions: functions that do nothing, whose contracts are the examples.
-ghost use Rattle.mosel_run.specs.Examples.{HelloSchedule, HelloPuts, HelloBytes, HelloStatements, HelloCompiled, HelloIsWhole, PutsInOrder, ListsItsFiles, UntoldLane, SomeoneQuits, TooFewReplies, HoldsWhatIsPut};
+ghost use Rattle.mosel_run.specs.Examples.{HelloSchedule, HelloPuts, HelloBytes, HelloStatements, HelloIsWhole, PutsInOrder, ListsItsFiles, UntoldLane, SomeoneQuits, TooFewReplies, HoldsWhatIsPut};
 
 use job_calls::journals::hello_journal;
 
@@ -12,10 +12,9 @@ pub fn hello_job()
     hello_journal();
 }
 
-/// The model that writes hello: its statements, its image, and the bytes of that.
+/// The model that writes hello: its statements, and the bytes of its image.
 pub fn hello_model()
     ensures statements { HelloStatements }
-    ensures compiled { HelloCompiled }
     ensures bytes { HelloBytes }
 {}
 

@@ -131,12 +131,7 @@ impl Machine {
         Ok(Flow::Goes)
     }
 
-    fn push_text(
-        &mut self,
-        alloc: Global,
-        image: &Image,
-        constant: u32,
-    ) -> Result<Flow, NoMemory>
+    fn push_text(&mut self, alloc: Global, image: &Image, constant: u32) -> Result<Flow, NoMemory>
         ensures { IfOk result (λ flow. Leads image.now (Instruction.PushText constant) self.old flow self.new) }
     {
         match image.constants.get(constant as usize) {

@@ -1,5 +1,5 @@
 -- what is known of every model's image, of this one
-use Rattle.std.proofs.Common.{◌≡◌, ◌≤◌, ◌<◌, ◌^◌, ◌*◌, ◌+◌, ℕ, length, Result, Ok, Err, sym, subst, arith}
+use Rattle.std.proofs.Common.{◌≡◌, ◌≤◌, ◌*◌, ◌+◌, Result, Ok, Err, sym, subst, arith}
 use Rattle.std.specs.Prelude.{IfOk}
 use Rattle.bim_code.specs.declared.image.Image.{Image}
 use Rattle.bim_code.specs.Code.{code_size}
@@ -7,7 +7,7 @@ use Rattle.bim_code.specs.Limits.{FitsFields}
 use Rattle.mos_text.specs.declared.no_memory.NoMemory.{NoMemory}
 use Rattle.mos_meaning.specs.MachineLaws.{KeepsTicks}
 use Rattle.mos_meaning.specs.Syntax.{statements_of, variables_of}
-use Rattle.bim_compile.specs.Compiled.{image_of, block_end, texts_in_block}
+use Rattle.bim_compile.specs.Compiled.{image_of}
 use Rattle.bim_compile.specs.Means.{Means}
 use Rattle.bim_compile.specs.Plain.{IsPlain}
 use Rattle.bim_compile.specs.Sizes.{size_of_block}

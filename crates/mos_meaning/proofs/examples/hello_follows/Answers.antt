@@ -1,7 +1,6 @@
 -- the one line, and no other, by computing
-use Rattle.std.proofs.Common.{◌≡◌, ℕ, zero, suc, [], ◌∷◌, Option, Some, None, refl, subst}
-use Rattle.std.specs.Prelude.{slice_get, pos, codes}
-use Rattle.std.specs.Fmt.{digits}
+use Rattle.std.proofs.Common.{◌≡◌, ℕ, zero, suc, [], ◌∷◌, Some, None, refl, subst}
+use Rattle.std.specs.Prelude.{slice_get}
 use Rattle.job_calls.specs.declared.run_line.RunLine.{RunLine}
 use Rattle.job_calls.specs.Runs.{Opening}
 use Rattle.job_calls.specs.ReportExamples.{hello_entries, hello_runs, hello_file}

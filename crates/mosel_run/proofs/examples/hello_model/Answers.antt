@@ -1,5 +1,5 @@
 -- by computing
-use Rattle.std.proofs.Common.{true, [], refl, ◌∙◌, ap}
+use Rattle.std.proofs.Common.{true, refl, ◌∙◌, ap}
 use Rattle.std.specs.Prelude.{codes}
 use Rattle.bim_code.specs.Bytes.{u16_bytes, u32_bytes}
 use Rattle.bim_code.specs.Code.{code_bytes}
@@ -13,9 +13,6 @@ pub returns-clause-statements : goal.returns-clause-statements
 returns-clause-statements c =
     ap (λ (e : Effect). first e done) (effect_of_writeln 2 (expr.Text (codes "hello")))
     ∙ ap (λ (e : Expression). first (write true (one_more e nothing)) done) (expression_of_text (codes "hello"))
-
-pub returns-clause-compiled : goal.returns-clause-compiled
-returns-clause-compiled c = refl
 
 pub returns-clause-bytes : goal.returns-clause-bytes
 unfolding image_bytes heading_bytes constant_bytes code_bytes u16_bytes u32_bytes

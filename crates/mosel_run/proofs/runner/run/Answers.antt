@@ -1,11 +1,10 @@
 -- each pass is one step of the machine, and the last is the end of its course
-use Rattle.std.proofs.Common.{◌≡◌, ◌≤◌, ◌<◌, ◌+◌, ℕ, ap, sym, subst, ◌∙◌, [], None, Some, arith}
+use Rattle.std.proofs.Common.{◌≡◌, ◌<◌, ◌+◌, ap, sym, ◌∙◌, None, Some, arith}
 use Rattle.bim_code.specs.Code.{instruction_at}
-use Rattle.mos_meaning.specs.Machine.{At, Over, run, start, target, most_steps}
+use Rattle.mos_meaning.specs.Machine.{At, target, most_steps}
 use Rattle.mosel_run.specs.declared.halt.Halt.TheVariants as halt
 use Rattle.mosel_run.specs.declared.halt.Flow.TheVariants.{Goes, Jumps, Halts}
-use Rattle.mosel_run.specs.Stepping.{Leads}
-use Rattle.mosel_run.proofs.Courses.{still_few, steps_fit, found_there, leads_on, stuck_on, Stops, is_course, few_steps, is_stop}
+use Rattle.mosel_run.proofs.Courses.{still_few, steps_fit, found_there, leads_on, stuck_on, is_course, few_steps, is_stop}
 use Rattle.mosel_run.proofs.SpreadCode.{at_within}
 use Rattle.mosel_run.proofs.runner.run.Goals as goal
 use Rattle.mosel_run.proofs.runner.run.Goals.{in-Goes, in-Jumps}
@@ -103,14 +102,14 @@ loop-instruction-preserved c =
     record {
       code = c.loop-instruction.invariant.code;
       stands = elim c.match-branch-4.branch [
-        in-Goes w ↦
-          leads_on image c.args.budget c.loop-instruction.steps c.loop-instruction.address c.loop-instruction.machine c.in-Some.instruction Goes c.step.new.self
-          laws.step_by_step c.loop-instruction.invariant.stands found (rw w.in-Goes.is at c.in_ok-step.ensures)
-          ∙ ap (λ address. At address c.step.new.self.frame c.step.new.self.state) (ap (λ wide. c.loop-instruction.address + wide) (sym c.width.ensures) ∙ sym w.address-is)
+        | in-Goes w ↦
+            leads_on image c.args.budget c.loop-instruction.steps c.loop-instruction.address c.loop-instruction.machine c.in-Some.instruction Goes c.step.new.self
+            laws.step_by_step c.loop-instruction.invariant.stands found (rw w.in-Goes.is at c.in_ok-step.ensures)
+            ∙ ap (λ address. At address c.step.new.self.frame c.step.new.self.state) (ap (λ wide. c.loop-instruction.address + wide) (sym c.width.ensures) ∙ sym w.address-is)
         | in-Jumps w ↦
-          leads_on image c.args.budget c.loop-instruction.steps c.loop-instruction.address c.loop-instruction.machine c.in-Some.instruction Jumps c.step.new.self
-          laws.step_by_step c.loop-instruction.invariant.stands found (rw w.in-Jumps.is at c.in_ok-step.ensures)
-          ∙ ap (λ address. At address c.step.new.self.frame c.step.new.self.state)
-          (ap (λ wide. target c.in-Some.instruction (c.loop-instruction.address + wide)) (sym c.width.ensures) ∙ sym w.target-address.ensures ∙ sym w.address-is)
+            leads_on image c.args.budget c.loop-instruction.steps c.loop-instruction.address c.loop-instruction.machine c.in-Some.instruction Jumps c.step.new.self
+            laws.step_by_step c.loop-instruction.invariant.stands found (rw w.in-Jumps.is at c.in_ok-step.ensures)
+            ∙ ap (λ address. At address c.step.new.self.frame c.step.new.self.state)
+            (ap (λ wide. target c.in-Some.instruction (c.loop-instruction.address + wide)) (sym c.width.ensures) ∙ sym w.target-address.ensures ∙ sym w.address-is)
       ];
     }
