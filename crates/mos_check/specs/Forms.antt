@@ -1,0 +1,51 @@
+-- What an expression is, as far as expressions can be run today.
+
+use Rattle.std.specs.Prelude.{Bool, true, false}
+use Rattle.mos_tree.specs.declared.expr.Expr.{Expr}
+use Rattle.mos_tree.specs.declared.expr.Expr.TheOpen.{Expr-F, Integer, Text, Truth, Name, Binary}
+use Rattle.mos_tree.specs.declared.expr.Expr.TheFolds.{fold-Expr}
+use Rattle.mos_tree.specs.declared.expr.BinaryOperator.{BinaryOperator}
+use Rattle.mos_tree.specs.declared.expr.BinaryOperator.TheVariants.{Plus, Minus, Equal, NotEqual, Less, AtMost, Greater, AtLeast}
+use Rattle.mos_check.specs.declared.form.Form.{Form}
+use Rattle.mos_check.specs.declared.form.Form.TheVariants as form
+
+-- this, where both operands are sums
+abbrev pub of_sums : Form → Form → Form → Form
+of_sums made form.Sum form.Sum = made
+of_sums made _ _ = form.Other
+
+abbrev pub form_of_binary : BinaryOperator → Form → Form → Form
+form_of_binary Plus a b = of_sums form.Sum a b
+form_of_binary Minus a b = of_sums form.Sum a b
+form_of_binary Equal a b = of_sums form.Condition a b
+form_of_binary NotEqual a b = of_sums form.Condition a b
+form_of_binary Less a b = of_sums form.Condition a b
+form_of_binary AtMost a b = of_sums form.Condition a b
+form_of_binary Greater a b = of_sums form.Condition a b
+form_of_binary AtLeast a b = of_sums form.Condition a b
+form_of_binary _ a b = form.Other
+
+abbrev pub form_step : Expr-F Form → Form
+form_step (Integer n) = form.Sum
+form_step (Name n) = form.Sum
+form_step (Text t) = form.Text
+form_step (Truth b) = form.Condition
+form_step (Binary operator a b) = form_of_binary operator a b
+form_step _ = form.Other
+
+abbrev pub form_of : Expr → Form
+form_of = fold-Expr Form form_step
+
+abbrev pub is_sum : Form → Bool
+is_sum form.Sum = true
+is_sum _ = false
+
+abbrev pub is_condition : Form → Bool
+is_condition form.Condition = true
+is_condition _ = false
+
+-- what can be printed
+abbrev pub is_shown : Form → Bool
+is_shown form.Sum = true
+is_shown form.Text = true
+is_shown _ = false

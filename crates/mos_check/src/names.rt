@@ -1,0 +1,205 @@
+//! The first piece that uses a name without a value, or leaves or continues a loop where there is none.
+ghost use Rattle.std.specs.Prelude.{◌≡◌, IfOk, OnOk, IfErr, true, false, map, option_copied};
+ghost use Rattle.mos_meaning.specs.Syntax.{with_name};
+ghost use Rattle.mos_check.specs.Names.{Knows, Says, check_of, check_tops, check_top, check_statement, check_all, or_other, unknown_in, unknown_target, uses, with_target};
+
+use crate::unknown::{has, unknown_in, unknown_in_all, unknown_target};
+use mos_text::{Kind, NoMemory, Text};
+use mos_tree::{Assignment, Expr, Reference, Statement, Top, Tree};
+use sqlite_items::Items;
+use std::alloc::Global;
+
+/// Why a source is refused whose every piece is of a form that can be run.
+#[derive(Debug, Drop)]
+pub enum CheckFault {
+    /// The line of the piece, from 1, with the kind `UNKNOWN` and the name, or `LOOP`.
+    At { line: u32, kind: Kind },
+    NoMemory,
+}
+
+impl From<NoMemory> for CheckFault {
+    ghost use Rattle.std.specs.Prelude.{◌≡◌};
+    ghost use Rattle.mos_check.specs.declared.names.CheckFault.TheVariants.{NoMemory};
+
+    ghost from_gives = { λ _ fault. fault ≡ NoMemory };
+
+    fn from(_refused: NoMemory) -> CheckFault {
+        CheckFault::NoMemory
+    }
+}
+
+/// The names that the source gives values, in the order in which it first does; or its first piece at
+/// fault.
+pub fn check(alloc: Global, tree: &Tree) -> Result<Items<Text>, CheckFault>
+    ensures names { IfOk result (λ names. check_of tree.now ≡ Knows names) }
+    ensures fault { IfErr result (Says (check_of tree.now)) }
+{
+    let mut known = Items::new(alloc);
+    check_tops(alloc, &mut known, tree.tops.as_slice())?;
+    Ok(known)
+}
+
+fn check_tops(alloc: Global, known: &mut Items<Text>, tops: &[Top]) -> Result<(), CheckFault>
+    ensures names { OnOk result (check_tops tops.now known.old ≡ Knows known.new) }
+    ensures fault { IfErr result (Says (check_tops tops.now known.old)) }
+{
+    for top in tops {
+        check_top(alloc, known, top)?;
+    }
+    Ok(())
+}
+
+fn check_top(alloc: Global, known: &mut Items<Text>, top: &Top) -> Result<(), CheckFault>
+    ensures names { OnOk result (check_top top.now known.old ≡ Knows known.new) }
+    ensures fault { IfErr result (Says (check_top top.now known.old)) }
+{
+    match top {
+        Top::Statement(statement) => check_statement(alloc, known, false, statement),
+        _ => Ok(()),
+    }
+}
+
+#[cycle(checks)]
+fn check_statement(
+    alloc: Global,
+    known: &mut Items<Text>,
+    inside: bool,
+    statement: &Statement,
+) -> Result<(), CheckFault>
+    ensures names { OnOk result (check_statement statement.now inside known.old ≡ Knows known.new) }
+    ensures fault { IfErr result (Says (check_statement statement.now inside known.old)) }
+{
+    match statement {
+        Statement::Assign {
+            line,
+            target,
+            operator,
+            value,
+        } => {
+            let unknown = unknown_in_assignment(known.as_slice(), target, *operator, value);
+            refuse(alloc, *line, known.as_slice(), unknown)?;
+            note_target(alloc, known, target, *operator)?;
+            Ok(())
+        }
+        Statement::Call {
+            line,
+            arguments,
+            ..
+        } => {
+            let unknown = unknown_in_all(known.as_slice(), arguments.as_slice());
+            refuse(alloc, *line, known.as_slice(), unknown)
+        }
+        Statement::If {
+            arms,
+            otherwise,
+            ..
+        } => {
+            for arm in arms.as_slice() {
+                let unknown = unknown_in(known.as_slice(), &arm.condition);
+                refuse(alloc, arm.line, known.as_slice(), unknown)?;
+                check_all(alloc, known, inside, arm.body.as_slice())?;
+            }
+            check_all(alloc, known, inside, otherwise.as_slice())
+        }
+        Statement::While {
+            line,
+            condition,
+            body,
+        } => {
+            let unknown = unknown_in(known.as_slice(), condition);
+            refuse(alloc, *line, known.as_slice(), unknown)?;
+            check_statement(alloc, known, true, body.get())
+        }
+        Statement::Do { body, .. } => check_all(alloc, known, inside, body.as_slice()),
+        Statement::Break { line } | Statement::Next { line } => in_loop(inside, *line),
+        _ => Ok(()),
+    }
+}
+
+#[cycle(checks)]
+fn check_all(
+    alloc: Global,
+    known: &mut Items<Text>,
+    inside: bool,
+    all: &[Statement],
+) -> Result<(), CheckFault>
+    ensures names { OnOk result (check_all (map check_statement all.now) inside known.old ≡ Knows known.new) }
+    ensures fault { IfErr result (Says (check_all (map check_statement all.now) inside known.old)) }
+{
+    for statement in all {
+        check_statement(alloc, known, inside, statement)?;
+    }
+    Ok(())
+}
+
+/// Refuses a piece on this line where a name in it is not known.
+fn refuse(
+    alloc: Global,
+    line: u32,
+    known: &[Text],
+    unknown: Option<&Text>,
+) -> Result<(), CheckFault>
+    ensures names { OnOk result (uses line known.now (option_copied unknown.entry) ≡ Knows known.now) }
+    ensures fault { IfErr result (Says (uses line known.now (option_copied unknown.entry))) }
+{
+    match unknown {
+        None => Ok(()),
+        Some(name) => Err(CheckFault::At {
+            line,
+            kind: Kind::Unknown(name.copy(alloc)?),
+        }),
+    }
+}
+
+/// Refuses `break` or `next` where it stands in no loop.
+fn in_loop(inside: bool, line: u32) -> Result<(), CheckFault>
+    ensures names { OnOk result (inside ≡ true) }
+    ensures fault { IfErr result (λ fault. (inside ≡ false) × (fault ≡ CheckFault.At line Kind.Loop)) }
+{
+    if inside {
+        return Ok(());
+    }
+    Err(CheckFault::At {
+        line,
+        kind: Kind::Loop,
+    })
+}
+
+fn unknown_in_assignment<'a>(
+    known: &[Text],
+    target: &'a Reference,
+    operator: Assignment,
+    value: &'a Expr,
+) -> Option<&'a Text>
+    ensures { option_copied result ≡ or_other (unknown_target target.now operator known.now) (unknown_in value.now known.now) }
+{
+    match unknown_target(known, target, operator) {
+        Some(name) => Some(name),
+        None => unknown_in(known, value),
+    }
+}
+
+/// Adds the name that `:=` gives a value.
+fn note_target(
+    alloc: Global,
+    known: &mut Items<Text>,
+    target: &Reference,
+    operator: Assignment,
+) -> Result<(), NoMemory>
+    ensures { OnOk result (known.new ≡ with_target target.now operator known.old) }
+{
+    match (target, operator) {
+        (Reference::Name(name), Assignment::Set) => note(alloc, known, name),
+        _ => Ok(()),
+    }
+}
+
+fn note(alloc: Global, known: &mut Items<Text>, name: &Text) -> Result<(), NoMemory>
+    ensures { OnOk result (known.new ≡ with_name known.old name.now) }
+{
+    if has(known.as_slice(), name) {
+        return Ok(());
+    }
+    known.push(name.copy(alloc)?)?;
+    Ok(())
+}
