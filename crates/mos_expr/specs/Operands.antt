@@ -13,6 +13,8 @@ use Rattle.mos_expr.specs.declared.operand.Parts.{Parts}
 use Rattle.mos_expr.specs.declared.operand.Groups.{Groups}
 use Rattle.mos_expr.specs.declared.operand.Ready.{Ready}
 
+-- What has been read of an operand: its level, its height, up to 501, and its tree, unless it is too high.
+
 -- what is made of parts that are all there
 abbrev pub one : {A B : Type 0} → (A → B) → Option A → Option B
 one f None = None
@@ -118,8 +120,9 @@ no_groups = record { height = 0; items = Some [] }
 abbrev pub grouped : List (List ℕ) → List (Group Expr) → Expr → List (Group Expr)
 grouped names groups x = groups ++ record { names = names; set = x } ∷ []
 
+-- names with their set are one node
 abbrev pub groups_with : Groups → List (List ℕ) → Operand → Groups
-groups_with groups names x = record { height = max groups.height (higher x.height); items = two (grouped names) groups.items x.expr }
+groups_with groups names x = record { height = max groups.height (higher x.height); items = two (grouped names) groups.items (kept (higher x.height) x.expr) }
 
 abbrev pub index_of : Option (List (Group Expr)) → Option (Index Expr)
 index_of groups = one (λ gs. record { groups = gs; condition = None }) groups

@@ -1,4 +1,4 @@
-use Rattle.std.specs.Prelude.{◌≡◌, ℕ, true, false, List, [], ◌∷◌, ◌++◌, Option, Some, None}
+use Rattle.std.specs.Prelude.{◌≡◌, ℕ, true, false, List, [], ◌∷◌, ◌++◌, Option, Some, None, Result, Ok, Err}
 use Rattle.mos_tree.specs.declared.expr.Expr.{Expr}
 use Rattle.mos_tree.specs.declared.expr.Index.{Index}
 use Rattle.mos_tree.specs.declared.expr.Expr.TheVariants as e
@@ -11,6 +11,8 @@ use Rattle.mos_scan.specs.declared.reading.Word.{Word}
 use Rattle.mos_scan.specs.declared.reading.Word.TheVariants as w
 use Rattle.mos_expr.specs.Operands as o
 use Rattle.mos_expr.specs.Machine.{State, Settled, and_then, want_with, settled, after_key, if_set}
+use Rattle.mos_expr.specs.declared.fault.ExprFault.{ExprFault}
+use Rattle.mos_expr.specs.declared.fault.ExprFault.TheVariants as x
 use Rattle.mos_expr.specs.declared.operand.Operand.{Operand}
 use Rattle.mos_expr.specs.declared.operand.Parts.{Parts}
 use Rattle.mos_expr.specs.declared.operand.Groups.{Groups}
@@ -216,3 +218,22 @@ last_of_index x _ = None
 
 abbrev pub ready_of_words : List Word → Option Ready
 ready_of_words words = and_then (read (m.WantName i.Loop o.no_groups []) [] words) (λ y. and_then (only_frame y.1) (λ g. last_of_index y.0 g))
+
+-- ---- what is said of it
+
+-- a tree that was left out is too high
+abbrev pub made_or_deep : {A : Type 0} → Option A → Result A ExprFault
+made_or_deep None = Err x.Deep
+made_or_deep (Some made) = Ok made
+
+abbrev pub outcome : Option Operand → Result Expr ExprFault
+outcome None = Err x.NoExpr
+outcome (Some operand) = made_or_deep operand.expr
+
+abbrev pub outcome_of_parts : Option Parts → Result (List Expr) ExprFault
+outcome_of_parts None = Err x.NoExpr
+outcome_of_parts (Some parts) = made_or_deep parts.items
+
+abbrev pub outcome_of_index : Option Ready → Result (Index Expr) ExprFault
+outcome_of_index None = Err x.NoExpr
+outcome_of_index (Some ready) = made_or_deep ready.index

@@ -2,14 +2,43 @@ ghost use Rattle.std.specs.Prelude.{◌≡◌, ◌≤◌, length, IfOk, IsErrOf}
 ghost use Rattle.mos_scan.specs.Reading.{words_of};
 ghost use Rattle.mos_expr.specs.Grammar as grammar;
 ghost use Rattle.mos_expr.specs.Outcome as outcome;
+ghost use Rattle.mos_expr.specs.Reader as reads;
 ghost use Rattle.mos_expr.specs.declared.fault.ExprFault.TheVariants as fault;
 
 use crate::ExprFault;
+use crate::operand::{Operand, Parts, Ready};
 use crate::read::{operand_of, parts_of, ready_of_words};
 use mos_scan::{Token, Word, words};
 use mos_tree::{Expr, Index};
 use sqlite_items::Items;
 use std::alloc::Global;
+
+fn tree_of(operand: Option<Operand>) -> Result<Expr, ExprFault>
+    ensures { result ≡ reads.outcome operand }
+{
+    match operand {
+        None => Err(ExprFault::NoExpr),
+        Some(x) => x.expr.ok_or(ExprFault::Deep),
+    }
+}
+
+fn trees_of(parts: Option<Parts>) -> Result<Items<Expr>, ExprFault>
+    ensures { result ≡ reads.outcome_of_parts parts }
+{
+    match parts {
+        None => Err(ExprFault::NoExpr),
+        Some(parts) => parts.items.ok_or(ExprFault::Deep),
+    }
+}
+
+fn index_of(ready: Option<Ready>) -> Result<Index<Expr>, ExprFault>
+    ensures { result ≡ reads.outcome_of_index ready }
+{
+    match ready {
+        None => Err(ExprFault::NoExpr),
+        Some(ready) => ready.index.ok_or(ExprFault::Deep),
+    }
+}
 
 /// The one tree of the words, which are all of one expression.
 pub fn expression_of_words(alloc: Global, words: &[Word]) -> Result<Expr, ExprFault>
@@ -17,10 +46,8 @@ pub fn expression_of_words(alloc: Global, words: &[Word]) -> Result<Expr, ExprFa
     ensures deep { IsErrOf result fault.Deep → outcome.IsTooHigh words.now }
     ensures only { (s : grammar.Syntax) → grammar.IsSpelled words.now s → outcome.Gives result (outcome.answer s) }
 {
-    match operand_of(alloc, words)? {
-        None => Err(ExprFault::NoExpr),
-        Some(x) => x.expr.ok_or(ExprFault::Deep),
-    }
+    let operand = operand_of(alloc, words)?;
+    tree_of(operand)
 }
 
 /// The trees of expressions with commas between them; none where there are no words.
@@ -29,10 +56,8 @@ pub fn expressions_of_words(alloc: Global, words: &[Word]) -> Result<Items<Expr>
     ensures deep { IsErrOf result fault.Deep → outcome.AreTooHigh words.now }
     ensures only { (ss : grammar.Written) → grammar.AreSpelled words.now ss → outcome.Gives result (outcome.answer_of_list ss) }
 {
-    match parts_of(alloc, words)? {
-        None => Err(ExprFault::NoExpr),
-        Some(parts) => parts.items.ok_or(ExprFault::Deep),
-    }
+    let parts = parts_of(alloc, words)?;
+    trees_of(parts)
 }
 
 /// What a loop goes over: names with their sets, perhaps a condition, without the brackets round
@@ -42,10 +67,8 @@ pub fn index_of_words(alloc: Global, words: &[Word]) -> Result<Index<Expr>, Expr
     ensures deep { IsErrOf result fault.Deep → outcome.IsIndexTooHigh words.now }
     ensures only { (i : grammar.Over) → grammar.IsIndexSpelled words.now i → outcome.Gives result (outcome.answer_of_index i) }
 {
-    match ready_of_words(alloc, words)? {
-        None => Err(ExprFault::NoExpr),
-        Some(ready) => ready.index.ok_or(ExprFault::Deep),
-    }
+    let ready = ready_of_words(alloc, words)?;
+    index_of(ready)
 }
 
 /// The one tree of tokens of a source, which are all of one expression; the tokens are neighbours

@@ -422,9 +422,10 @@ pub(crate) fn groups_with(
 ) -> Result<Groups, NoMemory>
     ensures { IfOk result (λ made. made ≡ spec.groups_with groups names x) }
 {
+    let height = higher(x.height);
     Ok(Groups {
-        height: groups.height.max(higher(x.height)),
-        items: items_with_group(groups.items, names, x.expr)?,
+        height: groups.height.max(height),
+        items: items_with_group(groups.items, names, keep(height, x.expr))?,
     })
 }
 
