@@ -9,7 +9,7 @@ use Rattle.mos_tree.specs.declared.expr.UnaryOperator.{UnaryOperator}
 use Rattle.mos_tree.specs.declared.expr.UnaryOperator.TheVariants as u
 use Rattle.mos_tree.specs.declared.expr.BinaryOperator.{BinaryOperator}
 use Rattle.mos_tree.specs.declared.expr.AggregateOperator.{AggregateOperator}
-use Rattle.mos_tree.specs.declared.expr.AggregateOperator.TheVariants as g
+use Rattle.mos_tree.specs.declared.expr.AggregateOperator.TheVariants as ag
 use Rattle.mos_tree.specs.declared.expr.Conversion.{Conversion}
 use Rattle.mos_tree.specs.declared.expr.Conversion.TheVariants as c
 use Rattle.mos_scan.specs.declared.token.TokenKind.{TokenKind}
@@ -88,7 +88,7 @@ opens-before u.Not fs = refl
 
 opens-aggregate : (p : AggregateOperator) (fs : List Frame) → step m.WantFirst (spell_aggregate p) fs ≡ step m.Want (spell_aggregate p) fs
 unfolding step
-opens-aggregate g.Sum fs = refl
+opens-aggregate ag.Sum fs = refl
 opens-aggregate p fs = refl
 
 pub begins : (s : Syntax) → Begins s
@@ -176,9 +176,12 @@ whole-list frame s ss fs rest first r =
       all = r.all ∙ ap (λ h. parts_at h (tree s ∷ trees ss)) low;
     }
 
+zero-high : (n : ℕ) → n ≡ max n 0
+zero-high n = omega arith
+
 follows-rest : (s : Syntax) (ss : Written) (rest : List Word) → Closes rest → Follows s (spell_rest ss ++ rest)
 follows-rest s no_more rest c = c s
-follows-rest s (one_more x xs) rest c = closes-comma _ s
+follows-rest s (one_more x xs) rest c = closes-comma ((spell x ++ spell_rest xs) ++ rest) s
 
 -- ---- indexes
 
@@ -202,7 +205,7 @@ reads-names kind groups (and_name n ns) before_names fs ws =
 
 aggregate-begins : (p : AggregateOperator) (fs : List Frame) (ws : List Word) → read m.Want fs (spell_aggregate p ∷ w.Key t.OpenRound ∷ ws) ≡ read (m.WantName (i.Aggregate p) o.no_groups []) fs ws
 unfolding step want_key aggregate_key
-aggregate-begins g.Sum fs ws = refl
+aggregate-begins ag.Sum fs ws = refl
 aggregate-begins p fs ws = refl
 
 count-begins : (fs : List Frame) (ws : List Word) → read m.Want fs (w.Key t.Count ∷ w.Key t.OpenRound ∷ ws) ≡ read (m.WantName i.Count o.no_groups []) fs ws
@@ -287,8 +290,9 @@ prefix-begins u.Plus fs ws = refl
 prefix-begins u.Not fs ws = refl
 
 mutual
-  pub reads : (s : Syntax) (fs : List Frame) (rest : List Word) → IsGrouped s → Fits (level s) fs → Follows s rest → read m.Want fs (spell s ++ rest) ≡ read (m.After (whole s)) fs rest
   unfolding step want_key after_key
+
+  pub reads : (s : Syntax) (fs : List Frame) (rest : List Word) → IsGrouped s → Fits (level s) fs → Follows s rest → read m.Want fs (spell s ++ rest) ≡ read (m.After (whole s)) fs rest
   reads (leaf x) fs rest g l h = reads-leaf x fs rest h
   reads (call n no_more) fs rest g l h = call-ends n o.no_parts (call n no_more) fs rest h
   reads (call n (one_more s ss)) fs rest g l h =
@@ -333,8 +337,8 @@ mutual
       ∙ ap (λ y. read (m.After y) fs rest) (bracketed-whole s)
   reads (choice x y z) fs rest g l h =
       ap (read m.Want (f.Choice ∷ fs)) (three-parts (spell x) (spell y) (spell z) rest)
-      ∙ reads x (f.Choice ∷ fs) (w.Key t.Comma ∷ (spell y ++ w.Key t.Comma ∷ (spell z ++ w.Key t.CloseRound ∷ rest))) g.0 (level-9 x) (closes-comma _ x)
-      ∙ reads y (f.ChoiceOne (whole x) ∷ fs) (w.Key t.Comma ∷ (spell z ++ w.Key t.CloseRound ∷ rest)) g.1 (level-9 y) (closes-comma _ y)
+      ∙ reads x (f.Choice ∷ fs) (w.Key t.Comma ∷ (spell y ++ w.Key t.Comma ∷ (spell z ++ w.Key t.CloseRound ∷ rest))) g.0 (level-9 x) (closes-comma (spell y ++ w.Key t.Comma ∷ (spell z ++ w.Key t.CloseRound ∷ rest)) x)
+      ∙ reads y (f.ChoiceOne (whole x) ∷ fs) (w.Key t.Comma ∷ (spell z ++ w.Key t.CloseRound ∷ rest)) g.1 (level-9 y) (closes-comma (spell z ++ w.Key t.CloseRound ∷ rest) y)
       ∙ reads z (f.ChoiceTwo (whole x) (whole y) ∷ fs) (w.Key t.CloseRound ∷ rest) g.2 (level-9 z) (closes-round rest z)
       ∙ ap (λ v. read (m.After v) fs rest) (choice-whole x y z)
   reads (convert to s) fs rest g l h =
@@ -377,11 +381,9 @@ mutual
     last = whole s;
     parts = parts_at h xs;
     reads_to = refl;
-    all = parts-whole h xs s ∙ (let p : max h (height s) ≡ max (max h (height s)) 0 = omega arith in rw append-nil (ap (λ k. parts_at k (xs ++ tree s ∷ [])) p));
+    all = parts-whole h xs s ∙ ap (λ k. parts_at k (xs ++ tree s ∷ [])) (zero-high (max h (height s))) ∙ ap (parts_at (max (max h (height s)) 0)) (sym (append-nil (xs ++ tree s ∷ [])));
   }
   reads_rest frame is h xs s (one_more y ys) fs rest g c =
-      let k : ℕ = max h (height s) in
-      let more : List Expr = xs ++ tree s ∷ [] in
       let fits : level y ≤ room (frame (parts_at (max h (height s)) (xs ++ tree s ∷ []))) = subst (λ r. level y ≤ r) (sym (is.wide (parts_at (max h (height s)) (xs ++ tree s ∷ [])))) (level-9 y) in
       let r : ListRead frame (max h (height s)) (xs ++ tree s ∷ []) y ys fs rest = reads_rest frame is (max h (height s)) (xs ++ tree s ∷ []) y ys fs rest g.1 c in
       let high : max (max (max h (height s)) (height y)) (heights ys) ≡ max (max h (height s)) (max (height y) (heights ys)) = omega arith in
@@ -389,11 +391,11 @@ mutual
         last = r.last;
         parts = r.parts;
         reads_to =
-          is.comma (parts_at h xs) (whole s) fs ((spell y ++ spell_rest ys) ++ rest)
-          ∙ ap (λ ps. read m.Want (frame ps ∷ fs) ((spell y ++ spell_rest ys) ++ rest)) (parts-whole h xs s)
-          ∙ ap (read m.Want (frame (parts_at (max h (height s)) (xs ++ tree s ∷ [])) ∷ fs)) (append_assoc (spell y) (spell_rest ys) rest)
-          ∙ reads y (frame (parts_at (max h (height s)) (xs ++ tree s ∷ [])) ∷ fs) (spell_rest ys ++ rest) g.0 fits (follows-rest y ys rest c)
-          ∙ r.reads_to;
+            is.comma (parts_at h xs) (whole s) fs ((spell y ++ spell_rest ys) ++ rest)
+            ∙ ap (λ ps. read m.Want (frame ps ∷ fs) ((spell y ++ spell_rest ys) ++ rest)) (parts-whole h xs s)
+            ∙ ap (read m.Want (frame (parts_at (max h (height s)) (xs ++ tree s ∷ [])) ∷ fs)) (append_assoc (spell y) (spell_rest ys) rest)
+            ∙ reads y (frame (parts_at (max h (height s)) (xs ++ tree s ∷ [])) ∷ fs) (spell_rest ys ++ rest) g.0 fits (follows-rest y ys rest c)
+            ∙ r.reads_to;
         all = r.all ∙ ap (λ q. parts_at q (xs ++ tree s ∷ [] ++ tree y ∷ [] ++ trees ys)) high ∙ ap (λ q. parts_at (max (max h (height s)) (max (height y) (heights ys))) q) (append_assoc (xs ++ tree s ∷ []) (tree y ∷ []) (trees ys));
       }
 
@@ -402,24 +404,24 @@ mutual
     last = whole s;
     top = f.Within kind (groups_at h gs) (list_of_names ns);
     reads_to =
-      ap (read (m.WantName kind (groups_at h gs) []) fs) (append_assoc (spell_names ns) (w.Key t.In ∷ spell s) rest)
-      ∙ reads-names kind (groups_at h gs) ns [] fs (spell s ++ rest)
-      ∙ reads s (f.Within kind (groups_at h gs) (list_of_names ns) ∷ fs) rest g.1 g.0 (c s);
+        ap (read (m.WantName kind (groups_at h gs) []) fs) (append_assoc (spell_names ns) (w.Key t.In ∷ spell s) rest)
+        ∙ reads-names kind (groups_at h gs) ns [] fs (spell s ++ rest)
+        ∙ reads s (f.Within kind (groups_at h gs) (list_of_names ns) ∷ fs) rest g.1 g.0 (c s);
     ends = set_ends kind h gs (list_of_names ns) s g.0;
   }
   reads_over kind h gs (such_that ns s x) fs rest g c = record {
     last = whole x;
     top = f.Such kind (groups_at (max h (height s + 1)) (gs ++ group_of (list_of_names ns) s ∷ []));
     reads_to =
-      ap (read (m.WantName kind (groups_at h gs) []) fs) (append_assoc (spell_names ns) (w.Key t.In ∷ (spell s ++ w.Key t.Bar ∷ spell x)) rest)
-      ∙ reads-names kind (groups_at h gs) ns [] fs ((spell s ++ w.Key t.Bar ∷ spell x) ++ rest)
-      ∙ ap (read m.Want (f.Within kind (groups_at h gs) (list_of_names ns) ∷ fs)) (append_assoc (spell s) (w.Key t.Bar ∷ spell x) rest)
-      ∙ reads s (f.Within kind (groups_at h gs) (list_of_names ns) ∷ fs) (w.Key t.Bar ∷ (spell x ++ rest)) g.1 g.0 (closes-bar _ s)
-      ∙ reads-bar kind h gs (list_of_names ns) s fs (spell x ++ rest) g.0
-      ∙ reads x (f.Such kind (groups_at (max h (height s + 1)) (gs ++ group_of (list_of_names ns) s ∷ [])) ∷ fs) rest g.2 (level-9 x) (c x);
+        ap (read (m.WantName kind (groups_at h gs) []) fs) (append_assoc (spell_names ns) (w.Key t.In ∷ (spell s ++ w.Key t.Bar ∷ spell x)) rest)
+        ∙ reads-names kind (groups_at h gs) ns [] fs ((spell s ++ w.Key t.Bar ∷ spell x) ++ rest)
+        ∙ ap (read m.Want (f.Within kind (groups_at h gs) (list_of_names ns) ∷ fs)) (append_assoc (spell s) (w.Key t.Bar ∷ spell x) rest)
+        ∙ reads s (f.Within kind (groups_at h gs) (list_of_names ns) ∷ fs) (w.Key t.Bar ∷ (spell x ++ rest)) g.1 g.0 (closes-bar (spell x ++ rest) s)
+        ∙ reads-bar kind h gs (list_of_names ns) s fs (spell x ++ rest) g.0
+        ∙ reads x (f.Such kind (groups_at (max h (height s + 1)) (gs ++ group_of (list_of_names ns) s ∷ [])) ∷ fs) rest g.2 (level-9 x) (c x);
     ends =
-      let p : max (max h (height s + 1)) (height x) ≡ max h (max (height s + 1) (height x)) = omega arith in
-      subst (λ q. IndexEnds kind (f.Such kind (groups_at (max h (height s + 1)) (gs ++ group_of (list_of_names ns) s ∷ []))) (whole x) (ready_at q (record { groups = gs ++ group_of (list_of_names ns) s ∷ []; condition = Some (tree x) }))) p (condition_ends kind (max h (height s + 1)) (gs ++ group_of (list_of_names ns) s ∷ []) x);
+        let p : max (max h (height s + 1)) (height x) ≡ max h (max (height s + 1) (height x)) = omega arith in
+        subst (λ q. IndexEnds kind (f.Such kind (groups_at (max h (height s + 1)) (gs ++ group_of (list_of_names ns) s ∷ []))) (whole x) (ready_at q (record { groups = gs ++ group_of (list_of_names ns) s ∷ []; condition = Some (tree x) }))) p (condition_ends kind (max h (height s + 1)) (gs ++ group_of (list_of_names ns) s ∷ []) x);
   }
   reads_over kind h gs (another ns s over) fs rest g c =
       let r : IndexRead kind (max h (height s + 1)) (gs ++ group_of (list_of_names ns) s ∷ []) over fs rest = reads_over kind (max h (height s + 1)) (gs ++ group_of (list_of_names ns) s ∷ []) over fs rest g.2 c in
@@ -427,12 +429,12 @@ mutual
         last = r.last;
         top = r.top;
         reads_to =
-          ap (read (m.WantName kind (groups_at h gs) []) fs) (append_assoc (spell_names ns) (w.Key t.In ∷ (spell s ++ w.Key t.Comma ∷ spell_over over)) rest)
-          ∙ reads-names kind (groups_at h gs) ns [] fs ((spell s ++ w.Key t.Comma ∷ spell_over over) ++ rest)
-          ∙ ap (read m.Want (f.Within kind (groups_at h gs) (list_of_names ns) ∷ fs)) (append_assoc (spell s) (w.Key t.Comma ∷ spell_over over) rest)
-          ∙ reads s (f.Within kind (groups_at h gs) (list_of_names ns) ∷ fs) (w.Key t.Comma ∷ (spell_over over ++ rest)) g.1 g.0 (closes-comma _ s)
-          ∙ reads-comma kind h gs (list_of_names ns) s fs (spell_over over ++ rest) g.0
-          ∙ r.reads_to;
+            ap (read (m.WantName kind (groups_at h gs) []) fs) (append_assoc (spell_names ns) (w.Key t.In ∷ (spell s ++ w.Key t.Comma ∷ spell_over over)) rest)
+            ∙ reads-names kind (groups_at h gs) ns [] fs ((spell s ++ w.Key t.Comma ∷ spell_over over) ++ rest)
+            ∙ ap (read m.Want (f.Within kind (groups_at h gs) (list_of_names ns) ∷ fs)) (append_assoc (spell s) (w.Key t.Comma ∷ spell_over over) rest)
+            ∙ reads s (f.Within kind (groups_at h gs) (list_of_names ns) ∷ fs) (w.Key t.Comma ∷ (spell_over over ++ rest)) g.1 g.0 (closes-comma (spell_over over ++ rest) s)
+            ∙ reads-comma kind h gs (list_of_names ns) s fs (spell_over over ++ rest) g.0
+            ∙ r.reads_to;
         ends = more_ends kind r.top r.last h (height s + 1) (height_over over) gs (groups_of over) (group_of (list_of_names ns) s) (condition_of over) r.ends;
       }
 

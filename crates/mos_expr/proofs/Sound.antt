@@ -8,7 +8,6 @@ use Rattle.mos_tree.specs.declared.expr.UnaryOperator.TheVariants as u
 use Rattle.mos_tree.specs.declared.expr.BinaryOperator.{BinaryOperator}
 use Rattle.mos_tree.specs.declared.expr.BinaryOperator.TheVariants as b
 use Rattle.mos_tree.specs.declared.expr.AggregateOperator.{AggregateOperator}
-use Rattle.mos_tree.specs.declared.expr.AggregateOperator.TheVariants as g
 use Rattle.mos_tree.specs.declared.expr.Conversion.TheVariants as c
 use Rattle.mos_scan.specs.declared.token.TokenKind.{TokenKind}
 use Rattle.mos_scan.specs.declared.token.TokenKind.TheVariants as t
@@ -41,38 +40,38 @@ moved fs x y all e h = subst (λ ws. Holds fs ws all) e h
 -- ---- whole parts and whole indexes
 
 -- the last of some parts
-parts_done : (parts : Parts) (p : PartsBefore parts) (s : Syntax) → IsGrouped s → WholeParts (o.parts_with parts (whole s))
+abbrev pub parts_done : (parts : Parts) (p : PartsBefore parts) (s : Syntax) → IsGrouped s → WholeParts (o.parts_with parts (whole s))
 parts_done parts p s g = record {
   written = p.with_more (one_more s no_more);
   grouped = p.grouped (one_more s no_more) (g, tt);
   is =
-    ap (λ q. o.parts_with q (whole s)) p.is ∙ parts-whole p.h p.xs s
-    ∙ ap (λ k. parts_at k (p.xs ++ tree s ∷ [])) (let e : max p.h (height s) ≡ max p.h (max (height s) 0) = omega arith in e ∙ sym (p.high (one_more s no_more)))
-    ∙ ap (λ xs. parts_at (heights (p.with_more (one_more s no_more))) xs) (sym (p.made (one_more s no_more)));
+      ap (λ q. o.parts_with q (whole s)) p.is ∙ parts-whole p.h p.xs s
+      ∙ ap (λ k. parts_at k (p.xs ++ tree s ∷ [])) (let e : max p.h (height s) ≡ max p.h (max (height s) 0) = omega arith in e ∙ sym (p.high (one_more s no_more)))
+      ∙ ap (λ xs. parts_at (heights (p.with_more (one_more s no_more))) xs) (sym (p.made (one_more s no_more)));
 }
 
-parts_words : (parts : Parts) (p : PartsBefore parts) (s : Syntax) (rest : List Word) → p.words (spell s ++ rest) ≡ spell_list (p.with_more (one_more s no_more)) ++ rest
+pub parts_words : (parts : Parts) (p : PartsBefore parts) (s : Syntax) (rest : List Word) → p.words (spell s ++ rest) ≡ spell_list (p.with_more (one_more s no_more)) ++ rest
 parts_words parts p s rest = sym (p.spelled s no_more rest)
 
-no_parts_done : WholeParts o.no_parts
+abbrev no_parts_done : WholeParts o.no_parts
 no_parts_done = record { written = no_more; grouped = tt; is = refl }
 
 -- an index whose last set has no condition
-set_done : (groups : Groups) (sets : SetsBefore groups) (ns : Names) (s : Syntax) → level s ≤ 5 → IsGrouped s → WholeIndex (o.ready_of (o.groups_with groups (list_of_names ns) (whole s)))
+abbrev pub set_done : (groups : Groups) (sets : SetsBefore groups) (ns : Names) (s : Syntax) → level s ≤ 5 → IsGrouped s → WholeIndex (o.ready_of (o.groups_with groups (list_of_names ns) (whole s)))
 set_done groups sets ns s l g = record {
   over = sets.with_more (last_set ns s);
   grouped = sets.grouped (last_set ns s) (l, g);
   is =
-    ap (λ q. o.ready_of (o.groups_with q (list_of_names ns) (whole s))) sets.is
-    ∙ ap o.ready_of (groups-whole sets.h sets.gs (list_of_names ns) s)
-    ∙ ready-whole (max sets.h (height s + 1)) (sets.gs ++ group_of (list_of_names ns) s ∷ [])
-    ∙ ap (λ k. ready_at k (record { groups = sets.gs ++ group_of (list_of_names ns) s ∷ []; condition = None })) (sym (sets.high (last_set ns s)))
-    ∙ ap (λ gs. ready_at (height_over (sets.with_more (last_set ns s))) (record { groups = gs; condition = None })) (sym (sets.made (last_set ns s)))
-    ∙ ap (λ x. ready_at (height_over (sets.with_more (last_set ns s))) (record { groups = groups_of (sets.with_more (last_set ns s)); condition = x })) (sym (sets.condition (last_set ns s)));
+      ap (λ q. o.ready_of (o.groups_with q (list_of_names ns) (whole s))) sets.is
+      ∙ ap o.ready_of (groups-whole sets.h sets.gs (list_of_names ns) s)
+      ∙ ready-whole (max sets.h (height s + 1)) (sets.gs ++ group_of (list_of_names ns) s ∷ [])
+      ∙ ap (λ k. ready_at k (record { groups = sets.gs ++ group_of (list_of_names ns) s ∷ []; condition = None })) (sym (sets.high (last_set ns s)))
+      ∙ ap (λ gs. ready_at (height_over (sets.with_more (last_set ns s))) (record { groups = gs; condition = None })) (sym (sets.made (last_set ns s)))
+      ∙ ap (λ x. ready_at (height_over (sets.with_more (last_set ns s))) (record { groups = groups_of (sets.with_more (last_set ns s)); condition = x })) (sym (sets.condition (last_set ns s)));
 }
 
 -- the last set of an index, whose condition comes next
-set_before_condition : (groups : Groups) (sets : SetsBefore groups) (ns : Names) (s : Syntax) → level s ≤ 5 → IsGrouped s → LastSet (o.groups_with groups (list_of_names ns) (whole s))
+abbrev set_before_condition : (groups : Groups) (sets : SetsBefore groups) (ns : Names) (s : Syntax) → level s ≤ 5 → IsGrouped s → LastSet (o.groups_with groups (list_of_names ns) (whole s))
 set_before_condition groups sets ns s l g = record {
   earlier = groups;
   sets = sets;
@@ -84,29 +83,28 @@ set_before_condition groups sets ns s l g = record {
 }
 
 -- an index with its condition
-condition_done : (groups : Groups) (last : LastSet groups) (x : Syntax) → IsGrouped x → WholeIndex (o.such_of groups (whole x))
+abbrev pub condition_done : (groups : Groups) (last : LastSet groups) (x : Syntax) → IsGrouped x → WholeIndex (o.such_of groups (whole x))
 condition_done groups last x g =
-    let over : Over = such_that last.names last.syntax x in
     record {
       over = last.sets.with_more (such_that last.names last.syntax x);
       grouped = last.sets.grouped (such_that last.names last.syntax x) (last.tight, last.grouped, g);
       is =
-        ap (λ q. o.such_of q (whole x)) last.is
-        ∙ such-whole (max last.sets.h (height last.syntax + 1)) (last.sets.gs ++ group_of (list_of_names last.names) last.syntax ∷ []) x
-        ∙ ap (λ k. ready_at k (record { groups = last.sets.gs ++ group_of (list_of_names last.names) last.syntax ∷ []; condition = Some (tree x) })) (let e : max (max last.sets.h (height last.syntax + 1)) (height x) ≡ max last.sets.h (max (height last.syntax + 1) (height x)) = omega arith in e ∙ sym (last.sets.high (such_that last.names last.syntax x)))
-        ∙ ap (λ gs. ready_at (height_over (last.sets.with_more (such_that last.names last.syntax x))) (record { groups = gs; condition = Some (tree x) })) (sym (last.sets.made (such_that last.names last.syntax x)))
-        ∙ ap (λ y. ready_at (height_over (last.sets.with_more (such_that last.names last.syntax x))) (record { groups = groups_of (last.sets.with_more (such_that last.names last.syntax x)); condition = y })) (sym (last.sets.condition (such_that last.names last.syntax x)));
+          ap (λ q. o.such_of q (whole x)) last.is
+          ∙ such-whole (max last.sets.h (height last.syntax + 1)) (last.sets.gs ++ group_of (list_of_names last.names) last.syntax ∷ []) x
+          ∙ ap (λ k. ready_at k (record { groups = last.sets.gs ++ group_of (list_of_names last.names) last.syntax ∷ []; condition = Some (tree x) })) (let e : max (max last.sets.h (height last.syntax + 1)) (height x) ≡ max last.sets.h (max (height last.syntax + 1) (height x)) = omega arith in e ∙ sym (last.sets.high (such_that last.names last.syntax x)))
+          ∙ ap (λ gs. ready_at (height_over (last.sets.with_more (such_that last.names last.syntax x))) (record { groups = gs; condition = Some (tree x) })) (sym (last.sets.made (such_that last.names last.syntax x)))
+          ∙ ap (λ y. ready_at (height_over (last.sets.with_more (such_that last.names last.syntax x))) (record { groups = groups_of (last.sets.with_more (such_that last.names last.syntax x)); condition = y })) (sym (last.sets.condition (such_that last.names last.syntax x)));
     }
 
-set_words : (ns : Names) (s : Syntax) (rest : List Word) → spell_names ns ++ w.Key t.In ∷ (spell s ++ rest) ≡ spell_over (last_set ns s) ++ rest
+pub set_words : (ns : Names) (s : Syntax) (rest : List Word) → spell_names ns ++ w.Key t.In ∷ (spell s ++ rest) ≡ spell_over (last_set ns s) ++ rest
 set_words ns s rest = sym (append_assoc (spell_names ns) (w.Key t.In ∷ spell s) rest)
 
-condition_words : (ns : Names) (s x : Syntax) (rest : List Word) → spell_names ns ++ w.Key t.In ∷ (spell s ++ w.Key t.Bar ∷ (spell x ++ rest)) ≡ spell_over (such_that ns s x) ++ rest
+pub condition_words : (ns : Names) (s x : Syntax) (rest : List Word) → spell_names ns ++ w.Key t.In ∷ (spell s ++ w.Key t.Bar ∷ (spell x ++ rest)) ≡ spell_over (such_that ns s x) ++ rest
 condition_words ns s x rest = simp append_assoc
 
 -- ---- what is whole, in an operand
 
-whole_of : (s : Syntax) (x : Operand) → IsGrouped s → x ≡ whole s → Whole x
+abbrev whole_of : (s : Syntax) (x : Operand) → IsGrouped s → x ≡ whole s → Whole x
 whole_of s x g e = record { syntax = s; grouped = g; is = e }
 
 -- an operand that nothing behind it can take part in
@@ -182,29 +180,29 @@ places op (f.Before p ∷ fs) s rest all g n h =
     on_bool (nat_le (binds op) (level_before p) && nat_le (level s) (left_of op))
     (λ e. rw e (between_holds op (f.Before p ∷ fs) s rest all g n (and_parts (nat_le (binds op) (level_before p)) (nat_le (level s) (left_of op)) e).1 h))
     (λ e. on_bool (nat_le (level s) (level_before p))
-      (λ d. rw (e, d) (placed_made op fs (before p s) (o.before_of p (whole s)) rest all (before-whole p s) (places op fs (before p s) rest all (leb-true (level s) (level_before p) d, g) (none_taken _ _ e n) h)))
-      (λ d. rw (e, d) tt))
+    (λ d. rw (e, d) (placed_made op fs (before p s) (o.before_of p (whole s)) rest all (before-whole p s) (places op fs (before p s) rest all (leb-true (level s) (level_before p) d, g) (none_taken _ _ e n) h)))
+    (λ d. rw (e, d) tt))
 places op (f.Between q a ∷ fs) s rest all g n h =
     on_bool (nat_le (binds op) (right_of q) && nat_le (level s) (left_of op))
     (λ e. rw e (between_holds op (f.Between q a ∷ fs) s rest all g n (and_parts (nat_le (binds op) (right_of q)) (nat_le (level s) (left_of op)) e).1 h))
     (λ e. on_bool (nat_le (level s) (right_of q))
-      (λ d. rw (e, d) (placed_made op fs (between q h.0.syntax s) (o.between_of q a (whole s)) rest all (ap (λ y. o.between_of q y (whole s)) h.0.is ∙ between-whole q h.0.syntax s) (places op fs (between q h.0.syntax s) rest all (h.1, leb-true (level s) (right_of q) d, h.0.grouped, g, h.2) (none_taken _ _ e n) (moved fs _ _ all (between_words q h.0.syntax s (spell_between op ++ rest)) h.3))))
-      (λ d. rw (e, d) tt))
+    (λ d. rw (e, d) (placed_made op fs (between q h.0.syntax s) (o.between_of q a (whole s)) rest all (ap (λ y. o.between_of q y (whole s)) h.0.is ∙ between-whole q h.0.syntax s) (places op fs (between q h.0.syntax s) rest all (h.1, leb-true (level s) (right_of q) d, h.0.grouped, g, h.2) (none_taken _ _ e n) (moved fs _ _ all (between_words q h.0.syntax s (spell_between op ++ rest)) h.3))))
+    (λ d. rw (e, d) tt))
 places op (f.Body p ready ∷ fs) s rest all g n h =
     on_bool (nat_le (binds op) (level_body p) && nat_le (level s) (left_of op))
     (λ e. rw e (between_holds op (f.Body p ready ∷ fs) s rest all g n (and_parts (nat_le (binds op) (level_body p)) (nat_le (level s) (left_of op)) e).1 h))
     (λ e. on_bool (nat_le (level s) (level_body p))
-      (λ d. rw (e, d) (placed_made op fs (aggregate p h.0.over s) (o.aggregate_of p ready (whole s)) rest all (body_whole p ready h.0 s) (places op fs (aggregate p h.0.over s) rest all (leb-true (level s) (level_body p) d, h.0.grouped, g) (none_taken _ _ e n) (moved fs _ _ all (ap (λ z. spell_aggregate p ∷ w.Key t.OpenRound ∷ z) (body_words h.0.over s (spell_between op ++ rest))) h.1))))
-      (λ d. rw (e, d) tt))
+    (λ d. rw (e, d) (placed_made op fs (aggregate p h.0.over s) (o.aggregate_of p ready (whole s)) rest all (body_whole p ready h.0 s) (places op fs (aggregate p h.0.over s) rest all (leb-true (level s) (level_body p) d, h.0.grouped, g) (none_taken _ _ e n) (moved fs _ _ all (ap (λ z. spell_aggregate p ∷ w.Key t.OpenRound ∷ z) (body_words h.0.over s (spell_between op ++ rest))) h.1))))
+    (λ d. rw (e, d) tt))
 places op (q ∷ fs) s rest all g n h = placed_here op q fs s rest all refl g n h
+
+plain_state : (op : BinaryOperator) (st : Option (List Frame)) (rest all : List Word) → mode_behind op ≡ m.Want → GoodFrames st rest all → Good (and_then st (λ gs. Some (mode_behind op, gs))) rest all
+plain_state op None rest all e h = tt
+plain_state op (Some gs) rest all e h = subst (λ mode. Stands mode gs rest all) (sym e) h
 
 -- an operator of one word
 plain : (op : BinaryOperator) (s : Syntax) (fs : List Frame) (rest all : List Word) → mode_behind op ≡ m.Want → IsGrouped s → takes s op ≡ false → Holds fs (spell s ++ (spell_between op ++ rest)) all → Good (infix_at op (whole s) fs) rest all
 plain op s fs rest all e g n h = plain_state op (placed op (whole s) fs) rest all e (places op fs s rest all g n h)
-  where
-  plain_state : (op : BinaryOperator) (st : Option (List Frame)) (rest all : List Word) → mode_behind op ≡ m.Want → GoodFrames st rest all → Good (and_then st (λ gs. Some (mode_behind op, gs))) rest all
-  plain_state op None rest all e h = tt
-  plain_state op (Some gs) rest all e h = rw e h
 
 -- `not`, behind which `in` must come
 not_in_state : (st : Option (List Frame)) (rest all : List Word) → ((after : List Word) → rest ≡ w.Key t.In ∷ after → GoodFrames st after all) → Good (and_then st (λ gs. Some (m.WantIn, gs))) rest all

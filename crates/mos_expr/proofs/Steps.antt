@@ -153,7 +153,6 @@ pops-between op a s fs rest l h =
 
 pub pops-body : (g : AggregateOperator) (i : Over) (s : Syntax) (fs : List Frame) (rest : List Word) → level s ≤ level_body g → Follows (aggregate g i s) rest → read (m.After (whole s)) (f.Body g (ready_at (height_over i) (index_of i)) ∷ fs) rest ≡ read (m.After (whole (aggregate g i s))) fs rest
 pops-body g i s fs rest l h =
-    let frame : Frame = f.Body g (ready_at (height_over i) (index_of i)) in
     pops (f.Body g (ready_at (height_over i) (index_of i))) (whole s) (whole (aggregate g i s)) fs rest refl
     (fold-tight (f.Body g (ready_at (height_over i) (index_of i))) s (whole (aggregate g i s)) l (ap (λ z. Some z) (aggregate-whole g (height_over i) (index_of i) s)))
     (not_within (f.Body g (ready_at (height_over i) (index_of i))) (aggregate g i s) s rest (λ op. refl) h)
@@ -171,11 +170,11 @@ stays-fits op l (g ∷ fs) h f =
     let q : nat_le l (left_of op) ≡ true = le-leb l (left_of op) h in
     rw (p, q) refl
 
-operator_words : (op : BinaryOperator) (ws : List Word) → Option (List Frame) → Settled
+abbrev operator_words : BinaryOperator → List Word → Option (List Frame) → Settled
 operator_words op ws z = next_words ws (and_then z (λ gs. Some (mode_behind op, gs)))
 
 pub reads-operator : (op : BinaryOperator) (x : Operand) (fs : List Frame) (ws : List Word) → stays op x.level fs ≡ true → read (m.After x) fs (spell_between op ++ ws) ≡ read m.Want (f.Between op x ∷ fs) ws
-unfolding step after_key operator_words
+unfolding step after_key
 reads-operator b.NotIn x fs ws e = ap (operator_words b.NotIn (w.Key t.In ∷ ws)) (placed-stays b.NotIn x fs e)
 reads-operator op x fs ws e = ap (operator_words op ws) (placed-stays op x fs e)
 

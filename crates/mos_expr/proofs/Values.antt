@@ -74,36 +74,47 @@ max-capped a b = omega arith
 
 pub one_at : {A B : Type 0} (f : A → B) (h : ℕ) (x : A) → o.one f (tree_at h x) ≡ tree_at h (f x)
 one_at f h x = by_height h
-  (λ less. ap (o.one f) (low h x less) ∙ sym (low h (f x) less))
-  (λ more. ap (o.one f) (high h x more) ∙ sym (high h (f x) more))
+    (λ less. ap (o.one f) (low h x less) ∙ sym (low h (f x) less))
+    (λ more. ap (o.one f) (high h x more) ∙ sym (high h (f x) more))
+
+two_low : {A B C : Type 0} (f : A → B → C) (a b : ℕ) (x : A) (y : B) → a ≤ 500 → o.one (f x) (tree_at b y) ≡ tree_at (max a b) (f x y)
+two_low f a b x y small = by_height b
+    (λ less. ap (o.one (f x)) (low b y less) ∙ sym (low (max a b) (f x y) (omega arith)))
+    (λ more. ap (o.one (f x)) (high b y more) ∙ sym (high (max a b) (f x y) (omega arith)))
 
 pub two_at : {A B C : Type 0} (f : A → B → C) (a b : ℕ) (x : A) (y : B) → o.two f (tree_at a x) (tree_at b y) ≡ tree_at (max a b) (f x y)
 two_at f a b x y = by_height a
-  (λ less. ap (λ z. o.two f z (tree_at b y)) (low a x less) ∙ by_height b
-    (λ small. ap (o.one (f x)) (low b y small) ∙ sym (low (max a b) (f x y) (omega arith)))
-    (λ more. ap (o.one (f x)) (high b y more) ∙ sym (high (max a b) (f x y) (omega arith))))
-  (λ more. ap (λ z. o.two f z (tree_at b y)) (high a x more) ∙ sym (high (max a b) (f x y) (omega arith)))
+    (λ less. ap (λ z. o.two f z (tree_at b y)) (low a x less) ∙ two_low f a b x y less)
+    (λ more. ap (λ z. o.two f z (tree_at b y)) (high a x more) ∙ sym (high (max a b) (f x y) (omega arith)))
+
+same_at : {A : Type 0} (a b : ℕ) (x : A) → a ≤ 500 → tree_at b x ≡ tree_at (max a b) x
+same_at a b x small = by_height b
+    (λ less. low b x less ∙ sym (low (max a b) x (omega arith)))
+    (λ more. high b x more ∙ sym (high (max a b) x (omega arith)))
 
 pub three_at : {A B C D : Type 0} (f : A → B → C → D) (a b c : ℕ) (x : A) (y : B) (z : C) → o.three f (tree_at a x) (tree_at b y) (tree_at c z) ≡ tree_at (max a (max b c)) (f x y z)
 three_at f a b c x y z = by_height a
-  (λ less. ap (λ w. o.three f w (tree_at b y) (tree_at c z)) (low a x less) ∙ two_at (f x) b c y z ∙ by_height (max b c)
-    (λ small. low (max b c) (f x y z) small ∙ sym (low (max a (max b c)) (f x y z) (omega arith)))
-    (λ more. high (max b c) (f x y z) more ∙ sym (high (max a (max b c)) (f x y z) (omega arith))))
-  (λ more. ap (λ w. o.three f w (tree_at b y) (tree_at c z)) (high a x more) ∙ sym (high (max a (max b c)) (f x y z) (omega arith)))
+    (λ less. ap (λ w. o.three f w (tree_at b y) (tree_at c z)) (low a x less) ∙ two_at (f x) b c y z ∙ same_at a (max b c) (f x y z) less)
+    (λ more. ap (λ w. o.three f w (tree_at b y) (tree_at c z)) (high a x more) ∙ sym (high (max a (max b c)) (f x y z) (omega arith)))
 
 -- a node over a part of this height
 pub kept_at : (h : ℕ) (x : Expr) → o.kept (o.higher (capped h)) (tree_at h x) ≡ tree_at (h + 1) x
 kept_at h x = by_height (h + 1)
-  (λ less. kept_low (o.higher (capped h)) (tree_at h x) (omega arith) ∙ low h x (omega arith) ∙ sym (low (h + 1) x less))
-  (λ more. kept_high (o.higher (capped h)) (tree_at h x) (omega arith) ∙ sym (high (h + 1) x more))
+    (λ less. kept_low (o.higher (capped h)) (tree_at h x) (omega arith) ∙ low h x (omega arith) ∙ sym (low (h + 1) x less))
+    (λ more. kept_high (o.higher (capped h)) (tree_at h x) (omega arith) ∙ sym (high (h + 1) x more))
 
 -- ---- what is made of whole parts
 
+abbrev operand_with : ℕ → ℕ → Option Expr → Operand
+operand_with l h made = record { level = l; height = h; expr = made }
+
 -- a node of this level over parts of this height
-made_at : (l g h : ℕ) (made : Option Expr) (x : Expr) → g ≡ capped h → made ≡ tree_at h x → record { level = l; height = o.higher g; expr = o.kept (o.higher g) made } ≡ operand_at l (h + 1) x
+made_at : (l g h : ℕ) (made : Option Expr) (x : Expr) → g ≡ capped h → made ≡ tree_at h x → operand_with l (o.higher g) (o.kept (o.higher g) made) ≡ operand_at l (h + 1) x
 made_at l g h made x eg em =
-    let both : record { level = l; height = o.higher g; expr = o.kept (o.higher g) made } ≡ record { level = l; height = o.higher (capped h); expr = o.kept (o.higher (capped h)) (tree_at h x) } = rw (eg, em) refl in
-    both ∙ rw (higher-capped h, kept_at h x) refl
+    ap (λ k. operand_with l (o.higher k) (o.kept (o.higher k) made)) eg
+    ∙ ap (λ m. operand_with l (o.higher (capped h)) (o.kept (o.higher (capped h)) m)) em
+    ∙ ap (λ k. operand_with l k (o.kept (o.higher (capped h)) (tree_at h x))) (higher-capped h)
+    ∙ ap (operand_with l (capped (h + 1))) (kept_at h x)
 
 pub node-whole : (g h : ℕ) (made : Option Expr) (x : Expr) → g ≡ capped h → made ≡ tree_at h x → o.node g made ≡ operand_at 1 (h + 1) x
 node-whole g h made x eg em = made_at 1 g h made x eg em
@@ -140,8 +151,13 @@ counted-whole h index = node-whole (capped h) h (o.count (tree_at h index)) (e.C
 
 -- ---- lists of parts
 
+abbrev parts_and : ℕ → Option (List Expr) → Parts
+parts_and h items = record { height = h; items = items }
+
 pub parts-whole : (h : ℕ) (xs : List Expr) (s : Syntax) → o.parts_with (parts_at h xs) (whole s) ≡ parts_at (max h (height s)) (xs ++ tree s ∷ [])
-parts-whole h xs s = rw (max-capped h (height s), two_at o.pushed h (height s) xs (tree s)) refl
+parts-whole h xs s =
+    ap (λ k. parts_and k (o.two o.pushed (tree_at h xs) (tree_at (height s) (tree s)))) (max-capped h (height s))
+    ∙ ap (parts_and (capped (max h (height s)))) (two_at o.pushed h (height s) xs (tree s))
 
 pub call-whole : (n : List ℕ) (h : ℕ) (xs : List Expr) → o.call_of n (parts_at h xs) ≡ operand_at 1 (h + 1) (e.Call n xs)
 call-whole n h xs = node-whole (capped h) h (o.call n (tree_at h xs)) (e.Call n xs) refl (one_at (λ ys. e.Call n ys) h xs)
@@ -160,12 +176,26 @@ list-whole h xs = node-whole (capped h) h (o.list (tree_at h xs)) (e.List xs) re
 abbrev pub group_of : List (List ℕ) → Syntax → Group Expr
 group_of names s = record { names = names; set = tree s }
 
+abbrev groups_and : ℕ → Option (List (Group Expr)) → Groups
+groups_and h items = record { height = h; items = items }
+
+abbrev ready_and : ℕ → Option (Index Expr) → Ready
+ready_and h index = record { height = h; index = index }
+
+abbrev index_and : List (Group Expr) → Option Expr → Index Expr
+index_and gs condition = record { groups = gs; condition = condition }
+
 pub groups-whole : (h : ℕ) (gs : List (Group Expr)) (names : List (List ℕ)) (s : Syntax) → o.groups_with (groups_at h gs) names (whole s) ≡ groups_at (max h (height s + 1)) (gs ++ group_of names s ∷ [])
 groups-whole h gs names s =
-    rw (higher-capped (height s)) (rw (max-capped h (height s + 1)) (rw (sym (higher-capped (height s))) (rw (kept_at (height s) (tree s)) (rw (two_at (o.grouped names) h (height s + 1) gs (tree s)) refl))))
+    ap (λ k. groups_and (max (capped h) k) (o.two (o.grouped names) (tree_at h gs) (o.kept (o.higher (capped (height s))) (tree_at (height s) (tree s))))) (higher-capped (height s))
+    ∙ ap (λ k. groups_and k (o.two (o.grouped names) (tree_at h gs) (o.kept (o.higher (capped (height s))) (tree_at (height s) (tree s))))) (max-capped h (height s + 1))
+    ∙ ap (λ x. groups_and (capped (max h (height s + 1))) (o.two (o.grouped names) (tree_at h gs) x)) (kept_at (height s) (tree s))
+    ∙ ap (groups_and (capped (max h (height s + 1)))) (two_at (o.grouped names) h (height s + 1) gs (tree s))
 
 pub ready-whole : (h : ℕ) (gs : List (Group Expr)) → o.ready_of (groups_at h gs) ≡ ready_at h (record { groups = gs; condition = None })
-ready-whole h gs = ap (λ i. record { height = capped h; index = i }) (one_at (λ (g : List (Group Expr)). record { groups = g; condition = None }) h gs)
+ready-whole h gs = ap (ready_and (capped h)) (one_at (λ g. index_and g None) h gs)
 
 pub such-whole : (h : ℕ) (gs : List (Group Expr)) (s : Syntax) → o.such_of (groups_at h gs) (whole s) ≡ ready_at (max h (height s)) (record { groups = gs; condition = Some (tree s) })
-such-whole h gs s = rw (max-capped h (height s), two_at o.conditioned h (height s) gs (tree s)) refl
+such-whole h gs s =
+    ap (λ k. ready_and k (o.two o.conditioned (tree_at h gs) (tree_at (height s) (tree s)))) (max-capped h (height s))
+    ∙ ap (ready_and (capped (max h (height s)))) (two_at o.conditioned h (height s) gs (tree s))

@@ -34,13 +34,13 @@ use Rattle.mos_expr.proofs.Sound.{reads_good, parts_done, parts_words, set_done,
 
 kept_ok : {A : Type 0} (h : ℕ) (made : A) (r : Result A ExprFault) → r ≡ made_or_deep (tree_at h made) → IfOk r (λ y. (h ≤ 500) × (y ≡ made))
 kept_ok h made r e = by_height h
-  (λ less. subst (λ z. IfOk z (λ y. (h ≤ 500) × (y ≡ made))) (sym (e ∙ ap made_or_deep (low h made less))) (less, refl))
-  (λ more. subst (λ z. IfOk z (λ y. (h ≤ 500) × (y ≡ made))) (sym (e ∙ ap made_or_deep (high h made more))) tt)
+    (λ less. subst (λ z. IfOk z (λ y. (h ≤ 500) × (y ≡ made))) (sym (e ∙ ap made_or_deep (low h made less))) (less, refl))
+    (λ more. subst (λ z. IfOk z (λ y. (h ≤ 500) × (y ≡ made))) (sym (e ∙ ap made_or_deep (high h made more))) tt)
 
 kept_deep : {A : Type 0} (h : ℕ) (made : A) (r : Result A ExprFault) → r ≡ made_or_deep (tree_at h made) → IsErrOf r x.Deep → 500 < h
 kept_deep h made r e d = by_height h
-  (λ less. let p : Ok made ≡ Err x.Deep = sym (e ∙ ap made_or_deep (low h made less)) ∙ d in cc)
-  (λ more. more)
+    (λ less. let p : Ok made ≡ Err x.Deep = sym (e ∙ ap made_or_deep (low h made less)) ∙ d in cc)
+    (λ more. more)
 
 kept_answer : {A : Type 0} (h : ℕ) (made : A) → made_or_deep (tree_at h made) ≡ (if nat_le h limit then Ok made else Err x.Deep)
 kept_answer h made = on_bool (nat_le h 500) (λ e. rw e refl) (λ e. rw e refl)
@@ -150,13 +150,13 @@ IsWholeIndex words ready = (a : WholeIndex ready) × (words ≡ spell_over a.ove
 
 within_good : (words : List Word) (groups : Groups) (names : List (List ℕ)) (s : Syntax) (sets : SetsBefore groups) (ns : Names) → names ≡ list_of_names ns → IsGrouped s → words ≡ sets.words (spell_names ns ++ w.Key t.In ∷ (spell s ++ [])) → (ready : Ready) → last_of_index (whole s) (f.Within i.Loop groups names) ≡ Some ready → IsWholeIndex words ready
 within_good words groups names s sets ns n g h ready e = on_bool (nat_le (level s) 5)
-  (λ l.
+    (λ l.
     let p : Some (o.ready_of (o.groups_with groups names (whole s))) ≡ Some ready = rw l at e in
     let q : o.ready_of (o.groups_with groups names (whole s)) ≡ ready = cc in
     let d : WholeIndex (o.ready_of (o.groups_with groups (list_of_names ns) (whole s))) = set_done groups sets ns s (leb-true (level s) 5 l) g in
     subst (IsWholeIndex words) (ap (λ k. o.ready_of (o.groups_with groups k (whole s))) (sym n) ∙ q)
     (d, h ∙ ap sets.words (set_words ns s []) ∙ sym (sets.spelled (last_set ns s) []) ∙ append-nil (spell_over d.over)))
-  (λ l. let p : None ≡ Some ready = rw l at e in cc)
+    (λ l. let p : None ≡ Some ready = rw l at e in cc)
 
 such_good : (words : List Word) (groups : Groups) (s : Syntax) (last : LastSet groups) → IsGrouped s → words ≡ last.sets.words (spell_names last.names ++ w.Key t.In ∷ (spell last.syntax ++ w.Key t.Bar ∷ (spell s ++ []))) → IsWholeIndex words (o.such_of groups (whole s))
 such_good words groups s last g h =

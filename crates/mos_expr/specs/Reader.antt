@@ -185,10 +185,13 @@ abbrev pub operand_of : List Word → Option Operand
 operand_of words = and_then (read m.Want [] words) (λ y. alone y.0 y.1)
 
 -- the one frame that is open
+abbrev pub only_of : Frame → List Frame → Option Frame
+only_of g [] = Some g
+only_of g (h ∷ fs) = None
+
 abbrev pub only_frame : List Frame → Option Frame
 only_frame [] = None
-only_frame (g ∷ []) = Some g
-only_frame (g ∷ h ∷ fs) = None
+only_frame (g ∷ fs) = only_of g fs
 
 -- the last of expressions with commas between them
 abbrev pub last_listed : Operand → Frame → Option Parts

@@ -5,7 +5,6 @@
 //! calls itself on what it reads.
 #![tactic(auto)]
 
-mod expression;
 mod fault;
 mod frame;
 mod level;
@@ -14,9 +13,10 @@ mod operand;
 mod read;
 mod reader;
 mod stack;
+mod tree;
 
-pub use expression::{expression, expression_of_words, expressions_of_words, index_of_words};
 pub use fault::ExprFault;
+pub use tree::{expression, expression_of_words, expressions_of_words, index_of_words};
 
 #[cfg(test)]
 mod tests;

@@ -38,7 +38,7 @@ fn room(frame: &Frame) -> u32
 }
 
 /// Lets go of what spells no expression.
-fn refuse(_frame: Frame, _x: Operand) {}
+pub(crate) fn refuse(_frame: Frame, _x: Operand) {}
 
 /// What the frame makes of an operand that ends it.
 fn folded(alloc: Global, frame: Frame, x: Operand) -> Result<Option<Operand>, NoMemory>

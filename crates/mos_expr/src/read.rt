@@ -3,7 +3,7 @@ ghost use Rattle.mos_expr.specs.Machine as spec;
 ghost use Rattle.mos_expr.specs.Reader as reads;
 
 use crate::frame::{Frame, IndexKind, Mode};
-use crate::machine::settle;
+use crate::machine::{refuse, settle};
 use crate::operand::{
     Groups, Operand, Parts, Ready, call_of, groups_with, leaf_of, no_groups, no_parts, parts_with,
     ready_of, such_of,
@@ -78,16 +78,21 @@ pub(crate) fn operand_of(alloc: Global, words: &[Word]) -> Result<Option<Operand
     }
 }
 
-/// The one frame that is open.
-fn only_frame(stack: Vec<Frame>) -> Option<Frame>
-    ensures { result ≡ reads.only_frame (spec.stack_of stack.items) }
+fn last(frame: Frame, outer: &[Frame]) -> Option<Frame>
+    ensures { result ≡ reads.only_of frame (spec.stack_of outer.now) }
 {
-    let mut stack = stack;
-    let frame = pop(&mut stack)?;
-    match pop(&mut stack) {
-        None => Some(frame),
-        Some(_) => None,
+    match outer {
+        [] => Some(frame),
+        [.., _] => None,
     }
+}
+
+/// The one frame that is open.
+fn only_frame(stack: &mut Vec<Frame>) -> Option<Frame>
+    ensures { result ≡ reads.only_frame (spec.stack_of stack.old.items) }
+{
+    let frame = pop(stack)?;
+    last(frame, stack.as_slice())
 }
 
 fn last_listed(x: Operand, frame: Frame) -> Result<Option<Parts>, NoMemory>
@@ -95,7 +100,10 @@ fn last_listed(x: Operand, frame: Frame) -> Result<Option<Parts>, NoMemory>
 {
     match frame {
         Frame::Listed(parts) => Ok(Some(parts_with(parts, x)?)),
-        _ => Ok(None),
+        other => {
+            refuse(other, x);
+            Ok(None)
+        }
     }
 }
 
@@ -106,7 +114,7 @@ fn some_parts_of(alloc: Global, words: &[Word]) -> Result<Option<Parts>, NoMemor
     push(&mut stack, Frame::Listed(no_parts(alloc)))?;
     match read(alloc, &mut stack, Mode::Want, words)? {
         None => Ok(None),
-        Some(x) => match only_frame(stack) {
+        Some(x) => match only_frame(&mut stack) {
             None => Ok(None),
             Some(frame) => last_listed(x, frame),
         },
@@ -157,7 +165,10 @@ fn last_of_index(alloc: Global, x: Operand, frame: Frame) -> Result<Option<Ready
     match frame {
         Frame::Within(kind, groups, names) => loop_within(kind, groups, names, x),
         Frame::Such(kind, groups) => loop_such(alloc, kind, groups, x),
-        _ => Ok(None),
+        other => {
+            refuse(other, x);
+            Ok(None)
+        }
     }
 }
 
@@ -169,7 +180,7 @@ pub(crate) fn ready_of_words(alloc: Global, words: &[Word]) -> Result<Option<Rea
     let mode = Mode::WantName(IndexKind::Loop, no_groups(alloc), Items::new(alloc));
     match read(alloc, &mut stack, mode, words)? {
         None => Ok(None),
-        Some(x) => match only_frame(stack) {
+        Some(x) => match only_frame(&mut stack) {
             None => Ok(None),
             Some(frame) => last_of_index(alloc, x, frame),
         },

@@ -17,7 +17,7 @@ use std::alloc::Global;
 fn refuse_operand(_x: Operand) {}
 
 /// Nothing comes next: the words so far begin no expression.
-fn refuse(_frame: Frame, _x: Operand) -> Option<Mode>
+fn refuse_all(_frame: Frame, _x: Operand) -> Option<Mode>
     ensures { (fs : List spec.FrameType) → spec.on result fs ≡ spec.nothing }
 {
     None
@@ -42,7 +42,7 @@ fn at_frame(
         TokenKind::CloseSquare => square(frame, x),
         TokenKind::Comma => comma(alloc, stack, frame, x),
         TokenKind::Bar => bar(stack, frame, x),
-        _ => Ok(refuse(frame, x)),
+        _ => Ok(refuse_all(frame, x)),
     }
 }
 
@@ -181,11 +181,7 @@ fn dotted_call(
     ensures { IfOk result (λ next. (fs : List spec.FrameType) → reads.dotted_call name parts word.now fs ≡ spec.on next fs) }
 {
     match word {
-        Word::Name(field) => Ok(Some(Mode::After(call_field_of(
-            name,
-            parts,
-            field.copy(alloc)?,
-        )))),
+        Word::Name(field) => Ok(Some(Mode::After(call_field_of(name, parts, field.copy(alloc)?)))),
         _ => {
             refuse_call(name, parts);
             Ok(None)
@@ -258,12 +254,18 @@ fn want(alloc: Global, stack: &mut Vec<Frame>, word: &Word) -> Result<Option<Mod
     }
 }
 
+fn refuse_frame(_frame: Frame) -> Option<Mode>
+    ensures { (fs : List spec.FrameType) → spec.on result fs ≡ spec.nothing }
+{
+    None
+}
+
 fn round_empty(frame: Frame) -> Option<Mode>
     ensures { (fs : List spec.FrameType) → reads.round_empty frame fs ≡ spec.on result fs }
 {
     match frame {
         Frame::Call(name, parts) => Some(Mode::Called(name, parts)),
-        _ => None,
+        other => refuse_frame(other),
     }
 }
 
@@ -272,7 +274,7 @@ fn curly_empty(frame: Frame) -> Option<Mode>
 {
     match frame {
         Frame::Set(parts) => Some(Mode::After(set_of(parts))),
-        _ => None,
+        other => refuse_frame(other),
     }
 }
 
@@ -281,7 +283,7 @@ fn square_empty(frame: Frame) -> Option<Mode>
 {
     match frame {
         Frame::List(parts) => Some(Mode::After(list_of(parts))),
-        _ => None,
+        other => refuse_frame(other),
     }
 }
 

@@ -106,7 +106,10 @@ fn groups_as_the_levels_say(rt: HostRuntime) -> Result<(), std::test::Fail> {
     let found = words_of(rt.alloc(), "a-b-c,-a*b").ok_or("words")?;
     let trees = expressions_of_words(rt.alloc(), found.as_slice())?;
     let shown = format!(in rt.alloc(); "{:?}", trees.as_slice())?;
-    assert_eq!(rt; shown.as_str(), "[Binary(Minus, Boxed { inner: Binary(Minus, Boxed { inner: Name(Text { text: \"a\" }) }, Boxed { inner: Name(Text { text: \"b\" }) }) }, Boxed { inner: Name(Text { text: \"c\" }) }), Binary(Times, Boxed { inner: Unary(Minus, Boxed { inner: Name(Text { text: \"a\" }) }) }, Boxed { inner: Name(Text { text: \"b\" }) })]");
+    assert_eq!(rt;
+        shown.as_str(),
+        "[Binary(Minus, Boxed { inner: Binary(Minus, Boxed { inner: Name(Text { text: \"a\" }) }, Boxed { inner: Name(Text { text: \"b\" }) }) }, Boxed { inner: Name(Text { text: \"c\" }) }), Binary(Times, Boxed { inner: Unary(Minus, Boxed { inner: Name(Text { text: \"a\" }) }) }, Boxed { inner: Name(Text { text: \"b\" }) })]"
+    );
     Ok(())
 }
 
@@ -129,7 +132,11 @@ fn counts_brackets_as_height(rt: HostRuntime) -> Result<(), std::test::Fail> {
         (100000, 100000, "deep"),
         (100000, 0, "none"),
     ] {
-        assert_eq!(rt; said(alloc, nested(alloc, open, closed)?.as_str()), wanted, "{open} {closed}");
+        assert_eq!(rt;
+            said(alloc, nested(alloc, open, closed)?.as_str()),
+            wanted,
+            "{open} {closed}"
+        );
     }
     Ok(())
 }
