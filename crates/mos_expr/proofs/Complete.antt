@@ -1,22 +1,18 @@
-use Rattle.std.proofs.Common.{◌≡◌, ℕ, ◌+◌, ◌≤◌, max, Bool, true, false, nat_le, List, [], ◌∷◌, ◌++◌, Option, Some, None, refl, sym, ◌∙◌, ap, subst, arith, append_assoc}
+use Rattle.std.proofs.Common.{◌≡◌, ℕ, ◌+◌, ◌≤◌, max, true, false, nat_le, List, [], ◌∷◌, ◌++◌, Option, Some, None, refl, sym, ◌∙◌, ap, subst, arith, append_assoc}
 use Rattle.std.proofs.lemmas.List.{append-nil}
 use Rattle.std.proofs.lemmas.Bool.{le-leb}
 use Rattle.mos_tree.specs.declared.expr.Expr.{Expr}
-use Rattle.mos_tree.specs.declared.expr.Expr.TheVariants as e
 use Rattle.mos_tree.specs.declared.expr.Group.{Group}
-use Rattle.mos_tree.specs.declared.expr.Index.{Index}
 use Rattle.mos_tree.specs.declared.expr.UnaryOperator.{UnaryOperator}
 use Rattle.mos_tree.specs.declared.expr.UnaryOperator.TheVariants as u
-use Rattle.mos_tree.specs.declared.expr.BinaryOperator.{BinaryOperator}
 use Rattle.mos_tree.specs.declared.expr.AggregateOperator.{AggregateOperator}
 use Rattle.mos_tree.specs.declared.expr.AggregateOperator.TheVariants as ag
 use Rattle.mos_tree.specs.declared.expr.Conversion.{Conversion}
 use Rattle.mos_tree.specs.declared.expr.Conversion.TheVariants as c
-use Rattle.mos_scan.specs.declared.token.TokenKind.{TokenKind}
 use Rattle.mos_scan.specs.declared.token.TokenKind.TheVariants as t
 use Rattle.mos_scan.specs.declared.reading.Word.{Word}
 use Rattle.mos_scan.specs.declared.reading.Word.TheVariants as w
-use Rattle.mos_expr.specs.Grammar.{Leaf, number, text, truth, name, returned, field, Names, one_name, and_name, Syntax, leaf, call, call_field, set, list, bracket, choice, convert, before, between, aggregate, counted, Written, no_more, one_more, Over, last_set, such_that, another, level, level_before, level_body, binds, left_of, right_of, takes, tree, trees, height, heights, height_over, groups_of, condition_of, IsGrouped, AreGrouped, IsGroupedOver, key, spell, spell_leaf, spell_before, spell_between, spell_aggregate, spell_conversion, spell_names, spell_list, spell_rest, spell_over, list_of_names, index_of}
+use Rattle.mos_expr.specs.Grammar.{Leaf, number, text, truth, name, returned, field, Names, one_name, and_name, Syntax, leaf, call, call_field, set, list, bracket, choice, convert, before, between, aggregate, counted, Written, no_more, one_more, Over, last_set, such_that, another, level, binds, takes, tree, trees, height, heights, height_over, groups_of, condition_of, IsGrouped, AreGrouped, IsGroupedOver, key, spell, spell_leaf, spell_before, spell_between, spell_aggregate, spell_conversion, spell_names, spell_list, spell_rest, spell_over, list_of_names, index_of}
 use Rattle.mos_expr.specs.Machine.{State, Settled, and_then, folds, room, settled, at_frame, after_key, index_read, round}
 use Rattle.mos_expr.specs.Reader.{step, read, want_key, aggregate_key, last_of_index}
 use Rattle.mos_expr.specs.Operands as o
@@ -28,10 +24,9 @@ use Rattle.mos_expr.specs.declared.frame.IndexKind.{IndexKind}
 use Rattle.mos_expr.specs.declared.frame.IndexKind.TheVariants as i
 use Rattle.mos_expr.specs.declared.frame.Frame.{Frame}
 use Rattle.mos_expr.specs.declared.frame.Frame.TheVariants as f
-use Rattle.mos_expr.specs.declared.frame.Mode.{Mode}
 use Rattle.mos_expr.specs.declared.frame.Mode.TheVariants as m
-use Rattle.mos_expr.proofs.Values.{whole, operand_at, parts_at, groups_at, ready_at, group_of, bracketed-whole, convert-whole, choice-whole, counted-whole, parts-whole, call-whole, call_field-whole, set-whole, list-whole, groups-whole, ready-whole, such-whole}
-use Rattle.mos_expr.proofs.Steps.{or_right, MayEnd, Follows, follows-part, follows-operator, level-9, left-binds, Fits, fits-less, pops-before, pops-between, pops-body, stays-fits, reads-operator, name-ends, call-ends}
+use Rattle.mos_expr.proofs.Values.{whole, parts_at, groups_at, ready_at, group_of, bracketed-whole, convert-whole, choice-whole, counted-whole, parts-whole, call-whole, call_field-whole, set-whole, list-whole, groups-whole, ready-whole, such-whole}
+use Rattle.mos_expr.proofs.Steps.{or_right, Follows, follows-part, follows-operator, level-9, left-binds, Fits, fits-less, pops-before, pops-between, pops-body, stays-fits, reads-operator, name-ends, call-ends}
 
 -- What the words of an expression come to: the expression read whole, in the same frames.
 

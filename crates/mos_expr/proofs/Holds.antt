@@ -1,11 +1,11 @@
-use Rattle.std.proofs.Common.{◌≡◌, ℕ, ◌+◌, ◌≤◌, max, false, List, [], ◌∷◌, ◌++◌, Option, Some, None, refl, sym, ◌∙◌, ap, subst, arith, append_assoc}
+use Rattle.std.proofs.Common.{◌≡◌, ℕ, ◌+◌, ◌≤◌, max, false, List, [], ◌∷◌, ◌++◌, Some, None, refl, sym, ◌∙◌, ap, arith, append_assoc}
 use Rattle.mos_tree.specs.declared.expr.Expr.{Expr}
 use Rattle.mos_tree.specs.declared.expr.Group.{Group}
 use Rattle.mos_tree.specs.declared.expr.BinaryOperator.{BinaryOperator}
 use Rattle.mos_scan.specs.declared.token.TokenKind.TheVariants as t
 use Rattle.mos_scan.specs.declared.reading.Word.{Word}
 use Rattle.mos_scan.specs.declared.reading.Word.TheVariants as w
-use Rattle.mos_expr.specs.Grammar.{Names, one_name, and_name, Syntax, Written, no_more, one_more, Over, last_set, such_that, another, level, left_of, takes, tree, trees, height, heights, height_over, groups_of, condition_of, index_of, IsGrouped, AreGrouped, IsGroupedOver, spell, spell_before, spell_between, spell_aggregate, spell_conversion, spell_names, spell_list, spell_rest, spell_over, list_of_names}
+use Rattle.mos_expr.specs.Grammar.{Names, and_name, Syntax, Written, one_more, Over, another, level, left_of, takes, tree, trees, height, heights, height_over, groups_of, condition_of, index_of, IsGrouped, AreGrouped, IsGroupedOver, spell, spell_before, spell_between, spell_aggregate, spell_conversion, spell_names, spell_list, spell_rest, spell_over, list_of_names}
 use Rattle.mos_expr.specs.Machine.{State, Settled}
 use Rattle.mos_expr.specs.Operands as o
 use Rattle.mos_expr.specs.declared.operand.Operand.{Operand}

@@ -1,21 +1,16 @@
-use Rattle.std.proofs.Common.{◌≡◌, ℕ, ◌+◌, ◌≤◌, max, Bool, true, false, nat_le, ◌&&◌, ◌||◌, if◌then◌else◌, List, [], ◌∷◌, ◌++◌, Option, Some, None, refl, sym, ◌∙◌, ap, subst, arith, append_assoc}
+use Rattle.std.proofs.Common.{◌≡◌, ℕ, ◌+◌, ◌≤◌, max, Bool, true, false, nat_le, ◌&&◌, ◌||◌, List, [], ◌∷◌, ◌++◌, Option, Some, None, refl, sym, ◌∙◌, ap, subst, arith, append_assoc}
 use Rattle.std.proofs.lemmas.Bool.{leb-true, and_parts}
-use Rattle.std.proofs.lemmas.List.{append-nil}
 use Rattle.mos_tree.specs.declared.expr.Expr.TheVariants as e
-use Rattle.mos_tree.specs.declared.expr.Index.{Index}
-use Rattle.mos_tree.specs.declared.expr.UnaryOperator.{UnaryOperator}
-use Rattle.mos_tree.specs.declared.expr.UnaryOperator.TheVariants as u
 use Rattle.mos_tree.specs.declared.expr.BinaryOperator.{BinaryOperator}
 use Rattle.mos_tree.specs.declared.expr.BinaryOperator.TheVariants as b
 use Rattle.mos_tree.specs.declared.expr.AggregateOperator.{AggregateOperator}
-use Rattle.mos_tree.specs.declared.expr.Conversion.TheVariants as c
 use Rattle.mos_scan.specs.declared.token.TokenKind.{TokenKind}
 use Rattle.mos_scan.specs.declared.token.TokenKind.TheVariants as t
 use Rattle.mos_scan.specs.declared.reading.Word.{Word}
 use Rattle.mos_scan.specs.declared.reading.Word.TheVariants as w
-use Rattle.mos_expr.specs.Grammar.{Leaf, number, text, truth, name, returned, field, Names, one_name, and_name, Syntax, leaf, call, call_field, set, list, bracket, choice, convert, before, between, aggregate, counted, Written, no_more, one_more, Over, last_set, such_that, another, level, level_before, level_body, binds, left_of, right_of, takes, tree, trees, height, heights, height_over, groups_of, condition_of, index_of, IsGrouped, AreGrouped, IsGroupedOver, key, spell, spell_before, spell_between, spell_aggregate, spell_conversion, spell_names, spell_list, spell_rest, spell_over, list_of_names}
-use Rattle.mos_expr.specs.Machine.{State, Settled, and_then, folds, room, fold, stays, settled, placed, at_frame, operator_of, after_key, mode_behind, index_read, round, curly, square, comma, bar, close, infix_at, on, if_set}
-use Rattle.mos_expr.specs.Reader.{step, read, want, want_key, aggregate_key, index_wanted, want_first, first_key, close_empty, want_open, open_index, want_in, want_name, after_name, dotted, dotted_call, after, named, called, ended, at_end}
+use Rattle.mos_expr.specs.Grammar.{Leaf, number, text, truth, name, returned, field, Names, one_name, Syntax, leaf, call, call_field, set, list, bracket, choice, convert, before, between, aggregate, counted, no_more, one_more, Over, last_set, such_that, level, level_before, level_body, binds, left_of, right_of, takes, tree, trees, height, heights, height_over, groups_of, index_of, IsGrouped, key, spell, spell_between, spell_aggregate, spell_conversion, spell_names, spell_list, spell_over, list_of_names}
+use Rattle.mos_expr.specs.Machine.{State, Settled, and_then, folds, room, settled, placed, at_frame, after_key, mode_behind, index_read, round, curly, square, comma, bar, close, infix_at, on}
+use Rattle.mos_expr.specs.Reader.{step, read, want, want_key, aggregate_key, want_first, first_key, want_open, open_index, want_in, want_name, after_name, dotted, dotted_call, after, named, called, at_end}
 use Rattle.mos_expr.specs.Operands as o
 use Rattle.mos_expr.specs.declared.operand.Operand.{Operand}
 use Rattle.mos_expr.specs.declared.operand.Parts.{Parts}
@@ -27,9 +22,9 @@ use Rattle.mos_expr.specs.declared.frame.Frame.{Frame}
 use Rattle.mos_expr.specs.declared.frame.Frame.TheVariants as f
 use Rattle.mos_expr.specs.declared.frame.Mode.{Mode}
 use Rattle.mos_expr.specs.declared.frame.Mode.TheVariants as m
-use Rattle.mos_expr.proofs.Values.{on_bool, whole, operand_at, parts_at, groups_at, ready_at, group_of, bracketed-whole, convert-whole, choice-whole, before-whole, between-whole, aggregate-whole, counted-whole, parts-whole, call-whole, call_field-whole, set-whole, list-whole, groups-whole, ready-whole, such-whole}
+use Rattle.mos_expr.proofs.Values.{on_bool, whole, parts_at, ready_at, group_of, bracketed-whole, convert-whole, choice-whole, before-whole, between-whole, aggregate-whole, counted-whole, parts-whole, call-whole, call_field-whole, set-whole, list-whole, groups-whole, ready-whole, such-whole}
 use Rattle.mos_expr.proofs.Complete.{three-parts}
-use Rattle.mos_expr.proofs.Holds.{Whole, PartsBefore, NamesBefore, SetsBefore, LastSet, WholeIndex, WholeParts, no_parts_before, part_before, no_names_before, name_before, no_sets_before, set_before, begin_index, Holds, HoldsFirst, Stands, Good, GoodOperand}
+use Rattle.mos_expr.proofs.Holds.{Whole, PartsBefore, SetsBefore, LastSet, WholeIndex, WholeParts, no_parts_before, part_before, no_names_before, name_before, no_sets_before, set_before, begin_index, Holds, HoldsFirst, Stands, Good, GoodOperand}
 
 -- What the reader accepts is spelled as the grammar says.
 

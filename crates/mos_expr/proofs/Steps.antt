@@ -1,17 +1,16 @@
-use Rattle.std.proofs.Common.{◌≡◌, ℕ, ◌+◌, ◌≤◌, Bool, true, false, nat_le, ◌&&◌, ◌||◌, if◌then◌else◌, List, [], ◌∷◌, ◌++◌, Option, Some, None, refl, sym, ◌∙◌, ap, subst, arith}
-use Rattle.std.proofs.lemmas.Bool.{leb-true, le-leb}
+use Rattle.std.proofs.Common.{◌≡◌, ℕ, ◌≤◌, Bool, true, false, nat_le, ◌&&◌, ◌||◌, List, [], ◌∷◌, ◌++◌, Option, Some, None, refl, sym, ◌∙◌, ap, subst, arith}
+use Rattle.std.proofs.lemmas.Bool.{le-leb}
 use Rattle.mos_tree.specs.declared.expr.UnaryOperator.{UnaryOperator}
 use Rattle.mos_tree.specs.declared.expr.UnaryOperator.TheVariants as u
 use Rattle.mos_tree.specs.declared.expr.BinaryOperator.{BinaryOperator}
 use Rattle.mos_tree.specs.declared.expr.BinaryOperator.TheVariants as b
 use Rattle.mos_tree.specs.declared.expr.AggregateOperator.{AggregateOperator}
 use Rattle.mos_tree.specs.declared.expr.Expr.TheVariants as e
-use Rattle.mos_tree.specs.declared.expr.Index.{Index}
 use Rattle.mos_scan.specs.declared.token.TokenKind.{TokenKind}
 use Rattle.mos_scan.specs.declared.token.TokenKind.TheVariants as t
 use Rattle.mos_scan.specs.declared.reading.Word.{Word}
 use Rattle.mos_scan.specs.declared.reading.Word.TheVariants as w
-use Rattle.mos_expr.specs.Grammar.{Syntax, leaf, call, call_field, set, list, bracket, choice, convert, before, between, aggregate, counted, Over, level, level_before, level_body, binds, left_of, right_of, takes, tree, height, height_over, groups_of, condition_of, spell_between, index_of}
+use Rattle.mos_expr.specs.Grammar.{Syntax, leaf, call, call_field, set, list, bracket, choice, convert, before, between, aggregate, counted, Over, level, level_before, level_body, binds, left_of, right_of, takes, height_over, spell_between, index_of}
 use Rattle.mos_expr.specs.Machine.{State, Settled, and_then, folds, room, fold, folded, stays, settled, placed, by_operator, at_frame, mode_behind, operator_of, after_key}
 use Rattle.mos_expr.specs.Reader.{step, read}
 use Rattle.mos_expr.specs.Operands as o
@@ -19,9 +18,8 @@ use Rattle.mos_expr.specs.declared.operand.Operand.{Operand}
 use Rattle.mos_expr.specs.declared.operand.Parts.{Parts}
 use Rattle.mos_expr.specs.declared.frame.Frame.{Frame}
 use Rattle.mos_expr.specs.declared.frame.Frame.TheVariants as f
-use Rattle.mos_expr.specs.declared.frame.Mode.{Mode}
 use Rattle.mos_expr.specs.declared.frame.Mode.TheVariants as m
-use Rattle.mos_expr.proofs.Values.{whole, operand_at, ready_at, before-whole, between-whole, aggregate-whole, call-whole}
+use Rattle.mos_expr.proofs.Values.{whole, ready_at, before-whole, between-whole, aggregate-whole}
 
 -- What the reader does behind an operand, step by step.
 

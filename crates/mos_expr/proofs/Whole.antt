@@ -1,13 +1,13 @@
-use Rattle.std.proofs.Common.{◌≡◌, ℕ, ◌<◌, ◌≤◌, max, nat_le, if◌then◌else◌, Bool, true, false, List, [], ◌∷◌, ◌++◌, Option, Some, None, Result, Ok, Err, IfOk, refl, sym, ◌∙◌, ap, subst, arith, append_assoc}
+use Rattle.std.proofs.Common.{◌≡◌, ℕ, ◌<◌, ◌≤◌, max, nat_le, if◌then◌else◌, List, [], ◌∷◌, ◌++◌, Option, Some, None, Result, Ok, Err, IfOk, refl, sym, ◌∙◌, ap, subst, arith}
 use Rattle.std.specs.Prelude.{IsErrOf}
-use Rattle.std.proofs.lemmas.Bool.{leb-true, leb-false, le-leb}
+use Rattle.std.proofs.lemmas.Bool.{leb-true}
 use Rattle.std.proofs.lemmas.List.{append-nil}
 use Rattle.mos_tree.specs.declared.expr.Expr.{Expr}
 use Rattle.mos_tree.specs.declared.expr.Index.{Index}
 use Rattle.mos_scan.specs.declared.token.TokenKind.TheVariants as t
 use Rattle.mos_scan.specs.declared.reading.Word.{Word}
 use Rattle.mos_scan.specs.declared.reading.Word.TheVariants as w
-use Rattle.mos_expr.specs.Grammar.{Names, list_of_names, spell_names, spell_rest, level, Syntax, Written, no_more, one_more, Over, last_set, such_that, height, heights, height_over, limit, tree, trees, index_of, IsGrouped, AreGrouped, IsGroupedOver, IsSpelled, AreSpelled, IsIndexSpelled, spell, spell_list, spell_over}
+use Rattle.mos_expr.specs.Grammar.{Names, list_of_names, spell_names, spell_rest, level, Syntax, Written, no_more, one_more, Over, last_set, such_that, height, heights, height_over, limit, tree, trees, index_of, IsGrouped, IsSpelled, AreSpelled, IsIndexSpelled, spell, spell_list, spell_over}
 use Rattle.mos_expr.specs.Outcome.{IsTree, IsTooHigh, AreTrees, AreTooHigh, IsIndex, IsIndexTooHigh, answer, answer_of_list, answer_of_index, Gives}
 use Rattle.mos_expr.specs.Machine.{Settled, and_then, settled}
 use Rattle.mos_expr.specs.Reader.{read, alone, operand_of, only_frame, last_listed, some_parts_of, parts_of, last_of_index, ready_of_words, made_or_deep, outcome, outcome_of_parts, outcome_of_index}
@@ -18,13 +18,11 @@ use Rattle.mos_expr.specs.declared.operand.Operand.{Operand}
 use Rattle.mos_expr.specs.declared.operand.Parts.{Parts}
 use Rattle.mos_expr.specs.declared.operand.Groups.{Groups}
 use Rattle.mos_expr.specs.declared.operand.Ready.{Ready}
-use Rattle.mos_expr.specs.declared.frame.IndexKind.{IndexKind}
 use Rattle.mos_expr.specs.declared.frame.IndexKind.TheVariants as i
-use Rattle.mos_expr.specs.declared.frame.Frame.{Frame}
 use Rattle.mos_expr.specs.declared.frame.Frame.TheVariants as f
 use Rattle.mos_expr.specs.declared.frame.Mode.TheVariants as m
 use Rattle.mos_expr.proofs.Values.{on_bool, whole, parts_at, ready_at, tree_at, low, high, by_height}
-use Rattle.mos_expr.proofs.Complete.{reads, Begins, begins, reads_list, reads_over, IndexRead, IndexEnds, WholeListRead, listed_frame, in_listed, closes-end, Closes}
+use Rattle.mos_expr.proofs.Complete.{reads, Begins, begins, reads_list, reads_over, IndexRead, WholeListRead, listed_frame, in_listed, closes-end}
 use Rattle.mos_expr.proofs.Holds.{Whole, SetsBefore, LastSet, WholeParts, WholeIndex, GoodOperand, no_parts_before, no_sets_before, no_names_before}
 use Rattle.mos_expr.proofs.Sound.{reads_good, parts_done, parts_words, set_done, set_words, condition_done, condition_words}
 

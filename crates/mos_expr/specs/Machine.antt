@@ -1,5 +1,4 @@
-use Rattle.std.specs.Prelude.{◌≡◌, ℕ, Bool, true, false, ◌&&◌, if◌then◌else◌, nat_le, List, [], ◌∷◌, ◌++◌, reverse, Option, Some, None}
-use Rattle.mos_tree.specs.declared.expr.Expr.TheVariants as e
+use Rattle.std.specs.Prelude.{ℕ, Bool, true, false, ◌&&◌, if◌then◌else◌, nat_le, List, [], ◌∷◌, reverse, Option, Some, None}
 use Rattle.mos_tree.specs.declared.expr.BinaryOperator.{BinaryOperator}
 use Rattle.mos_tree.specs.declared.expr.BinaryOperator.TheVariants as b
 use Rattle.mos_scan.specs.declared.token.TokenKind.{TokenKind}
@@ -7,7 +6,6 @@ use Rattle.mos_scan.specs.declared.token.TokenKind.TheVariants as t
 use Rattle.mos_expr.specs.Grammar.{binds, left_of, right_of, level_before, level_body}
 use Rattle.mos_expr.specs.Operands as o
 use Rattle.mos_expr.specs.declared.operand.Operand.{Operand}
-use Rattle.mos_expr.specs.declared.operand.Parts.{Parts}
 use Rattle.mos_expr.specs.declared.operand.Groups.{Groups}
 use Rattle.mos_expr.specs.declared.operand.Ready.{Ready}
 use Rattle.mos_expr.specs.declared.frame.IndexKind.{IndexKind}

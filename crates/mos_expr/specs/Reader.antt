@@ -1,4 +1,4 @@
-use Rattle.std.specs.Prelude.{◌≡◌, ℕ, true, false, List, [], ◌∷◌, ◌++◌, Option, Some, None, Result, Ok, Err}
+use Rattle.std.specs.Prelude.{ℕ, true, false, List, [], ◌∷◌, ◌++◌, Option, Some, None, Result, Ok, Err}
 use Rattle.mos_tree.specs.declared.expr.Expr.{Expr}
 use Rattle.mos_tree.specs.declared.expr.Index.{Index}
 use Rattle.mos_tree.specs.declared.expr.Expr.TheVariants as e
