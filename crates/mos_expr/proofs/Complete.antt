@@ -1,0 +1,441 @@
+use Rattle.std.proofs.Common.{◌≡◌, ℕ, ◌+◌, ◌≤◌, max, true, false, nat_le, List, [], ◌∷◌, ◌++◌, Option, Some, None, refl, sym, ◌∙◌, ap, subst, arith, append_assoc}
+use Rattle.std.proofs.lemmas.List.{append-nil}
+use Rattle.std.proofs.lemmas.Bool.{le-leb}
+use Rattle.mos_tree.specs.declared.expr.Expr.{Expr}
+use Rattle.mos_tree.specs.declared.expr.Group.{Group}
+use Rattle.mos_tree.specs.declared.expr.UnaryOperator.{UnaryOperator}
+use Rattle.mos_tree.specs.declared.expr.UnaryOperator.TheVariants as u
+use Rattle.mos_tree.specs.declared.expr.AggregateOperator.{AggregateOperator}
+use Rattle.mos_tree.specs.declared.expr.AggregateOperator.TheVariants as ag
+use Rattle.mos_tree.specs.declared.expr.Conversion.{Conversion}
+use Rattle.mos_tree.specs.declared.expr.Conversion.TheVariants as c
+use Rattle.mos_scan.specs.declared.token.TokenKind.TheVariants as t
+use Rattle.mos_scan.specs.declared.reading.Word.{Word}
+use Rattle.mos_scan.specs.declared.reading.Word.TheVariants as w
+use Rattle.mos_expr.specs.Grammar.{Leaf, number, text, truth, name, returned, field, Names, one_name, and_name, Syntax, leaf, call, call_field, set, list, bracket, choice, convert, before, between, aggregate, counted, Written, no_more, one_more, Over, last_set, such_that, another, level, binds, takes, tree, trees, height, heights, height_over, groups_of, condition_of, IsGrouped, AreGrouped, IsGroupedOver, key, spell, spell_leaf, spell_before, spell_between, spell_aggregate, spell_conversion, spell_names, spell_list, spell_rest, spell_over, list_of_names, index_of}
+use Rattle.mos_expr.specs.Machine.{State, Settled, and_then, folds, room, settled, at_frame, after_key, index_read, round}
+use Rattle.mos_expr.specs.Reader.{step, read, want_key, aggregate_key, last_of_index}
+use Rattle.mos_expr.specs.Operands as o
+use Rattle.mos_expr.specs.declared.operand.Operand.{Operand}
+use Rattle.mos_expr.specs.declared.operand.Parts.{Parts}
+use Rattle.mos_expr.specs.declared.operand.Groups.{Groups}
+use Rattle.mos_expr.specs.declared.operand.Ready.{Ready}
+use Rattle.mos_expr.specs.declared.frame.IndexKind.{IndexKind}
+use Rattle.mos_expr.specs.declared.frame.IndexKind.TheVariants as i
+use Rattle.mos_expr.specs.declared.frame.Frame.{Frame}
+use Rattle.mos_expr.specs.declared.frame.Frame.TheVariants as f
+use Rattle.mos_expr.specs.declared.frame.Mode.TheVariants as m
+use Rattle.mos_expr.proofs.Values.{whole, parts_at, groups_at, ready_at, group_of, bracketed-whole, convert-whole, choice-whole, counted-whole, parts-whole, call-whole, call_field-whole, set-whole, list-whole, groups-whole, ready-whole, such-whole}
+use Rattle.mos_expr.proofs.Steps.{or_right, Follows, follows-part, follows-operator, level-9, left-binds, Fits, fits-less, pops-before, pops-between, pops-body, stays-fits, reads-operator, name-ends, call-ends}
+
+-- What the words of an expression come to: the expression read whole, in the same frames.
+
+-- nothing that takes part in an expression comes next
+abbrev pub Closes : List Word → Type 0
+Closes rest = (s : Syntax) → Follows s rest
+
+pub closes-round : (ws : List Word) → Closes (w.Key t.CloseRound ∷ ws)
+closes-round ws s = (refl, λ op e. cc)
+
+closes-curly : (ws : List Word) → Closes (w.Key t.CloseCurly ∷ ws)
+closes-curly ws s = (refl, λ op e. cc)
+
+closes-square : (ws : List Word) → Closes (w.Key t.CloseSquare ∷ ws)
+closes-square ws s = (refl, λ op e. cc)
+
+closes-comma : (ws : List Word) → Closes (w.Key t.Comma ∷ ws)
+closes-comma ws s = (refl, λ op e. cc)
+
+closes-bar : (ws : List Word) → Closes (w.Key t.Bar ∷ ws)
+closes-bar ws s = (refl, λ op e. cc)
+
+pub closes-end : Closes []
+closes-end s = tt
+
+-- ---- the first word of an expression closes no bracket
+
+pub record Begins (s : Syntax) : Type 0 where
+  pub word : Word
+  pub words : List Word
+  pub spelled : spell s ≡ word ∷ words
+  pub opens : (fs : List Frame) → step m.WantFirst word fs ≡ step m.Want word fs
+
+begins-leaf : (x : Leaf) → Begins (leaf x)
+unfolding step
+begins-leaf (number n) = record { word = w.Number n; words = []; spelled = refl; opens = λ fs. refl }
+begins-leaf (text x) = record { word = w.Text x; words = []; spelled = refl; opens = λ fs. refl }
+begins-leaf (truth true) = record { word = w.Key t.True; words = []; spelled = refl; opens = λ fs. refl }
+begins-leaf (truth false) = record { word = w.Key t.False; words = []; spelled = refl; opens = λ fs. refl }
+begins-leaf (name n) = record { word = w.Name n; words = []; spelled = refl; opens = λ fs. refl }
+begins-leaf returned = record { word = w.Key t.Returned; words = []; spelled = refl; opens = λ fs. refl }
+begins-leaf (field n x) = record { word = w.Name n; words = w.Key t.Dot ∷ w.Name x ∷ []; spelled = refl; opens = λ fs. refl }
+
+opens-conversion : (to : Conversion) (fs : List Frame) → step m.WantFirst (spell_conversion to) fs ≡ step m.Want (spell_conversion to) fs
+unfolding step
+opens-conversion c.Integer fs = refl
+opens-conversion c.Text fs = refl
+
+opens-before : (p : UnaryOperator) (fs : List Frame) → step m.WantFirst (spell_before p) fs ≡ step m.Want (spell_before p) fs
+unfolding step
+opens-before u.Minus fs = refl
+opens-before u.Plus fs = refl
+opens-before u.Not fs = refl
+
+opens-aggregate : (p : AggregateOperator) (fs : List Frame) → step m.WantFirst (spell_aggregate p) fs ≡ step m.Want (spell_aggregate p) fs
+unfolding step
+opens-aggregate ag.Sum fs = refl
+opens-aggregate p fs = refl
+
+pub begins : (s : Syntax) → Begins s
+unfolding step
+begins (leaf x) = begins-leaf x
+begins (call n xs) = record { word = w.Name n; words = _; spelled = refl; opens = λ fs. refl }
+begins (call_field n xs x) = record { word = w.Name n; words = _; spelled = refl; opens = λ fs. refl }
+begins (set xs) = record { word = w.Key t.OpenCurly; words = _; spelled = refl; opens = λ fs. refl }
+begins (list xs) = record { word = w.Key t.OpenSquare; words = _; spelled = refl; opens = λ fs. refl }
+begins (bracket s) = record { word = w.Key t.OpenRound; words = _; spelled = refl; opens = λ fs. refl }
+begins (choice x y z) = record { word = w.Key t.If; words = _; spelled = refl; opens = λ fs. refl }
+begins (convert to s) = record { word = spell_conversion to; words = _; spelled = refl; opens = opens-conversion to }
+begins (before p s) = record { word = spell_before p; words = _; spelled = refl; opens = opens-before p }
+begins (between op x y) =
+    let first : Begins x = begins x in
+    record { word = first.word; words = first.words ++ (spell_between op ++ spell y); spelled = ap (λ ws. ws ++ (spell_between op ++ spell y)) first.spelled; opens = first.opens }
+begins (aggregate p i s) = record { word = spell_aggregate p; words = _; spelled = refl; opens = opens-aggregate p }
+begins (counted i) = record { word = w.Key t.Count; words = _; spelled = refl; opens = λ fs. refl }
+
+abbrev next_words : List Word → State → Settled
+next_words ws z = and_then z (λ next. read next.0 next.1 ws)
+
+pub first-operand : (s : Syntax) (fs : List Frame) (rest : List Word) → read m.WantFirst fs (spell s ++ rest) ≡ read m.Want fs (spell s ++ rest)
+first-operand s fs rest =
+    let first : Begins s = begins s in
+    let e : spell s ++ rest ≡ first.word ∷ (first.words ++ rest) = ap (λ ws. ws ++ rest) first.spelled in
+    ap (read m.WantFirst fs) e ∙ ap (next_words (first.words ++ rest)) (first.opens fs) ∙ sym (ap (read m.Want fs) e)
+
+-- ---- lists of parts
+
+-- a frame of expressions with commas between them
+pub record IsListFrame (frame : Parts → Frame) : Type 0 where
+  pub wide : (ps : Parts) → room (frame ps) ≡ 9
+  pub comma : (ps : Parts) (x : Operand) (fs : List Frame) (ws : List Word) → read (m.After x) (frame ps ∷ fs) (w.Key t.Comma ∷ ws) ≡ read m.Want (frame (o.parts_with ps x) ∷ fs) ws
+
+abbrev call_frame : List ℕ → Parts → Frame
+call_frame n ps = f.Call n ps
+
+abbrev set_frame : Parts → Frame
+set_frame ps = f.Set ps
+
+abbrev list_frame : Parts → Frame
+list_frame ps = f.List ps
+
+abbrev pub listed_frame : Parts → Frame
+listed_frame ps = f.Listed ps
+
+in_call : (n : List ℕ) → IsListFrame (call_frame n)
+unfolding step after_key
+in_call n = record { wide = λ ps. refl; comma = λ ps x fs ws. refl }
+
+in_set : IsListFrame set_frame
+unfolding step after_key
+in_set = record { wide = λ ps. refl; comma = λ ps x fs ws. refl }
+
+in_list : IsListFrame list_frame
+unfolding step after_key
+in_list = record { wide = λ ps. refl; comma = λ ps x fs ws. refl }
+
+pub in_listed : IsListFrame listed_frame
+unfolding step after_key
+in_listed = record { wide = λ ps. refl; comma = λ ps x fs ws. refl }
+
+-- behind the last of some expressions, which is not yet among the parts
+pub record ListRead (frame : Parts → Frame) (h : ℕ) (xs : List Expr) (s : Syntax) (ss : Written) (fs : List Frame) (rest : List Word) : Type 0 where
+  pub last : Operand
+  pub parts : Parts
+  pub reads_to : read (m.After (whole s)) (frame (parts_at h xs) ∷ fs) (spell_rest ss ++ rest) ≡ read (m.After last) (frame parts ∷ fs) rest
+  pub all : o.parts_with parts last ≡ parts_at (max (max h (height s)) (heights ss)) (xs ++ tree s ∷ [] ++ trees ss)
+
+-- the same from the first of them on
+pub record WholeListRead (frame : Parts → Frame) (ss : Written) (fs : List Frame) (rest : List Word) : Type 0 where
+  pub last : Operand
+  pub parts : Parts
+  pub reads_to : read m.Want (frame o.no_parts ∷ fs) (spell_list ss ++ rest) ≡ read (m.After last) (frame parts ∷ fs) rest
+  pub all : o.parts_with parts last ≡ parts_at (heights ss) (trees ss)
+
+whole-list : (frame : Parts → Frame) (s : Syntax) (ss : Written) (fs : List Frame) (rest : List Word) → read m.Want (frame o.no_parts ∷ fs) (spell s ++ (spell_rest ss ++ rest)) ≡ read (m.After (whole s)) (frame o.no_parts ∷ fs) (spell_rest ss ++ rest) → ListRead frame 0 [] s ss fs rest → WholeListRead frame (one_more s ss) fs rest
+whole-list frame s ss fs rest first r =
+    let low : max (max 0 (height s)) (heights ss) ≡ max (height s) (heights ss) = omega arith in
+    record {
+      last = r.last;
+      parts = r.parts;
+      reads_to = ap (read m.Want (frame o.no_parts ∷ fs)) (append_assoc (spell s) (spell_rest ss) rest) ∙ first ∙ r.reads_to;
+      all = r.all ∙ ap (λ h. parts_at h (tree s ∷ trees ss)) low;
+    }
+
+zero-high : (n : ℕ) → n ≡ max n 0
+zero-high n = omega arith
+
+follows-rest : (s : Syntax) (ss : Written) (rest : List Word) → Closes rest → Follows s (spell_rest ss ++ rest)
+follows-rest s no_more rest c = c s
+follows-rest s (one_more x xs) rest c = closes-comma ((spell x ++ spell_rest xs) ++ rest) s
+
+-- ---- indexes
+
+pub record IndexEnds (kind : IndexKind) (top : Frame) (x : Operand) (ready : Ready) : Type 0 where
+  pub open_still : folds top ≡ false
+  pub rounds : (fs : List Frame) → round top x fs ≡ index_read kind ready fs
+  pub loops : kind ≡ i.Loop → last_of_index x top ≡ Some ready
+
+-- behind the last expression of an index
+pub record IndexRead (kind : IndexKind) (h : ℕ) (gs : List (Group Expr)) (over : Over) (fs : List Frame) (rest : List Word) : Type 0 where
+  pub last : Operand
+  pub top : Frame
+  pub reads_to : read (m.WantName kind (groups_at h gs) []) fs (spell_over over ++ rest) ≡ read (m.After last) (top ∷ fs) rest
+  pub ends : IndexEnds kind top last (ready_at (max h (height_over over)) (record { groups = gs ++ groups_of over; condition = condition_of over }))
+
+reads-names : (kind : IndexKind) (groups : Groups) (ns : Names) (before_names : List (List ℕ)) (fs : List Frame) (ws : List Word) → read (m.WantName kind groups before_names) fs (spell_names ns ++ w.Key t.In ∷ ws) ≡ read m.Want (f.Within kind groups (before_names ++ list_of_names ns) ∷ fs) ws
+unfolding step
+reads-names kind groups (one_name n) before_names fs ws = refl
+reads-names kind groups (and_name n ns) before_names fs ws =
+    reads-names kind groups ns (before_names ++ n ∷ []) fs ws ∙ ap (λ l. read m.Want (f.Within kind groups l ∷ fs) ws) (append_assoc before_names (n ∷ []) (list_of_names ns))
+
+aggregate-begins : (p : AggregateOperator) (fs : List Frame) (ws : List Word) → read m.Want fs (spell_aggregate p ∷ w.Key t.OpenRound ∷ ws) ≡ read (m.WantName (i.Aggregate p) o.no_groups []) fs ws
+unfolding step want_key aggregate_key
+aggregate-begins ag.Sum fs ws = refl
+aggregate-begins p fs ws = refl
+
+count-begins : (fs : List Frame) (ws : List Word) → read m.Want fs (w.Key t.Count ∷ w.Key t.OpenRound ∷ ws) ≡ read (m.WantName i.Count o.no_groups []) fs ws
+unfolding step want_key aggregate_key
+count-begins fs ws = refl
+
+index-closes : (kind : IndexKind) (top : Frame) (x : Operand) (ready : Ready) (fs : List Frame) (ws : List Word) → IndexEnds kind top x ready → read (m.After x) (top ∷ fs) (w.Key t.CloseRound ∷ ws) ≡ next_words ws (index_read kind ready fs)
+unfolding step after_key
+index-closes kind top x ready fs ws ends =
+    let s : settled x (top ∷ fs) ≡ Some (x, top ∷ fs) = rw (ends.open_still) refl in
+    ap (λ (z : Settled). next_words ws (and_then z (λ y. at_frame t.CloseRound y.0 y.1))) s ∙ ap (next_words ws) (ends.rounds fs)
+
+-- the last set of an index
+set_ends : (kind : IndexKind) (h : ℕ) (gs : List (Group Expr)) (names : List (List ℕ)) (s : Syntax) → level s ≤ 5 → IndexEnds kind (f.Within kind (groups_at h gs) names) (whole s) (ready_at (max h (height s + 1)) (record { groups = gs ++ group_of names s ∷ []; condition = None }))
+set_ends kind h gs names s l =
+    let t : nat_le (level s) 5 ≡ true = le-leb (level s) 5 l in
+    let made : o.ready_of (o.groups_with (groups_at h gs) names (whole s)) ≡ ready_at (max h (height s + 1)) (record { groups = gs ++ group_of names s ∷ []; condition = None }) = ap o.ready_of (groups-whole h gs names s) ∙ ready-whole (max h (height s + 1)) (gs ++ group_of names s ∷ []) in
+    record {
+      open_still = refl;
+      rounds = λ fs. rw t (ap (λ r. index_read kind r fs) made);
+      loops = λ is. subst (λ k. last_of_index (whole s) (f.Within k (groups_at h gs) names) ≡ Some (ready_at (max h (height s + 1)) (record { groups = gs ++ group_of names s ∷ []; condition = None }))) (sym is) (rw t (ap (λ r. Some r) made));
+    }
+
+-- the condition of an index
+condition_ends : (kind : IndexKind) (h : ℕ) (gs : List (Group Expr)) (s : Syntax) → IndexEnds kind (f.Such kind (groups_at h gs)) (whole s) (ready_at (max h (height s)) (record { groups = gs; condition = Some (tree s) }))
+condition_ends kind h gs s = record {
+  open_still = refl;
+  rounds = λ fs. ap (λ r. index_read kind r fs) (such-whole h gs s);
+  loops = λ is. subst (λ k. last_of_index (whole s) (f.Such k (groups_at h gs)) ≡ Some (ready_at (max h (height s)) (record { groups = gs; condition = Some (tree s) }))) (sym is) (ap (λ r. Some r) (such-whole h gs s));
+}
+
+-- a bar behind a set
+reads-bar : (kind : IndexKind) (h : ℕ) (gs : List (Group Expr)) (names : List (List ℕ)) (s : Syntax) (fs : List Frame) (ws : List Word) → level s ≤ 5 → read (m.After (whole s)) (f.Within kind (groups_at h gs) names ∷ fs) (w.Key t.Bar ∷ ws) ≡ read m.Want (f.Such kind (groups_at (max h (height s + 1)) (gs ++ group_of names s ∷ [])) ∷ fs) ws
+unfolding step after_key
+reads-bar kind h gs names s fs ws l =
+    let t : nat_le (level s) 5 ≡ true = le-leb (level s) 5 l in
+    rw t (ap (λ q. read m.Want (f.Such kind q ∷ fs) ws) (groups-whole h gs names s))
+
+-- a comma behind a set
+reads-comma : (kind : IndexKind) (h : ℕ) (gs : List (Group Expr)) (names : List (List ℕ)) (s : Syntax) (fs : List Frame) (ws : List Word) → level s ≤ 5 → read (m.After (whole s)) (f.Within kind (groups_at h gs) names ∷ fs) (w.Key t.Comma ∷ ws) ≡ read (m.WantName kind (groups_at (max h (height s + 1)) (gs ++ group_of names s ∷ [])) []) fs ws
+unfolding step after_key
+reads-comma kind h gs names s fs ws l =
+    let t : nat_le (level s) 5 ≡ true = le-leb (level s) 5 l in
+    rw t (ap (λ q. read (m.WantName kind q []) fs ws) (groups-whole h gs names s))
+
+-- more groups, of which the first is already among those before
+more_ends : (kind : IndexKind) (top : Frame) (x : Operand) (h k n : ℕ) (gs more : List (Group Expr)) (one : Group Expr) (condition : Option Expr) → IndexEnds kind top x (ready_at (max (max h k) n) (record { groups = gs ++ one ∷ [] ++ more; condition = condition })) → IndexEnds kind top x (ready_at (max h (max k n)) (record { groups = gs ++ one ∷ more; condition = condition }))
+more_ends kind top x h k n gs more one condition ends =
+    let p : max (max h k) n ≡ max h (max k n) = omega arith in
+    let q : gs ++ one ∷ [] ++ more ≡ gs ++ one ∷ more = append_assoc gs (one ∷ []) more in
+    subst (λ a. IndexEnds kind top x (ready_at a (record { groups = gs ++ one ∷ more; condition = condition }))) p
+    (subst (λ b. IndexEnds kind top x (ready_at (max (max h k) n) (record { groups = b; condition = condition }))) q ends)
+
+-- ---- expressions without parts
+
+reads-leaf : (x : Leaf) (fs : List Frame) (rest : List Word) → Follows (leaf x) rest → read m.Want fs (spell_leaf x ++ rest) ≡ read (m.After (whole (leaf x))) fs rest
+unfolding step want_key
+reads-leaf (number n) fs rest h = refl
+reads-leaf (text x) fs rest h = refl
+reads-leaf (truth true) fs rest h = refl
+reads-leaf (truth false) fs rest h = refl
+reads-leaf (name n) fs rest h = name-ends n (leaf (name n)) fs rest h
+reads-leaf returned fs rest h = refl
+reads-leaf (field n x) fs rest h = refl
+
+-- ---- regrouping of words
+
+pub three-parts : (x y z : List Word) (rest : List Word) → (x ++ w.Key t.Comma ∷ (y ++ w.Key t.Comma ∷ (z ++ key t.CloseRound))) ++ rest ≡ x ++ w.Key t.Comma ∷ (y ++ w.Key t.Comma ∷ (z ++ w.Key t.CloseRound ∷ rest))
+three-parts x y z rest = simp append_assoc
+
+-- ---- all expressions
+
+conversion-begins : (to : Conversion) (fs : List Frame) (ws : List Word) → read m.Want fs (spell_conversion to ∷ w.Key t.OpenRound ∷ ws) ≡ read m.Want (f.Convert to ∷ fs) ws
+unfolding step want_key
+conversion-begins c.Integer fs ws = refl
+conversion-begins c.Text fs ws = refl
+
+prefix-begins : (p : UnaryOperator) (fs : List Frame) (ws : List Word) → read m.Want fs (spell_before p ∷ ws) ≡ read m.Want (f.Before p ∷ fs) ws
+unfolding step want_key
+prefix-begins u.Minus fs ws = refl
+prefix-begins u.Plus fs ws = refl
+prefix-begins u.Not fs ws = refl
+
+mutual
+  unfolding step want_key after_key
+
+  pub reads : (s : Syntax) (fs : List Frame) (rest : List Word) → IsGrouped s → Fits (level s) fs → Follows s rest → read m.Want fs (spell s ++ rest) ≡ read (m.After (whole s)) fs rest
+  reads (leaf x) fs rest g l h = reads-leaf x fs rest h
+  reads (call n no_more) fs rest g l h = call-ends n o.no_parts (call n no_more) fs rest h
+  reads (call n (one_more s ss)) fs rest g l h =
+      let r : WholeListRead (call_frame n) (one_more s ss) fs (w.Key t.CloseRound ∷ rest) = whole-list (call_frame n) s ss fs (w.Key t.CloseRound ∷ rest) (reads s (f.Call n o.no_parts ∷ fs) (spell_rest ss ++ w.Key t.CloseRound ∷ rest) g.0 (level-9 s) (follows-rest s ss (w.Key t.CloseRound ∷ rest) (closes-round rest))) (reads_rest (call_frame n) (in_call n) 0 [] s ss fs (w.Key t.CloseRound ∷ rest) g.1 (closes-round rest)) in
+      ap (read m.WantFirst (f.Call n o.no_parts ∷ fs)) (append_assoc (spell s ++ spell_rest ss) (key t.CloseRound) rest ∙ append_assoc (spell s) (spell_rest ss) (w.Key t.CloseRound ∷ rest))
+      ∙ first-operand s (f.Call n o.no_parts ∷ fs) (spell_rest ss ++ w.Key t.CloseRound ∷ rest)
+      ∙ ap (read m.Want (f.Call n o.no_parts ∷ fs)) (sym (append_assoc (spell s) (spell_rest ss) (w.Key t.CloseRound ∷ rest)))
+      ∙ r.reads_to
+      ∙ ap (λ ps. read (m.Called n ps) fs rest) r.all
+      ∙ call-ends n (parts_at (heights (one_more s ss)) (trees (one_more s ss))) (call n (one_more s ss)) fs rest h
+      ∙ ap (λ x. read (m.After x) fs rest) (call-whole n (heights (one_more s ss)) (trees (one_more s ss)))
+  reads (call_field n no_more x) fs rest g l h = refl
+  reads (call_field n (one_more s ss) x) fs rest g l h =
+      let r : WholeListRead (call_frame n) (one_more s ss) fs (w.Key t.CloseRound ∷ w.Key t.Dot ∷ w.Name x ∷ rest) = whole-list (call_frame n) s ss fs (w.Key t.CloseRound ∷ w.Key t.Dot ∷ w.Name x ∷ rest) (reads s (f.Call n o.no_parts ∷ fs) (spell_rest ss ++ w.Key t.CloseRound ∷ w.Key t.Dot ∷ w.Name x ∷ rest) g.0 (level-9 s) (follows-rest s ss (w.Key t.CloseRound ∷ w.Key t.Dot ∷ w.Name x ∷ rest) (closes-round (w.Key t.Dot ∷ w.Name x ∷ rest)))) (reads_rest (call_frame n) (in_call n) 0 [] s ss fs (w.Key t.CloseRound ∷ w.Key t.Dot ∷ w.Name x ∷ rest) g.1 (closes-round (w.Key t.Dot ∷ w.Name x ∷ rest))) in
+      ap (read m.WantFirst (f.Call n o.no_parts ∷ fs)) (append_assoc (spell s ++ spell_rest ss) (w.Key t.CloseRound ∷ w.Key t.Dot ∷ w.Name x ∷ []) rest ∙ append_assoc (spell s) (spell_rest ss) (w.Key t.CloseRound ∷ w.Key t.Dot ∷ w.Name x ∷ rest))
+      ∙ first-operand s (f.Call n o.no_parts ∷ fs) (spell_rest ss ++ w.Key t.CloseRound ∷ w.Key t.Dot ∷ w.Name x ∷ rest)
+      ∙ ap (read m.Want (f.Call n o.no_parts ∷ fs)) (sym (append_assoc (spell s) (spell_rest ss) (w.Key t.CloseRound ∷ w.Key t.Dot ∷ w.Name x ∷ rest)))
+      ∙ r.reads_to
+      ∙ ap (λ ps. read (m.After (o.call_field_of n ps x)) fs rest) r.all
+      ∙ ap (λ y. read (m.After y) fs rest) (call_field-whole n (heights (one_more s ss)) (trees (one_more s ss)) x)
+  reads (set no_more) fs rest g l h = refl
+  reads (set (one_more s ss)) fs rest g l h =
+      let r : WholeListRead set_frame (one_more s ss) fs (w.Key t.CloseCurly ∷ rest) = whole-list set_frame s ss fs (w.Key t.CloseCurly ∷ rest) (reads s (f.Set o.no_parts ∷ fs) (spell_rest ss ++ w.Key t.CloseCurly ∷ rest) g.0 (level-9 s) (follows-rest s ss (w.Key t.CloseCurly ∷ rest) (closes-curly rest))) (reads_rest set_frame in_set 0 [] s ss fs (w.Key t.CloseCurly ∷ rest) g.1 (closes-curly rest)) in
+      ap (read m.WantFirst (f.Set o.no_parts ∷ fs)) (append_assoc (spell s ++ spell_rest ss) (key t.CloseCurly) rest ∙ append_assoc (spell s) (spell_rest ss) (w.Key t.CloseCurly ∷ rest))
+      ∙ first-operand s (f.Set o.no_parts ∷ fs) (spell_rest ss ++ w.Key t.CloseCurly ∷ rest)
+      ∙ ap (read m.Want (f.Set o.no_parts ∷ fs)) (sym (append_assoc (spell s) (spell_rest ss) (w.Key t.CloseCurly ∷ rest)))
+      ∙ r.reads_to
+      ∙ ap (λ ps. read (m.After (o.set_of ps)) fs rest) r.all
+      ∙ ap (λ y. read (m.After y) fs rest) (set-whole (heights (one_more s ss)) (trees (one_more s ss)))
+  reads (list no_more) fs rest g l h = refl
+  reads (list (one_more s ss)) fs rest g l h =
+      let r : WholeListRead list_frame (one_more s ss) fs (w.Key t.CloseSquare ∷ rest) = whole-list list_frame s ss fs (w.Key t.CloseSquare ∷ rest) (reads s (f.List o.no_parts ∷ fs) (spell_rest ss ++ w.Key t.CloseSquare ∷ rest) g.0 (level-9 s) (follows-rest s ss (w.Key t.CloseSquare ∷ rest) (closes-square rest))) (reads_rest list_frame in_list 0 [] s ss fs (w.Key t.CloseSquare ∷ rest) g.1 (closes-square rest)) in
+      ap (read m.WantFirst (f.List o.no_parts ∷ fs)) (append_assoc (spell s ++ spell_rest ss) (key t.CloseSquare) rest ∙ append_assoc (spell s) (spell_rest ss) (w.Key t.CloseSquare ∷ rest))
+      ∙ first-operand s (f.List o.no_parts ∷ fs) (spell_rest ss ++ w.Key t.CloseSquare ∷ rest)
+      ∙ ap (read m.Want (f.List o.no_parts ∷ fs)) (sym (append_assoc (spell s) (spell_rest ss) (w.Key t.CloseSquare ∷ rest)))
+      ∙ r.reads_to
+      ∙ ap (λ ps. read (m.After (o.list_of ps)) fs rest) r.all
+      ∙ ap (λ y. read (m.After y) fs rest) (list-whole (heights (one_more s ss)) (trees (one_more s ss)))
+  reads (bracket s) fs rest g l h =
+      ap (read m.Want (f.Bracket ∷ fs)) (append_assoc (spell s) (key t.CloseRound) rest)
+      ∙ reads s (f.Bracket ∷ fs) (w.Key t.CloseRound ∷ rest) g (level-9 s) (closes-round rest s)
+      ∙ ap (λ y. read (m.After y) fs rest) (bracketed-whole s)
+  reads (choice x y z) fs rest g l h =
+      ap (read m.Want (f.Choice ∷ fs)) (three-parts (spell x) (spell y) (spell z) rest)
+      ∙ reads x (f.Choice ∷ fs) (w.Key t.Comma ∷ (spell y ++ w.Key t.Comma ∷ (spell z ++ w.Key t.CloseRound ∷ rest))) g.0 (level-9 x) (closes-comma (spell y ++ w.Key t.Comma ∷ (spell z ++ w.Key t.CloseRound ∷ rest)) x)
+      ∙ reads y (f.ChoiceOne (whole x) ∷ fs) (w.Key t.Comma ∷ (spell z ++ w.Key t.CloseRound ∷ rest)) g.1 (level-9 y) (closes-comma (spell z ++ w.Key t.CloseRound ∷ rest) y)
+      ∙ reads z (f.ChoiceTwo (whole x) (whole y) ∷ fs) (w.Key t.CloseRound ∷ rest) g.2 (level-9 z) (closes-round rest z)
+      ∙ ap (λ v. read (m.After v) fs rest) (choice-whole x y z)
+  reads (convert to s) fs rest g l h =
+      conversion-begins to fs ((spell s ++ key t.CloseRound) ++ rest)
+      ∙ ap (read m.Want (f.Convert to ∷ fs)) (append_assoc (spell s) (key t.CloseRound) rest)
+      ∙ reads s (f.Convert to ∷ fs) (w.Key t.CloseRound ∷ rest) g (level-9 s) (closes-round rest s)
+      ∙ ap (λ y. read (m.After y) fs rest) (convert-whole to s)
+  reads (before p s) fs rest g l h =
+      prefix-begins p fs (spell s ++ rest)
+      ∙ reads s (f.Before p ∷ fs) rest g.1 g.0 (follows-part (before p s) s rest (λ op e. or_right _ (takes s op) e) h)
+      ∙ pops-before p s fs rest g.0 h
+  reads (between op x y) fs rest g l h =
+      ap (read m.Want fs) (append_assoc (spell x) (spell_between op ++ spell y) rest ∙ ap (λ ws. spell x ++ ws) (append_assoc (spell_between op) (spell y) rest))
+      ∙ reads x fs (spell_between op ++ (spell y ++ rest)) g.2 (fits-less (level x) (binds op) fs (omega (arith, g.0, left-binds op)) l) (follows-operator x op (spell y ++ rest) g.4)
+      ∙ reads-operator op (whole x) fs (spell y ++ rest) (stays-fits op (level x) fs g.0 l)
+      ∙ reads y (f.Between op (whole x) ∷ fs) rest g.3 g.1 (follows-part (between op x y) y rest (λ q e. or_right _ (takes y q) e) h)
+      ∙ pops-between op x y fs rest g.1 h
+  reads (aggregate p over s) fs rest g l h =
+      let r : IndexRead (i.Aggregate p) 0 [] over fs (w.Key t.CloseRound ∷ (spell s ++ rest)) = reads_over (i.Aggregate p) 0 [] over fs (w.Key t.CloseRound ∷ (spell s ++ rest)) g.1 (closes-round (spell s ++ rest)) in
+      let zero : max 0 (height_over over) ≡ height_over over = omega arith in
+      aggregate-begins p fs ((spell_over over ++ w.Key t.CloseRound ∷ spell s) ++ rest)
+      ∙ ap (read (m.WantName (i.Aggregate p) o.no_groups []) fs) (append_assoc (spell_over over) (w.Key t.CloseRound ∷ spell s) rest)
+      ∙ r.reads_to
+      ∙ index-closes (i.Aggregate p) r.top r.last (ready_at (max 0 (height_over over)) (index_of over)) fs (spell s ++ rest) r.ends
+      ∙ ap (λ k. read m.Want (f.Body p (ready_at k (index_of over)) ∷ fs) (spell s ++ rest)) zero
+      ∙ reads s (f.Body p (ready_at (height_over over) (index_of over)) ∷ fs) rest g.2 g.0 (follows-part (aggregate p over s) s rest (λ op e. or_right _ (takes s op) e) h)
+      ∙ pops-body p over s fs rest g.0 h
+  reads (counted over) fs rest g l h =
+      let r : IndexRead i.Count 0 [] over fs (w.Key t.CloseRound ∷ rest) = reads_over i.Count 0 [] over fs (w.Key t.CloseRound ∷ rest) g (closes-round rest) in
+      let zero : max 0 (height_over over) ≡ height_over over = omega arith in
+      count-begins fs ((spell_over over ++ key t.CloseRound) ++ rest)
+      ∙ ap (read (m.WantName i.Count o.no_groups []) fs) (append_assoc (spell_over over) (key t.CloseRound) rest)
+      ∙ r.reads_to
+      ∙ index-closes i.Count r.top r.last (ready_at (max 0 (height_over over)) (index_of over)) fs rest r.ends
+      ∙ ap (λ k. read (m.After (o.counted_of (ready_at k (index_of over)))) fs rest) zero
+      ∙ ap (λ y. read (m.After y) fs rest) (counted-whole (height_over over) (index_of over))
+
+  reads_rest : (frame : Parts → Frame) → IsListFrame frame → (h : ℕ) (xs : List Expr) (s : Syntax) (ss : Written) (fs : List Frame) (rest : List Word) → AreGrouped ss → Closes rest → ListRead frame h xs s ss fs rest
+  reads_rest frame is h xs s no_more fs rest g c = record {
+    last = whole s;
+    parts = parts_at h xs;
+    reads_to = refl;
+    all = parts-whole h xs s ∙ ap (λ k. parts_at k (xs ++ tree s ∷ [])) (zero-high (max h (height s))) ∙ ap (parts_at (max (max h (height s)) 0)) (sym (append-nil (xs ++ tree s ∷ [])));
+  }
+  reads_rest frame is h xs s (one_more y ys) fs rest g c =
+      let fits : level y ≤ room (frame (parts_at (max h (height s)) (xs ++ tree s ∷ []))) = subst (λ r. level y ≤ r) (sym (is.wide (parts_at (max h (height s)) (xs ++ tree s ∷ [])))) (level-9 y) in
+      let r : ListRead frame (max h (height s)) (xs ++ tree s ∷ []) y ys fs rest = reads_rest frame is (max h (height s)) (xs ++ tree s ∷ []) y ys fs rest g.1 c in
+      let high : max (max (max h (height s)) (height y)) (heights ys) ≡ max (max h (height s)) (max (height y) (heights ys)) = omega arith in
+      record {
+        last = r.last;
+        parts = r.parts;
+        reads_to =
+            is.comma (parts_at h xs) (whole s) fs ((spell y ++ spell_rest ys) ++ rest)
+            ∙ ap (λ ps. read m.Want (frame ps ∷ fs) ((spell y ++ spell_rest ys) ++ rest)) (parts-whole h xs s)
+            ∙ ap (read m.Want (frame (parts_at (max h (height s)) (xs ++ tree s ∷ [])) ∷ fs)) (append_assoc (spell y) (spell_rest ys) rest)
+            ∙ reads y (frame (parts_at (max h (height s)) (xs ++ tree s ∷ [])) ∷ fs) (spell_rest ys ++ rest) g.0 fits (follows-rest y ys rest c)
+            ∙ r.reads_to;
+        all = r.all ∙ ap (λ q. parts_at q (xs ++ tree s ∷ [] ++ tree y ∷ [] ++ trees ys)) high ∙ ap (λ q. parts_at (max (max h (height s)) (max (height y) (heights ys))) q) (append_assoc (xs ++ tree s ∷ []) (tree y ∷ []) (trees ys));
+      }
+
+  pub reads_over : (kind : IndexKind) (h : ℕ) (gs : List (Group Expr)) (over : Over) (fs : List Frame) (rest : List Word) → IsGroupedOver over → Closes rest → IndexRead kind h gs over fs rest
+  reads_over kind h gs (last_set ns s) fs rest g c = record {
+    last = whole s;
+    top = f.Within kind (groups_at h gs) (list_of_names ns);
+    reads_to =
+        ap (read (m.WantName kind (groups_at h gs) []) fs) (append_assoc (spell_names ns) (w.Key t.In ∷ spell s) rest)
+        ∙ reads-names kind (groups_at h gs) ns [] fs (spell s ++ rest)
+        ∙ reads s (f.Within kind (groups_at h gs) (list_of_names ns) ∷ fs) rest g.1 g.0 (c s);
+    ends = set_ends kind h gs (list_of_names ns) s g.0;
+  }
+  reads_over kind h gs (such_that ns s x) fs rest g c = record {
+    last = whole x;
+    top = f.Such kind (groups_at (max h (height s + 1)) (gs ++ group_of (list_of_names ns) s ∷ []));
+    reads_to =
+        ap (read (m.WantName kind (groups_at h gs) []) fs) (append_assoc (spell_names ns) (w.Key t.In ∷ (spell s ++ w.Key t.Bar ∷ spell x)) rest)
+        ∙ reads-names kind (groups_at h gs) ns [] fs ((spell s ++ w.Key t.Bar ∷ spell x) ++ rest)
+        ∙ ap (read m.Want (f.Within kind (groups_at h gs) (list_of_names ns) ∷ fs)) (append_assoc (spell s) (w.Key t.Bar ∷ spell x) rest)
+        ∙ reads s (f.Within kind (groups_at h gs) (list_of_names ns) ∷ fs) (w.Key t.Bar ∷ (spell x ++ rest)) g.1 g.0 (closes-bar (spell x ++ rest) s)
+        ∙ reads-bar kind h gs (list_of_names ns) s fs (spell x ++ rest) g.0
+        ∙ reads x (f.Such kind (groups_at (max h (height s + 1)) (gs ++ group_of (list_of_names ns) s ∷ [])) ∷ fs) rest g.2 (level-9 x) (c x);
+    ends =
+        let p : max (max h (height s + 1)) (height x) ≡ max h (max (height s + 1) (height x)) = omega arith in
+        subst (λ q. IndexEnds kind (f.Such kind (groups_at (max h (height s + 1)) (gs ++ group_of (list_of_names ns) s ∷ []))) (whole x) (ready_at q (record { groups = gs ++ group_of (list_of_names ns) s ∷ []; condition = Some (tree x) }))) p (condition_ends kind (max h (height s + 1)) (gs ++ group_of (list_of_names ns) s ∷ []) x);
+  }
+  reads_over kind h gs (another ns s over) fs rest g c =
+      let r : IndexRead kind (max h (height s + 1)) (gs ++ group_of (list_of_names ns) s ∷ []) over fs rest = reads_over kind (max h (height s + 1)) (gs ++ group_of (list_of_names ns) s ∷ []) over fs rest g.2 c in
+      record {
+        last = r.last;
+        top = r.top;
+        reads_to =
+            ap (read (m.WantName kind (groups_at h gs) []) fs) (append_assoc (spell_names ns) (w.Key t.In ∷ (spell s ++ w.Key t.Comma ∷ spell_over over)) rest)
+            ∙ reads-names kind (groups_at h gs) ns [] fs ((spell s ++ w.Key t.Comma ∷ spell_over over) ++ rest)
+            ∙ ap (read m.Want (f.Within kind (groups_at h gs) (list_of_names ns) ∷ fs)) (append_assoc (spell s) (w.Key t.Comma ∷ spell_over over) rest)
+            ∙ reads s (f.Within kind (groups_at h gs) (list_of_names ns) ∷ fs) (w.Key t.Comma ∷ (spell_over over ++ rest)) g.1 g.0 (closes-comma (spell_over over ++ rest) s)
+            ∙ reads-comma kind h gs (list_of_names ns) s fs (spell_over over ++ rest) g.0
+            ∙ r.reads_to;
+        ends = more_ends kind r.top r.last h (height s + 1) (height_over over) gs (groups_of over) (group_of (list_of_names ns) s) (condition_of over) r.ends;
+      }
+
+pub reads_list : (frame : Parts → Frame) → IsListFrame frame → (s : Syntax) (ss : Written) (fs : List Frame) (rest : List Word) → IsGrouped s × AreGrouped ss → Closes rest → WholeListRead frame (one_more s ss) fs rest
+reads_list frame is s ss fs rest g c =
+    let fits : level s ≤ room (frame o.no_parts) = subst (λ r. level s ≤ r) (sym (is.wide o.no_parts)) (level-9 s) in
+    whole-list frame s ss fs rest
+    (reads s (frame o.no_parts ∷ fs) (spell_rest ss ++ rest) g.0 fits (follows-rest s ss rest c))
+    (reads_rest frame is 0 [] s ss fs rest g.1 c)

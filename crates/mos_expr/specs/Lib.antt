@@ -1,0 +1,5 @@
+pub mod Grammar
+pub mod Machine
+pub mod Operands
+pub mod Outcome
+pub mod Reader

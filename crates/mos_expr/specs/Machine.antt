@@ -1,0 +1,206 @@
+use Rattle.std.specs.Prelude.{ℕ, Bool, true, false, ◌&&◌, if◌then◌else◌, nat_le, List, [], ◌∷◌, reverse, Option, Some, None}
+use Rattle.mos_tree.specs.declared.expr.BinaryOperator.{BinaryOperator}
+use Rattle.mos_tree.specs.declared.expr.BinaryOperator.TheVariants as b
+use Rattle.mos_scan.specs.declared.token.TokenKind.{TokenKind}
+use Rattle.mos_scan.specs.declared.token.TokenKind.TheVariants as t
+use Rattle.mos_expr.specs.Grammar.{binds, left_of, right_of, level_before, level_body}
+use Rattle.mos_expr.specs.Operands as o
+use Rattle.mos_expr.specs.declared.operand.Operand.{Operand}
+use Rattle.mos_expr.specs.declared.operand.Groups.{Groups}
+use Rattle.mos_expr.specs.declared.operand.Ready.{Ready}
+use Rattle.mos_expr.specs.declared.frame.IndexKind.{IndexKind}
+use Rattle.mos_expr.specs.declared.frame.IndexKind.TheVariants as i
+use Rattle.mos_expr.specs.declared.frame.Frame.{Frame}
+use Rattle.mos_expr.specs.declared.frame.Frame.TheVariants as f
+use Rattle.mos_expr.specs.declared.frame.Mode.{Mode}
+use Rattle.mos_expr.specs.declared.frame.Mode.TheVariants as m
+
+-- The reader on lists, behind an operand: which open frames it ends, and what the frame that is then innermost makes of it.
+-- The innermost frame stands first.
+
+abbrev pub FrameType : Type 0
+FrameType = Frame
+
+abbrev pub stack_of : List Frame → List Frame
+stack_of frames = reverse frames
+
+-- what comes next, in which frames; none where the words so far begin nothing
+abbrev pub State : Type 0
+State = Option (Mode × List Frame)
+
+abbrev pub nothing : State
+nothing = None
+
+abbrev pub on : Option Mode → List Frame → State
+on None fs = None
+on (Some mode) fs = Some (mode, fs)
+
+-- an operand, in which frames
+abbrev pub Settled : Type 0
+Settled = Option (Operand × List Frame)
+
+abbrev pub beside : Option Operand → List Frame → Settled
+beside None fs = None
+beside (Some x) fs = Some (x, fs)
+
+abbrev pub when : Bool → List Frame → Option (List Frame)
+when true fs = Some fs
+when false fs = None
+
+abbrev pub and_then : {A B : Type 0} → Option A → (A → Option B) → Option B
+and_then None go = None
+and_then (Some x) go = go x
+
+-- ---- folding
+
+-- a frame that an operand ends
+abbrev pub folds : Frame → Bool
+folds (f.Before op) = true
+folds (f.Between op a) = true
+folds (f.Body op index) = true
+folds _ = false
+
+abbrev pub top_folds : List Frame → Bool
+top_folds [] = false
+top_folds (g ∷ fs) = folds g
+
+-- the loosest operand that the frame takes
+abbrev pub room : Frame → ℕ
+room (f.Before op) = level_before op
+room (f.Between op a) = right_of op
+room (f.Body op index) = level_body op
+room (f.Within kind groups names) = 5
+room _ = 9
+
+-- what the frame makes of an operand that ends it
+abbrev pub folded : Frame → Operand → Option Operand
+folded (f.Before op) x = Some (o.before_of op x)
+folded (f.Between op a) x = Some (o.between_of op a x)
+folded (f.Body op index) x = Some (o.aggregate_of op index x)
+folded _ x = None
+
+abbrev pub fold : Frame → Operand → Option Operand
+fold g x = if nat_le x.level (room g) then folded g x else None
+
+-- the operator stays within the innermost frame, with an operand of this level at its left
+abbrev pub stays : BinaryOperator → ℕ → List Frame → Bool
+stays op level [] = nat_le level (left_of op)
+stays op level (g ∷ fs) = nat_le (binds op) (room g) && nat_le level (left_of op)
+
+-- the operand with all that it ends
+abbrev pub settled : Operand → List Frame → Settled
+settled x [] = Some (x, [])
+settled x (g ∷ fs) = if folds g then and_then (fold g x) (λ y. settled y fs) else Some (x, g ∷ fs)
+
+-- the frames behind an operator
+abbrev pub placed : BinaryOperator → Operand → List Frame → Option (List Frame)
+placed op x [] = if stays op x.level [] then Some (f.Between op x ∷ []) else None
+placed op x (g ∷ fs) =
+    if stays op x.level (g ∷ fs) then Some (f.Between op x ∷ g ∷ fs)
+    else (if folds g then and_then (fold g x) (λ y. placed op y fs) else None)
+
+-- ---- the innermost frame takes the operand at a bracket, a comma or a bar
+
+abbrev pub want_with : Frame → List Frame → State
+want_with g fs = Some (m.Want, g ∷ fs)
+
+-- a whole index, behind its closing bracket
+abbrev pub index_read : IndexKind → Ready → List Frame → State
+index_read (i.Aggregate op) ready fs = want_with (f.Body op ready) fs
+index_read i.Count ready fs = Some (m.After (o.counted_of ready), fs)
+index_read i.Loop ready fs = None
+
+-- a set of an index is of level 5
+abbrev pub if_set : {A : Type 0} → Operand → Option A → Option A
+if_set x next = if nat_le x.level 5 then next else None
+
+abbrev pub round_within : IndexKind → Groups → List (List ℕ) → Operand → List Frame → State
+round_within kind groups names x fs = if_set x (index_read kind (o.ready_of (o.groups_with groups names x)) fs)
+
+abbrev pub bar_within : IndexKind → Groups → List (List ℕ) → Operand → List Frame → State
+bar_within kind groups names x fs = if_set x (want_with (f.Such kind (o.groups_with groups names x)) fs)
+
+abbrev pub comma_within : IndexKind → Groups → List (List ℕ) → Operand → List Frame → State
+comma_within kind groups names x fs = if_set x (Some (m.WantName kind (o.groups_with groups names x) [], fs))
+
+abbrev pub round : Frame → Operand → List Frame → State
+round f.Bracket x fs = Some (m.After (o.bracketed x), fs)
+round (f.Call n ps) x fs = Some (m.Called n (o.parts_with ps x), fs)
+round (f.ChoiceTwo p q) x fs = Some (m.After (o.choice_of p q x), fs)
+round (f.Convert to) x fs = Some (m.After (o.convert_of to x), fs)
+round (f.Within kind groups names) x fs = round_within kind groups names x fs
+round (f.Such kind groups) x fs = index_read kind (o.such_of groups x) fs
+round _ x fs = None
+
+abbrev pub curly : Frame → Operand → Option Mode
+curly (f.Set ps) x = Some (m.After (o.set_of (o.parts_with ps x)))
+curly _ x = None
+
+abbrev pub square : Frame → Operand → Option Mode
+square (f.List ps) x = Some (m.After (o.list_of (o.parts_with ps x)))
+square _ x = None
+
+abbrev pub comma : Frame → Operand → List Frame → State
+comma (f.Call n ps) x fs = want_with (f.Call n (o.parts_with ps x)) fs
+comma (f.Set ps) x fs = want_with (f.Set (o.parts_with ps x)) fs
+comma (f.List ps) x fs = want_with (f.List (o.parts_with ps x)) fs
+comma (f.Listed ps) x fs = want_with (f.Listed (o.parts_with ps x)) fs
+comma f.Choice x fs = want_with (f.ChoiceOne x) fs
+comma (f.ChoiceOne p) x fs = want_with (f.ChoiceTwo p x) fs
+comma (f.Within kind groups names) x fs = comma_within kind groups names x fs
+comma _ x fs = None
+
+abbrev pub bar : Frame → Operand → List Frame → State
+bar (f.Within kind groups names) x fs = bar_within kind groups names x fs
+bar _ x fs = None
+
+abbrev pub at_frame : TokenKind → Operand → List Frame → State
+at_frame k x [] = None
+at_frame t.CloseRound x (g ∷ fs) = round g x fs
+at_frame t.CloseCurly x (g ∷ fs) = on (curly g x) fs
+at_frame t.CloseSquare x (g ∷ fs) = on (square g x) fs
+at_frame t.Comma x (g ∷ fs) = comma g x fs
+at_frame t.Bar x (g ∷ fs) = bar g x fs
+at_frame _ x (g ∷ fs) = None
+
+-- ---- what may follow an operand
+
+-- the operator that begins with this token
+abbrev pub operator_of : TokenKind → Option BinaryOperator
+operator_of t.Times = Some b.Times
+operator_of t.Div = Some b.Div
+operator_of t.Mod = Some b.Mod
+operator_of t.Inter = Some b.Inter
+operator_of t.Plus = Some b.Plus
+operator_of t.Minus = Some b.Minus
+operator_of t.Union = Some b.Union
+operator_of t.DotDot = Some b.Range
+operator_of t.Equal = Some b.Equal
+operator_of t.NotEqual = Some b.NotEqual
+operator_of t.Less = Some b.Less
+operator_of t.AtMost = Some b.AtMost
+operator_of t.Greater = Some b.Greater
+operator_of t.AtLeast = Some b.AtLeast
+operator_of t.In = Some b.In
+operator_of t.Not = Some b.NotIn
+operator_of t.And = Some b.And
+operator_of t.Or = Some b.Or
+operator_of _ = None
+
+-- behind `not` between two operands comes `in`
+abbrev pub mode_behind : BinaryOperator → Mode
+mode_behind b.NotIn = m.WantIn
+mode_behind _ = m.Want
+
+abbrev pub close : TokenKind → Operand → List Frame → State
+close k x fs = and_then (settled x fs) (λ y. at_frame k y.0 y.1)
+
+abbrev pub infix_at : BinaryOperator → Operand → List Frame → State
+infix_at op x fs = and_then (placed op x fs) (λ gs. Some (mode_behind op, gs))
+
+abbrev pub by_operator : Option BinaryOperator → TokenKind → Operand → List Frame → State
+by_operator None k x fs = close k x fs
+by_operator (Some op) k x fs = infix_at op x fs
+
+unfoldable pub after_key : TokenKind → Operand → List Frame → State
+after_key k x fs = by_operator (operator_of k) k x fs

@@ -1,0 +1,22 @@
+//! Expressions: the one tree of the words that spell one.
+//!
+//! Words are read from left to right, one step each. What is open round the operand that is read
+//! stands on a stack of frames, so brackets may nest as deep as there are words and nothing here
+//! calls itself on what it reads.
+#![tactic(auto)]
+
+mod fault;
+mod frame;
+mod level;
+mod machine;
+mod operand;
+mod read;
+mod reader;
+mod stack;
+mod tree;
+
+pub use fault::ExprFault;
+pub use tree::{expression, expression_of_words, expressions_of_words, index_of_words};
+
+#[cfg(test)]
+mod tests;

@@ -1,0 +1,427 @@
+ghost use Rattle.std.specs.Prelude.{◌≡◌, true, false, Some, List, IfOk};
+ghost use Rattle.mos_expr.specs.Machine as spec;
+ghost use Rattle.mos_expr.specs.Reader as reads;
+
+use crate::frame::{Frame, IndexKind, Mode};
+use crate::machine::{bar, comma, curly, operator_of, place, round, settle, square};
+use crate::operand::{
+    Groups, Operand, Parts, call_field_of, call_of, leaf_of, list_of, no_groups, no_parts, set_of,
+};
+use crate::stack::{opened, pop};
+use mos_scan::{TokenKind, Word};
+use mos_text::{NoMemory, Text};
+use mos_tree::{AggregateOperator, BinaryOperator, Conversion, Expr, UnaryOperator};
+use sqlite_items::Items;
+use std::alloc::Global;
+
+fn refuse_operand(_x: Operand) {}
+
+/// Nothing comes next: the words so far begin no expression.
+fn refuse_all(_frame: Frame, _x: Operand) -> Option<Mode>
+    ensures { (fs : List spec.FrameType) → spec.on result fs ≡ spec.nothing }
+{
+    None
+}
+
+/// The innermost frame takes the operand at a bracket, a comma or a bar.
+fn at_frame(
+    alloc: Global,
+    stack: &mut Vec<Frame>,
+    kind: TokenKind,
+    x: Operand,
+) -> Result<Option<Mode>, NoMemory>
+    ensures { IfOk result (λ next. spec.at_frame kind x (spec.stack_of stack.old.items) ≡ spec.on next (spec.stack_of stack.new.items)) }
+{
+    let Some(frame) = pop(stack) else {
+        refuse_operand(x);
+        return Ok(None);
+    };
+    match kind {
+        TokenKind::CloseRound => round(alloc, stack, frame, x),
+        TokenKind::CloseCurly => curly(frame, x),
+        TokenKind::CloseSquare => square(frame, x),
+        TokenKind::Comma => comma(alloc, stack, frame, x),
+        TokenKind::Bar => bar(stack, frame, x),
+        _ => Ok(refuse_all(frame, x)),
+    }
+}
+
+/// What comes behind an operator.
+fn mode_behind(op: BinaryOperator) -> Mode
+    ensures { result ≡ spec.mode_behind op }
+{
+    match op {
+        BinaryOperator::NotIn => Mode::WantIn,
+        _ => Mode::Want,
+    }
+}
+
+/// An operator behind an operand.
+fn infix(
+    alloc: Global,
+    stack: &mut Vec<Frame>,
+    op: BinaryOperator,
+    x: Operand,
+) -> Result<Option<Mode>, NoMemory>
+    ensures { IfOk result (λ next. spec.infix_at op x (spec.stack_of stack.old.items) ≡ spec.on next (spec.stack_of stack.new.items)) }
+{
+    if place(alloc, stack, op, x)? {
+        Ok(Some(mode_behind(op)))
+    } else {
+        Ok(None)
+    }
+}
+
+/// A bracket, a comma or a bar behind an operand.
+fn close(
+    alloc: Global,
+    stack: &mut Vec<Frame>,
+    kind: TokenKind,
+    x: Operand,
+) -> Result<Option<Mode>, NoMemory>
+    ensures { IfOk result (λ next. spec.close kind x (spec.stack_of stack.old.items) ≡ spec.on next (spec.stack_of stack.new.items)) }
+{
+    match settle(alloc, stack, x)? {
+        None => Ok(None),
+        Some(y) => at_frame(alloc, stack, kind, y),
+    }
+}
+
+#[tactic(auto, unfolding(crate::specs::Machine::after_key))]
+fn after_key(
+    alloc: Global,
+    stack: &mut Vec<Frame>,
+    kind: TokenKind,
+    x: Operand,
+) -> Result<Option<Mode>, NoMemory>
+    ensures { IfOk result (λ next. spec.after_key kind x (spec.stack_of stack.old.items) ≡ spec.on next (spec.stack_of stack.new.items)) }
+{
+    match operator_of(kind) {
+        Some(op) => infix(alloc, stack, op, x),
+        None => close(alloc, stack, kind, x),
+    }
+}
+
+/// A word behind an operand.
+fn after(
+    alloc: Global,
+    stack: &mut Vec<Frame>,
+    x: Operand,
+    word: &Word,
+) -> Result<Option<Mode>, NoMemory>
+    ensures { IfOk result (λ next. reads.after x word.now (spec.stack_of stack.old.items) ≡ spec.on next (spec.stack_of stack.new.items)) }
+{
+    match word {
+        Word::Key(kind) => after_key(alloc, stack, *kind, x),
+        _ => {
+            refuse_operand(x);
+            Ok(None)
+        }
+    }
+}
+
+/// A word behind a name.
+fn named(
+    alloc: Global,
+    stack: &mut Vec<Frame>,
+    name: Text,
+    word: &Word,
+) -> Result<Option<Mode>, NoMemory>
+    ensures { IfOk result (λ next. reads.named name word.now (spec.stack_of stack.old.items) ≡ spec.on next (spec.stack_of stack.new.items)) }
+{
+    match word {
+        Word::Key(TokenKind::OpenRound) => {
+            opened(stack, Frame::Call(name, no_parts(alloc)), Mode::WantFirst)
+        }
+        Word::Key(TokenKind::Dot) => Ok(Some(Mode::Dotted(name))),
+        _ => after(alloc, stack, leaf_of(Expr::Name(name)), word),
+    }
+}
+
+/// A word behind a call.
+fn called(
+    alloc: Global,
+    stack: &mut Vec<Frame>,
+    name: Text,
+    parts: Parts,
+    word: &Word,
+) -> Result<Option<Mode>, NoMemory>
+    ensures { IfOk result (λ next. reads.called name parts word.now (spec.stack_of stack.old.items) ≡ spec.on next (spec.stack_of stack.new.items)) }
+{
+    match word {
+        Word::Key(TokenKind::Dot) => Ok(Some(Mode::DottedCall(name, parts))),
+        _ => after(alloc, stack, call_of(name, parts), word),
+    }
+}
+
+fn refuse_name(_name: Text) {}
+
+fn refuse_call(_name: Text, _parts: Parts) {}
+
+/// A word behind a name and a dot.
+fn dotted(alloc: Global, name: Text, word: &Word) -> Result<Option<Mode>, NoMemory>
+    ensures { IfOk result (λ next. (fs : List spec.FrameType) → reads.dotted name word.now fs ≡ spec.on next fs) }
+{
+    match word {
+        Word::Name(field) => Ok(Some(Mode::After(leaf_of(Expr::Field(name, field.copy(alloc)?))))),
+        _ => {
+            refuse_name(name);
+            Ok(None)
+        }
+    }
+}
+
+/// A word behind a call and a dot.
+fn dotted_call(
+    alloc: Global,
+    name: Text,
+    parts: Parts,
+    word: &Word,
+) -> Result<Option<Mode>, NoMemory>
+    ensures { IfOk result (λ next. (fs : List spec.FrameType) → reads.dotted_call name parts word.now fs ≡ spec.on next fs) }
+{
+    match word {
+        Word::Name(field) => Ok(Some(Mode::After(call_field_of(name, parts, field.copy(alloc)?)))),
+        _ => {
+            refuse_call(name, parts);
+            Ok(None)
+        }
+    }
+}
+
+/// The aggregate that begins with this token.
+#[tactic(auto, unfolding(crate::specs::Reader::aggregate_key))]
+fn aggregate_key(kind: TokenKind) -> Option<IndexKind>
+    ensures { result ≡ reads.aggregate_key kind }
+{
+    match kind {
+        TokenKind::Sum => Some(IndexKind::Aggregate(AggregateOperator::Sum)),
+        TokenKind::Prod => Some(IndexKind::Aggregate(AggregateOperator::Prod)),
+        TokenKind::Min => Some(IndexKind::Aggregate(AggregateOperator::Min)),
+        TokenKind::Max => Some(IndexKind::Aggregate(AggregateOperator::Max)),
+        TokenKind::Union => Some(IndexKind::Aggregate(AggregateOperator::Union)),
+        TokenKind::And => Some(IndexKind::Aggregate(AggregateOperator::And)),
+        TokenKind::Or => Some(IndexKind::Aggregate(AggregateOperator::Or)),
+        TokenKind::Count => Some(IndexKind::Count),
+        _ => None,
+    }
+}
+
+fn index_wanted(kind: Option<IndexKind>) -> Option<Mode>
+    ensures { (fs : List spec.FrameType) → reads.index_wanted kind fs ≡ spec.on result fs }
+{
+    match kind {
+        None => None,
+        Some(kind) => Some(Mode::WantIndex(kind)),
+    }
+}
+
+/// A token where an operand is wanted.
+#[tactic(auto, unfolding(crate::specs::Reader::want_key))]
+fn want_key(
+    alloc: Global,
+    stack: &mut Vec<Frame>,
+    kind: TokenKind,
+) -> Result<Option<Mode>, NoMemory>
+    ensures { IfOk result (λ next. reads.want_key kind (spec.stack_of stack.old.items) ≡ spec.on next (spec.stack_of stack.new.items)) }
+{
+    match kind {
+        TokenKind::True => Ok(Some(Mode::After(leaf_of(Expr::Truth(true))))),
+        TokenKind::False => Ok(Some(Mode::After(leaf_of(Expr::Truth(false))))),
+        TokenKind::Returned => Ok(Some(Mode::After(leaf_of(Expr::Returned)))),
+        TokenKind::OpenRound => opened(stack, Frame::Bracket, Mode::Want),
+        TokenKind::OpenCurly => opened(stack, Frame::Set(no_parts(alloc)), Mode::WantFirst),
+        TokenKind::OpenSquare => opened(stack, Frame::List(no_parts(alloc)), Mode::WantFirst),
+        TokenKind::If => opened(stack, Frame::Choice, Mode::WantOpen),
+        TokenKind::Integer => opened(stack, Frame::Convert(Conversion::Integer), Mode::WantOpen),
+        TokenKind::StringWord => opened(stack, Frame::Convert(Conversion::Text), Mode::WantOpen),
+        TokenKind::Minus => opened(stack, Frame::Before(UnaryOperator::Minus), Mode::Want),
+        TokenKind::Plus => opened(stack, Frame::Before(UnaryOperator::Plus), Mode::Want),
+        TokenKind::Not => opened(stack, Frame::Before(UnaryOperator::Not), Mode::Want),
+        kind => Ok(index_wanted(aggregate_key(kind))),
+    }
+}
+
+/// A word where an operand is wanted.
+fn want(alloc: Global, stack: &mut Vec<Frame>, word: &Word) -> Result<Option<Mode>, NoMemory>
+    ensures { IfOk result (λ next. reads.want word.now (spec.stack_of stack.old.items) ≡ spec.on next (spec.stack_of stack.new.items)) }
+{
+    match word {
+        Word::Number(value) => Ok(Some(Mode::After(leaf_of(Expr::Integer(*value))))),
+        Word::Text(text) => Ok(Some(Mode::After(leaf_of(Expr::Text(text.copy(alloc)?))))),
+        Word::Name(name) => Ok(Some(Mode::Named(name.copy(alloc)?))),
+        Word::Key(kind) => want_key(alloc, stack, *kind),
+    }
+}
+
+fn refuse_frame(_frame: Frame) -> Option<Mode>
+    ensures { (fs : List spec.FrameType) → spec.on result fs ≡ spec.nothing }
+{
+    None
+}
+
+fn round_empty(frame: Frame) -> Option<Mode>
+    ensures { (fs : List spec.FrameType) → reads.round_empty frame fs ≡ spec.on result fs }
+{
+    match frame {
+        Frame::Call(name, parts) => Some(Mode::Called(name, parts)),
+        other => refuse_frame(other),
+    }
+}
+
+fn curly_empty(frame: Frame) -> Option<Mode>
+    ensures { (fs : List spec.FrameType) → reads.curly_empty frame fs ≡ spec.on result fs }
+{
+    match frame {
+        Frame::Set(parts) => Some(Mode::After(set_of(parts))),
+        other => refuse_frame(other),
+    }
+}
+
+fn square_empty(frame: Frame) -> Option<Mode>
+    ensures { (fs : List spec.FrameType) → reads.square_empty frame fs ≡ spec.on result fs }
+{
+    match frame {
+        Frame::List(parts) => Some(Mode::After(list_of(parts))),
+        other => refuse_frame(other),
+    }
+}
+
+/// A bracket that closes what has no parts.
+fn close_empty(stack: &mut Vec<Frame>, kind: TokenKind) -> Option<Mode>
+    ensures { reads.close_empty kind (spec.stack_of stack.old.items) ≡ spec.on result (spec.stack_of stack.new.items) }
+{
+    let frame = pop(stack)?;
+    match kind {
+        TokenKind::CloseRound => round_empty(frame),
+        TokenKind::CloseCurly => curly_empty(frame),
+        TokenKind::CloseSquare => square_empty(frame),
+        _ => None,
+    }
+}
+
+/// A token behind an opening bracket.
+fn first_key(
+    alloc: Global,
+    stack: &mut Vec<Frame>,
+    kind: TokenKind,
+) -> Result<Option<Mode>, NoMemory>
+    ensures { IfOk result (λ next. reads.first_key kind (spec.stack_of stack.old.items) ≡ spec.on next (spec.stack_of stack.new.items)) }
+{
+    match kind {
+        TokenKind::CloseRound | TokenKind::CloseCurly | TokenKind::CloseSquare => {
+            Ok(close_empty(stack, kind))
+        }
+        _ => want_key(alloc, stack, kind),
+    }
+}
+
+/// A word behind an opening bracket.
+fn want_first(alloc: Global, stack: &mut Vec<Frame>, word: &Word) -> Result<Option<Mode>, NoMemory>
+    ensures { IfOk result (λ next. reads.want_first word.now (spec.stack_of stack.old.items) ≡ spec.on next (spec.stack_of stack.new.items)) }
+{
+    match word {
+        Word::Key(kind) => first_key(alloc, stack, *kind),
+        _ => want(alloc, stack, word),
+    }
+}
+
+fn want_open(word: &Word) -> Option<Mode>
+    ensures { (fs : List spec.FrameType) → reads.want_open word.now fs ≡ spec.on result fs }
+{
+    match word {
+        Word::Key(TokenKind::OpenRound) => Some(Mode::Want),
+        _ => None,
+    }
+}
+
+fn open_index(alloc: Global, kind: IndexKind, word: &Word) -> Option<Mode>
+    ensures { (fs : List spec.FrameType) → reads.open_index kind word.now fs ≡ spec.on result fs }
+{
+    match word {
+        Word::Key(TokenKind::OpenRound) => {
+            Some(Mode::WantName(kind, no_groups(alloc), Items::new(alloc)))
+        }
+        _ => None,
+    }
+}
+
+fn want_in(word: &Word) -> Option<Mode>
+    ensures { (fs : List spec.FrameType) → reads.want_in word.now fs ≡ spec.on result fs }
+{
+    match word {
+        Word::Key(TokenKind::In) => Some(Mode::Want),
+        _ => None,
+    }
+}
+
+fn refuse_names(_groups: Groups, _names: Items<Text>) {}
+
+/// A word where a name of an index is wanted.
+fn want_name(
+    alloc: Global,
+    kind: IndexKind,
+    groups: Groups,
+    names: Items<Text>,
+    word: &Word,
+) -> Result<Option<Mode>, NoMemory>
+    ensures { IfOk result (λ next. (fs : List spec.FrameType) → reads.want_name kind groups names word.now fs ≡ spec.on next fs) }
+{
+    match word {
+        Word::Name(name) => {
+            let mut names = names;
+            names.push(name.copy(alloc)?)?;
+            Ok(Some(Mode::AfterName(kind, groups, names)))
+        }
+        _ => {
+            refuse_names(groups, names);
+            Ok(None)
+        }
+    }
+}
+
+/// A word behind a name of an index.
+fn after_name(
+    stack: &mut Vec<Frame>,
+    kind: IndexKind,
+    groups: Groups,
+    names: Items<Text>,
+    word: &Word,
+) -> Result<Option<Mode>, NoMemory>
+    ensures { IfOk result (λ next. reads.after_name kind groups names word.now (spec.stack_of stack.old.items) ≡ spec.on next (spec.stack_of stack.new.items)) }
+{
+    match word {
+        Word::Key(TokenKind::Comma) => Ok(Some(Mode::WantName(kind, groups, names))),
+        Word::Key(TokenKind::In) => opened(stack, Frame::Within(kind, groups, names), Mode::Want),
+        _ => {
+            refuse_names(groups, names);
+            Ok(None)
+        }
+    }
+}
+
+/// What one word does.
+#[tactic(auto, unfolding(crate::specs::Reader::step))]
+pub(crate) fn step(
+    alloc: Global,
+    stack: &mut Vec<Frame>,
+    mode: Mode,
+    word: &Word,
+) -> Result<Option<Mode>, NoMemory>
+    ensures { IfOk result (λ next. reads.step mode word.now (spec.stack_of stack.old.items) ≡ spec.on next (spec.stack_of stack.new.items)) }
+{
+    match mode {
+        Mode::Want => want(alloc, stack, word),
+        Mode::WantFirst => want_first(alloc, stack, word),
+        Mode::WantOpen => Ok(want_open(word)),
+        Mode::WantIndex(kind) => Ok(open_index(alloc, kind, word)),
+        Mode::Named(name) => named(alloc, stack, name, word),
+        Mode::Called(name, parts) => called(alloc, stack, name, parts, word),
+        Mode::Dotted(name) => dotted(alloc, name, word),
+        Mode::DottedCall(name, parts) => dotted_call(alloc, name, parts, word),
+        Mode::After(x) => after(alloc, stack, x, word),
+        Mode::WantIn => Ok(want_in(word)),
+        Mode::WantName(kind, groups, names) => want_name(alloc, kind, groups, names, word),
+        Mode::AfterName(kind, groups, names) => after_name(stack, kind, groups, names, word),
+    }
+}

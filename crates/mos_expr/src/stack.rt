@@ -1,0 +1,32 @@
+ghost use Rattle.std.specs.Prelude.{◌≡◌, [], ◌∷◌, Some, MatchOption, OnOk, IfOk};
+ghost use Rattle.mos_expr.specs.Machine.{stack_of, on};
+
+use crate::frame::{Frame, Mode};
+use mos_text::NoMemory;
+
+/// Opens a frame.
+pub(crate) fn push(stack: &mut Vec<Frame>, frame: Frame) -> Result<(), NoMemory>
+    ensures { OnOk result (stack_of stack.new.items ≡ frame ∷ stack_of stack.old.items) }
+{
+    stack.push(frame)?;
+    Ok(())
+}
+
+/// Takes off the innermost frame.
+pub(crate) fn pop(stack: &mut Vec<Frame>) -> Option<Frame>
+    ensures { MatchOption result ((stack_of stack.old.items ≡ []) × (stack_of stack.new.items ≡ [])) (λ frame. stack_of stack.old.items ≡ frame ∷ stack_of stack.new.items) }
+{
+    stack.pop()
+}
+
+/// Opens a frame, and says what comes next.
+pub(crate) fn opened(
+    stack: &mut Vec<Frame>,
+    frame: Frame,
+    mode: Mode,
+) -> Result<Option<Mode>, NoMemory>
+    ensures { IfOk result (λ next. Some (mode, frame ∷ stack_of stack.old.items) ≡ on next (stack_of stack.new.items)) }
+{
+    push(stack, frame)?;
+    Ok(Some(mode))
+}
