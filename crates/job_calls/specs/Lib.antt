@@ -1,5 +1,12 @@
 pub mod Words
+pub mod Moments
 pub mod Runs
+pub mod Files
+pub mod Models
+pub mod Events
+pub mod Blocks
+pub mod Pipes
+pub mod Weights
 pub mod Replies
 pub mod Answers
 pub mod Fitting

@@ -1,7 +1,7 @@
 -- When a reply fits a call: the call can be answered so by some journal, and the reply's numbers are
 -- in the ranges of their types.
 
-use Rattle.std.specs.Prelude.{◌≡◌, ℕ, ◌≤◌, ◌<◌, ◌^◌, List, [], ◌∷◌, FitsSigned}
+use Rattle.std.specs.Prelude.{◌≤◌, ◌<◌, ◌^◌, List, [], ◌∷◌, FitsSigned}
 use Rattle.std.specs.Int.{w32}
 use Rattle.mos_text.specs.FaultKinds.{fault_number}
 use Rattle.job_calls.specs.declared.call.Call.{Call}
