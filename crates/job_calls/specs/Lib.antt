@@ -18,3 +18,4 @@ pub mod ReportText
 pub mod ErrorLines
 pub mod ReportExamples
 pub mod JournalExamples
+pub mod HubExamples
