@@ -53,14 +53,16 @@ load_answer journal None = fault kind.NoImage
 load_answer journal (Some src) = Ready (Loaded (1 + loaded_count journal) (unwrap_or (file_at src journal) 0))
 
 -- the run gets the next number
-abbrev pub run_answer : List Entry → ℕ → Answer
-run_answer journal model = first_row (
+abbrev pub run_rows : List Entry → ℕ → List (Bool × Answer)
+run_rows journal model =
     (not (is_loaded model journal), fault kind.NotLoaded)
     ∷ (is_live_run (current_run model journal) journal, fault kind.Busy)
     ∷ (not (nat_lt (run_count journal) 4096), fault kind.TooManyRuns)
     ∷ (not (nat_lt (length (live_runs journal)) (lanes_of journal)), fault kind.NoLane)
-    ∷ [])
-    (Ready (Started (run_count journal)))
+    ∷ []
+
+abbrev pub run_answer : List Entry → ℕ → Answer
+run_answer journal model = first_row (run_rows journal model) (Ready (Started (run_count journal)))
 
 -- the first event of the run's queue
 abbrev pub first_event : ℕ → List Entry → Option ℕ
@@ -85,15 +87,20 @@ abbrev pub target : List Entry → ℕ → Option ℕ → Option ℕ
 target journal run None = parent_of run journal
 target journal run (Some model) = current_run model journal
 
-abbrev pub send_answer : List Entry → Option ℕ → Answer
-send_answer journal to = first_row (
+abbrev pub send_rows : List Entry → Option ℕ → List (Bool × Answer)
+send_rows journal to =
     (not (is_live_run to journal), Ready Lost)
     ∷ (nat_lt 65535 (length (queue (unwrap_or to 0) journal)), fault kind.QueueFull)
-    ∷ [])
-    (Ready (Queued (unwrap_or to 0)))
+    ∷ []
+
+abbrev pub send_answer : List Entry → Option ℕ → Answer
+send_answer journal to = first_row (send_rows journal to) (Ready (Queued (unwrap_or to 0)))
+
+abbrev pub unload_rows : List Entry → ℕ → List (Bool × Answer)
+unload_rows journal model = (is_live_run (current_run model journal) journal, fault kind.Busy) ∷ []
 
 abbrev pub unload_answer : List Entry → ℕ → Answer
-unload_answer journal model = first_row ((is_live_run (current_run model journal) journal, fault kind.Busy) ∷ []) accepted
+unload_answer journal model = first_row (unload_rows journal model) accepted
 
 -- the last write, else the listed file
 abbrev pub read_answer : List Entry → Option ℕ → Option (List ℕ) → Answer
@@ -102,35 +109,43 @@ read_answer journal None (Some bytes) = Ready (Found (record { 0 = 0 }) bytes)
 read_answer journal None None = fault kind.NoFile
 
 -- a reader begins a session, whose place is that of this entry
+abbrev pub reader_rows : List Entry → List ℕ → List (Bool × Answer)
+reader_rows journal name = (is_some (holder Reads name journal), fault kind.PipeBusy) ∷ []
+
 abbrev pub reader_answer : List Entry → List ℕ → Answer
-reader_answer journal name =
-    first_row ((is_some (holder Reads name journal), fault kind.PipeBusy) ∷ [])
-    (Ready (Session (record { 0 = length journal })))
+reader_answer journal name = first_row (reader_rows journal name) (Ready (Session (record { 0 = length journal })))
 
 -- a writer joins the reader's session, once
-abbrev pub writer_answer : List Entry → List ℕ → Answer
-writer_answer journal name = first_row (
+abbrev pub writer_rows : List Entry → List ℕ → List (Bool × Answer)
+writer_rows journal name =
     (is_some (holder Writes name journal), fault kind.PipeBusy)
     ∷ (not (is_some (holder Reads name journal)), NotYet)
     ∷ (had_writer name journal, NotYet)
-    ∷ [])
-    (Ready (Session (record { 0 = unwrap_or (session name journal) 0 })))
+    ∷ []
+
+abbrev pub writer_answer : List Entry → List ℕ → Answer
+writer_answer journal name =
+    first_row (writer_rows journal name) (Ready (Session (record { 0 = unwrap_or (session name journal) 0 })))
 
 -- a pipe holds at most 4,096 bytes that nobody has taken
-abbrev pub put_answer : List Entry → List ℕ → List ℕ → Answer
-put_answer journal name bytes = first_row (
+abbrev pub put_rows : List Entry → List ℕ → List ℕ → List (Bool × Answer)
+put_rows journal name bytes =
     (not (is_joined name journal), fault kind.Broken)
     ∷ (nat_lt 4096 (length (untaken name journal) + length bytes), NotYet)
-    ∷ [])
-    accepted
+    ∷ []
+
+abbrev pub put_answer : List Entry → List ℕ → List ℕ → Answer
+put_answer journal name bytes = first_row (put_rows journal name bytes) accepted
 
 -- all that was put and not taken; the end, once the writer has closed
-abbrev pub pipe_answer : List Entry → List ℕ → Answer
-pipe_answer journal name = first_row (
+abbrev pub pipe_rows : List Entry → List ℕ → List (Bool × Answer)
+pipe_rows journal name =
     (nat_lt 0 (length (untaken name journal)), Ready (Bytes (untaken name journal)))
     ∷ (is_ended name journal, Ready PipeEnd)
-    ∷ [])
-    NotYet
+    ∷ []
+
+abbrev pub pipe_answer : List Entry → List ℕ → Answer
+pipe_answer journal name = first_row (pipe_rows journal name) NotYet
 
 -- what a run is answered that goes on, while the journal has room
 abbrev pub table_answer : List Entry → ℕ → Call → Answer
@@ -162,11 +177,15 @@ is_full journal call =
     nat_lt 999999 (length journal) || nat_lt 268435456 (weight journal + call_weight call)
 
 -- a run that is to stop is told so first; then a full journal takes nothing more
+abbrev pub stop_rows : List Entry → ℕ → Call → List (Bool × Answer)
+stop_rows journal run call =
+    (is_asked run journal, Ready Halt)
+    ∷ (is_full journal call, fault kind.HubFull)
+    ∷ []
+
 abbrev pub answer_to_run : List Entry → Option ℕ → Call → Answer
 answer_to_run journal None call = NotYet
-answer_to_run journal (Some run) call =
-    first_row ((is_asked run journal, Ready Halt) ∷ (is_full journal call, fault kind.HubFull) ∷ [])
-    (table_answer journal run call)
+answer_to_run journal (Some run) call = first_row (stop_rows journal run call) (table_answer journal run call)
 
 -- what is answered while the job goes on; calls of a run that comes from none are never ready
 abbrev pub open_answer : List Entry → ℕ → Option ℕ → Call → Answer
