@@ -16,6 +16,8 @@ use Rattle.job_calls.specs.declared.reply.Reply.TheVariants.{Opened, Claimed, Do
 use Rattle.job_calls.specs.declared.entry.Entry.{Entry}
 use Rattle.job_calls.specs.Words.{is_run, is_quit, is_finish, is_started, claims, is_done, is_last, own_entries, has_quit, run_count, is_claimed, is_finished, first_unclaimed, unclaimed}
 use Rattle.job_calls.specs.Runs.{Opening, opening, opening_of}
+use Rattle.std.specs.Option.{option_map_or}
+use Rattle.job_calls.specs.Files.{files_of}
 use Rattle.job_calls.specs.Answers.{claimed, next_run, claim_answer, answer_to_run, stop_rows, table_answer, open_answer, answer_of, is_full}
 use Rattle.job_calls.specs.Fitting.{held_after, held_run, was_done, is_over, is_for_lane, fits, below_lanes, call_fits}
 use Rattle.job_calls.specs.Legal.{IsLegal, IsOpening, OpensSo, CanOpen, Follows}
@@ -482,3 +484,12 @@ few_entries journal h =
     let given = runs.few_given in
     let many = runs.few_runs in
     omega (arith, length_, a, b, c, d, quit, f, g, l, n, fg, lg, nn, few, given, many)
+
+files_few : (o : Option Opening) → OpensSo o → length (option_map_or (λ (p : Opening). p.files) o []) ≤ 128
+files_few None h = absurd h
+files_few (Some o) h = h.few_files
+
+-- and lists at most 128 files
+pub few_files : (journal : List Entry) → IsLegal journal → length (files_of journal) ≤ 128
+few_files [] h = absurd h
+few_files (e ∷ es) h = let o = h.0 in files_few (opening_of e.call) o.opened
