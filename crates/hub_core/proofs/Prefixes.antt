@@ -82,8 +82,8 @@ arrivals-suc r xs i d less is =
     ∙ ap (map place_of) (filter-append (comes_to r) (moments (take i xs)) (at xs i d ∷ []))
     ∙ map-append place_of (filter (comes_to r) (moments (take i xs))) (filter (comes_to r) (at xs i d ∷ []))
     ∙ ap (λ more. arrivals r (take i xs) ++ more) (
-        one_or_none (comes_to r) (at xs i d)
-        ∙ ap (λ n. if comes_to r (at xs i d) then n ∷ [] else []) (length-take-le i xs (omega (arith, less)))
+    one_or_none (comes_to r) (at xs i d)
+    ∙ ap (λ n. if comes_to r (at xs i d) then n ∷ [] else []) (length-take-le i xs (omega (arith, less)))
     )
 
 pub arrivals-take : (r : ℕ) (xs : List Entry) (i n : ℕ) (d : Entry) → i < length xs → d ≡ get_or xs i d → n ≡ i + 1
@@ -117,11 +117,11 @@ arrival-here r xs i number d less is so_far comes =
     let before = arrivals r (take i xs) in
     let behind = map place_of (filter (comes_to r) rest) in
     let whole : arrivals r xs ≡ before ++ i ∷ behind =
-        ap (λ ms. map place_of (filter (comes_to r) ms)) (split_at xs i)
-        ∙ ap (map place_of) (filter-append (comes_to r) (moments (take (suc i) xs)) rest)
-        ∙ map-append place_of (filter (comes_to r) (moments (take (suc i) xs))) (filter (comes_to r) rest)
-        ∙ ap (λ places. places ++ behind) (arrivals-suc r xs i d less is ∙ ap (λ b. before ++ (if b then i ∷ [] else [])) comes)
-        ∙ append_one before i behind in
+    ap (λ ms. map place_of (filter (comes_to r) ms)) (split_at xs i)
+    ∙ ap (map place_of) (filter-append (comes_to r) (moments (take (suc i) xs)) rest)
+    ∙ map-append place_of (filter (comes_to r) (moments (take (suc i) xs))) (filter (comes_to r) rest)
+    ∙ ap (λ places. places ++ behind) (arrivals-suc r xs i d less is ∙ ap (λ b. before ++ (if b then i ∷ [] else [])) comes)
+    ∙ append_one before i behind in
     ap (λ places. slice_get places number) whole
     ∙ ap (slice_get (before ++ i ∷ behind)) (sym so_far)
     ∙ get_behind before i behind

@@ -11,16 +11,15 @@ ghost use Rattle.hub_core.specs.Room.{takes_no_memory};
 
 use crate::blocks::{last_write, written};
 use crate::events::{event_at, first_event, queue_length};
-use crate::files;
 use crate::jobs::{has_quit, is_claimed, is_finished, run_count, unclaimed};
 use crate::models::{
     current_run, exit_of, is_asked, is_live_run, is_loaded, live_count, loaded_count, parent_of,
     status_of,
 };
-use crate::pipes;
 use crate::runs::{params_of, source_of};
 use crate::weights::is_full;
 use crate::words::{if_so, later, same};
+use crate::{files, pipes};
 use job_calls::{Answer, Call, Entry, Reply, Way};
 use mos_text::{Blob, FaultKind, NoMemory, Place, SharedBlob, Text};
 use std::alloc::Global;
@@ -343,12 +342,7 @@ fn pipe_answer(alloc: Global, journal: &[Entry], name: &Text) -> Result<Answer, 
 }
 
 /// What a run is answered that goes on, while the journal has room.
-fn table_answer(
-    alloc: Global,
-    journal: &[Entry],
-    run: u32,
-    call: &Call,
-) -> Result<Answer, NoMemory>
+fn table_answer(alloc: Global, journal: &[Entry], run: u32, call: &Call) -> Result<Answer, NoMemory>
     requires few { length journal.now < 2 ^ 31 }
     requires files { length (files_of journal.now) < 2 ^ 31 }
     ensures answer { IfOk result (λ answer. answer ≡ answers.table_answer journal.now run call.now) }

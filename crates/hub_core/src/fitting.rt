@@ -96,8 +96,7 @@ fn run_fits(lane: u32, journal: &[Entry], run: u32, call: &Call) -> bool
     ensures { result ≡ fitting.run_fits (own_entries lane journal.now) run call.now }
 {
     is_run(run, held_run(lane, journal))
-        && (is_finish(call)
-            || (!is_over(run, lane, journal) && ends_fit(run, lane, journal, call)))
+        && (is_finish(call) || (!is_over(run, lane, journal) && ends_fit(run, lane, journal, call)))
 }
 
 fn lane_fits(lane: u32, journal: &[Entry], call: &Call) -> bool

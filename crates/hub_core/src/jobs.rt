@@ -36,7 +36,9 @@ pub(crate) fn is_claimed(k: u32, journal: &[Entry]) -> bool
 pub(crate) fn is_finished(k: u32, journal: &[Entry]) -> bool
     ensures { result ≡ words.is_finished k journal.now }
 {
-    journal.iter().any(|e| is_run(k, e.run) && is_finish(&e.call))
+    journal
+        .iter()
+        .any(|e| is_run(k, e.run) && is_finish(&e.call))
 }
 
 /// The least run that no lane was given.

@@ -72,9 +72,10 @@ pub(crate) fn run_of_model(m: u32, call: &Call, reply: &Reply) -> Option<u32>
 pub(crate) fn current_run(m: u32, journal: &[Entry]) -> Option<u32>
     ensures { result ≡ models.current_run m journal.now }
 {
-    journal
-        .iter()
-        .fold(None, |run, e| later(run, run_of_model(m, &e.call, &e.reply)))
+    journal.iter().fold(
+        None,
+        |run, e| later(run, run_of_model(m, &e.call, &e.reply)),
+    )
 }
 
 pub(crate) fn started_from(k: u32, run: Option<u32>, reply: &Reply) -> Option<u32>
@@ -90,9 +91,7 @@ pub(crate) fn started_from(k: u32, run: Option<u32>, reply: &Reply) -> Option<u3
 pub(crate) fn parent_of(k: u32, journal: &[Entry]) -> Option<u32>
     ensures { result ≡ models.parent_of k journal.now }
 {
-    journal
-        .iter()
-        .fold(None, |run, e| later(run, started_from(k, e.run, &e.reply)))
+    journal.iter().fold(None, |run, e| later(run, started_from(k, e.run, &e.reply)))
 }
 
 pub(crate) fn is_live(k: u32, journal: &[Entry]) -> bool
@@ -185,7 +184,9 @@ fn finish_by(k: u32, entry: &Entry) -> Option<End>
 pub(crate) fn finish_of(k: u32, journal: &[Entry]) -> Option<End>
     ensures { result ≡ runs.finish_of k journal.now }
 {
-    journal.iter().fold(None, |end, e| later(end, finish_by(k, e)))
+    journal
+        .iter()
+        .fold(None, |end, e| later(end, finish_by(k, e)))
 }
 
 pub(crate) fn exit_code(end: End) -> i32

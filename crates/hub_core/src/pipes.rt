@@ -13,7 +13,10 @@ use std::alloc::Global;
 fn is_way(way: Way, end: Way) -> bool
     ensures { result ≡ pipes.is_way way end }
 {
-    matches!((way, end), (Way::Reads, Way::Reads) | (Way::Writes, Way::Writes))
+    matches!(
+        (way, end),
+        (Way::Reads, Way::Reads) | (Way::Writes, Way::Writes)
+    )
 }
 
 /// The session that the call opened an end of the pipe for.
@@ -21,9 +24,13 @@ fn opened_session(way: Way, name: &Text, call: &Call, reply: &Reply) -> Option<u
     ensures { result ≡ pipes.opened_session way name.now call.now reply.now }
 {
     match (call, reply) {
-        (Call::PipeOpen { name: opened, way: end }, Reply::Session { place }) => {
-            if_so(is_way(way, *end) && same(opened, name), place.0)
-        }
+        (
+            Call::PipeOpen {
+                name: opened,
+                way: end,
+            },
+            Reply::Session { place },
+        ) => { if_so(is_way(way, *end) && same(opened, name), place.0) }
         _ => None,
     }
 }
@@ -111,10 +118,7 @@ pub(crate) fn had_writer(name: &Text, journal: &[Entry]) -> bool
 {
     let place = session(name, journal);
     journal.iter().any(|e| {
-        is_session(
-            place,
-            opened_session(Way::Writes, name, &e.call, &e.reply),
-        )
+        is_session(place, opened_session(Way::Writes, name, &e.call, &e.reply))
     })
 }
 

@@ -30,9 +30,7 @@ fn loaded_source(m: u32, reply: &Reply) -> Option<u32>
 fn last_source(m: u32, journal: &[Entry]) -> Option<u32>
     ensures { result ≡ runs.last_given (λ e. runs.loaded_source m e.reply) journal.now }
 {
-    journal
-        .iter()
-        .fold(None, |source, e| later(source, loaded_source(m, &e.reply)))
+    journal.iter().fold(None, |source, e| later(source, loaded_source(m, &e.reply)))
 }
 
 /// The source that this entry starts run k of.

@@ -7,6 +7,7 @@ use job_calls::{Call, Entry};
 use mos_text::{Blob, SharedBlob, Text};
 
 const ENTRIES: usize = 1_000_000;
+
 const WEIGHT: usize = 268_435_456;
 
 fn less_text(room: usize, text: &Text) -> usize

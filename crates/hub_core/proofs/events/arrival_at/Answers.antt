@@ -15,7 +15,7 @@ pub loop-i-preserved : goal.loop-i-preserved
 loop-i-preserved c =
     let more = length-arrivals-take c.args.r c.args.journal.now c.loop-i.i (c.loop-i.i + 1) c.index-journal-i.result c.loop-i-test.true c.index-journal-i.is (omega arith) in
     let one : c.one_if-left.result ≡ (if comes_to c.args.r (at c.args.journal.now c.loop-i.i c.index-journal-i.result) then 1 else 0) =
-        c.one_if-left.ensures ∙ ap (λ b. if b then 1 else 0) c.comes_to-comes.ensures in
+    c.one_if-left.ensures ∙ ap (λ b. if b then 1 else 0) c.comes_to-comes.ensures in
     let some = enough c.comes_to-comes.result c.one_if-left.result c.loop-i.left c.one_if-left.ensures c.else-comes.either in
     let so_far = c.loop-i.invariant in
     omega (arith, more, one, some, so_far)
