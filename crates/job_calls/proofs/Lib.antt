@@ -1,0 +1,5 @@
+pub mod Growing
+pub mod Outcomes
+pub mod Entering
+pub mod Counts
+pub mod Bound

@@ -1,6 +1,6 @@
 -- Worked examples of journals: one that is legal, and some that are not.
 
-use Rattle.std.specs.Prelude.{◌≡◌, ℕ, List, [], ◌∷◌, None, pos}
+use Rattle.std.specs.Prelude.{◌≡◌, List, [], ◌∷◌, None, pos}
 use Rattle.job_calls.specs.declared.call.Call.TheVariants.{Open, Claim, Finish}
 use Rattle.job_calls.specs.declared.end.End.TheVariants as end
 use Rattle.job_calls.specs.declared.entry.Entry.{Entry}

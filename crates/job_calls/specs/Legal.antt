@@ -1,6 +1,6 @@
 -- The legal journals: those that one hub, asked by one lane after the other, can have written.
 
-use Rattle.std.specs.Prelude.{◌≡◌, ℕ, ◌≤◌, ◌-◌, ◌^◌, Bool, true, ◌&&◌, ◌||◌, List, [], ◌∷◌, ◌++◌, Option, Some, None, nat_eq, length, drop, codes, IsTrue, All, ◌≢◌, ◌⊎◌}
+use Rattle.std.specs.Prelude.{◌≡◌, ℕ, ◌≤◌, ◌-◌, List, [], ◌∷◌, ◌++◌, Option, Some, None, length, drop, codes, IsTrue, All, ◌≢◌, ◌⊎◌}
 use Rattle.std.specs.List.{list_all}
 use Rattle.mos_text.specs.FileName.{is_file_name}
 use Rattle.job_calls.specs.declared.reply.Answer.TheVariants.{Ready}

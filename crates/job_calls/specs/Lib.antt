@@ -1,5 +1,12 @@
 pub mod Words
+pub mod Moments
 pub mod Runs
+pub mod Files
+pub mod Models
+pub mod Events
+pub mod Blocks
+pub mod Pipes
+pub mod Weights
 pub mod Replies
 pub mod Answers
 pub mod Fitting
@@ -12,3 +19,4 @@ pub mod ErrorLines
 pub mod ReportExamples
 pub mod JournalExamples
 pub mod RunExamples
+pub mod HubExamples

@@ -1,7 +1,7 @@
 -- When a reply fits a call: the call can be answered so by some journal, and the reply's numbers are
 -- in the ranges of their types.
 
-use Rattle.std.specs.Prelude.{◌≡◌, ℕ, ◌≤◌, ◌<◌, ◌^◌, List, [], ◌∷◌, FitsSigned}
+use Rattle.std.specs.Prelude.{◌≤◌, ◌<◌, ◌^◌, List, [], ◌∷◌, FitsSigned, Bool, true, false}
 use Rattle.std.specs.Int.{w32}
 use Rattle.mos_text.specs.FaultKinds.{fault_number}
 use Rattle.job_calls.specs.declared.call.Call.{Call}
@@ -58,6 +58,13 @@ FitsCall (call.Finish end) reply = IsAnswer (call.Finish end) reply
 FitsCall call Halt = EndsRun Halt
 FitsCall call (Fault kind) = EndsRun (Fault kind)
 FitsCall call reply = IsAnswer call reply
+
+-- the reply has neither texts nor bytes
+abbrev pub is_plain : Reply → Bool
+is_plain (Claimed run source params) = false
+is_plain (Found place bytes) = false
+is_plain (Bytes bytes) = false
+is_plain _ = true
 
 -- each reply fits the call beside it, and there are as many
 abbrev pub AllFit : List Call → List Reply → Type 0

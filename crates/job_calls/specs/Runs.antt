@@ -1,8 +1,7 @@
 -- The runs of a journal: where each comes from, what it called, what it was answered, how it ended.
 -- A journal that is not legal may say a thing of a run more than once: then the last counts.
 
-use Rattle.std.specs.Prelude.{ℕ, zero, suc, Bool, ◌&&◌, not, List, [], ◌∷◌, ◌++◌, Option, Some, None, nat_eq, filter, map, if◌then◌else◌, slice_get}
-use Rattle.std.specs.List.{filter_map}
+use Rattle.std.specs.Prelude.{ℕ, zero, suc, ◌&&◌, not, List, [], ◌∷◌, Option, Some, None, nat_eq, filter, map, if◌then◌else◌, option_map, unwrap_or}
 use Rattle.job_calls.specs.declared.call.Call.{Call}
 use Rattle.job_calls.specs.declared.call.Call.TheVariants.{Open, Finish, Run}
 use Rattle.job_calls.specs.declared.end.End.{End}
@@ -10,6 +9,7 @@ use Rattle.job_calls.specs.declared.reply.Reply.{Reply}
 use Rattle.job_calls.specs.declared.reply.Reply.TheVariants.{Loaded, Started}
 use Rattle.job_calls.specs.declared.entry.Entry.{Entry}
 use Rattle.job_calls.specs.declared.entry.Listed.{Listed}
+use Rattle.job_calls.specs.Moments.{Moment, moments}
 use Rattle.job_calls.specs.Words.{is_run, is_finish}
 
 -- the second, where it is there
@@ -51,20 +51,15 @@ abbrev pub loaded_source : ℕ → Reply → Option ℕ
 loaded_source m (Loaded model source) = if nat_eq model m then Some source else None
 loaded_source m _ = None
 
--- the source that was loaded for this start's model, by the entries before it
-abbrev pub source_before : List Entry → Option (ℕ × List ℕ) → Option ℕ
-source_before before None = None
-source_before before (Some start) = last_given (λ e. loaded_source start.0 e.reply) before
-
-abbrev pub source_from : ℕ → List Entry → List Entry → Option ℕ
-source_from k before [] = None
-source_from k before (e ∷ es) =
-    later (source_before before (started_by k e.call e.reply)) (source_from k (before ++ e ∷ []) es)
+-- where this entry starts run k: the source that was last loaded for its model, by the entries before it
+abbrev pub source_started : ℕ → Moment → Option (Option ℕ)
+source_started k m =
+    option_map (λ start. last_given (λ e. loaded_source start.0 e.reply) m.before) (started_by k m.entry.call m.entry.reply)
 
 -- the place, in the list of files, of the source of run k
 abbrev pub source_of : ℕ → List Entry → Option ℕ
 source_of zero journal = Some 0
-source_of (suc k) journal = source_from (suc k) [] journal
+source_of (suc k) journal = unwrap_or (last_given (source_started (suc k)) (moments journal)) None
 
 abbrev pub text_started : Option (ℕ × List ℕ) → Option (List ℕ)
 text_started None = None

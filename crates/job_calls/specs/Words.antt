@@ -1,13 +1,11 @@
 -- Words on a journal: filters and counts of its list of entries.
 
-use Rattle.std.specs.Prelude.{ℕ, ◌+◌, Bool, true, false, ◌&&◌, List, [], ◌∷◌, Option, Some, None, nat_eq, filter, count_by, if◌then◌else◌, zero, suc}
+use Rattle.std.specs.Prelude.{ℕ, ◌+◌, Bool, true, false, ◌&&◌, List, Option, Some, None, nat_eq, filter, count_by, if◌then◌else◌, zero, suc}
 use Rattle.std.specs.List.{list_any}
-use Rattle.mos_text.specs.declared.fault_kind.FaultKind.{FaultKind}
 use Rattle.job_calls.specs.declared.call.Call.{Call}
-use Rattle.job_calls.specs.declared.call.Call.TheVariants.{Open, Claim, Quit, Finish}
-use Rattle.job_calls.specs.declared.end.End.{End}
+use Rattle.job_calls.specs.declared.call.Call.TheVariants.{Claim, Quit, Finish}
 use Rattle.job_calls.specs.declared.reply.Reply.{Reply}
-use Rattle.job_calls.specs.declared.reply.Reply.TheVariants.{Claimed, Done, Started, Halt, Fault}
+use Rattle.job_calls.specs.declared.reply.Reply.TheVariants.{Claimed, Done, Started, Halt, Fault, Unit as Accepted}
 use Rattle.job_calls.specs.declared.entry.Entry.{Entry}
 
 -- the entry was called by this run
@@ -46,6 +44,11 @@ abbrev pub is_last : Reply → Bool
 is_last Halt = true
 is_last (Fault kind) = true
 is_last _ = false
+
+-- the call was accepted
+abbrev pub is_unit : Reply → Bool
+is_unit Accepted = true
+is_unit _ = false
 
 -- the entries of one lane
 abbrev pub own_entries : ℕ → List Entry → List Entry

@@ -1,6 +1,7 @@
 //! Worked examples of journals: functions that do nothing, whose contracts are the examples.
 ghost use Rattle.job_calls.specs.JournalExamples.{HelloIsLegal, UnheldRun, AnotherRun, OtherLaneWaits, NotDoneYet, AfterTheEnd};
 ghost use Rattle.job_calls.specs.RunExamples.{TwoRuns, SourceOfMaster, SourceOfChild, ParamsOfMaster, ParamsOfChild, CallsOfMaster, RepliesOfMaster, CallsOfChild, FinishOfChild, FittingReplies, FittingFault, FaultOfItsOwn, ReplyOfAnotherCall, CodeTooLarge};
+ghost use Rattle.job_calls.specs.HubExamples.{WaitsForChild, NoLaneIsFree, IsBusy, RunsAgain, ReadsLastWrite, TakesWhole, FullPipeWaits, ReaderStops, BothWait};
 
 /// The journal of one run on one lane is legal.
 pub fn hello_journal()
@@ -36,4 +37,21 @@ pub fn replies_that_fit()
     ensures fault_of_its_own { FaultOfItsOwn }
     ensures of_another_call { ReplyOfAnotherCall }
     ensures too_large { CodeTooLarge }
+{}
+
+/// Jobs of two runs, whose calls fit and are answered so.
+pub fn whole_jobs()
+    ensures waits { WaitsForChild }
+    ensures no_lane { NoLaneIsFree }
+    ensures again { RunsAgain }
+    ensures blocks { ReadsLastWrite }
+    ensures pipe { TakesWhole }
+    ensures stopped { ReaderStops }
+{}
+
+/// Answers at one moment of such a job.
+pub fn answers()
+    ensures busy { IsBusy }
+    ensures full_pipe { FullPipeWaits }
+    ensures both_wait { BothWait }
 {}

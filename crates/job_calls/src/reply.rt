@@ -1,4 +1,5 @@
-ghost use Rattle.std.specs.Prelude.{◌≡◌, IfOk};
+ghost use Rattle.std.specs.Prelude.{◌≡◌, IfOk, IsOk, IsTrue};
+ghost use Rattle.job_calls.specs.Replies.{is_plain};
 
 use mos_text::{Blob, FaultKind, NoMemory, Place, SharedBlob, Text};
 use std::alloc::Global;
@@ -71,9 +72,11 @@ pub enum Answer {
 }
 
 impl Reply {
-    /// The same reply once more; the bytes of blocks are shared and not copied.
+    /// The same reply once more; the bytes of blocks are shared and not copied. A reply without texts
+    /// and bytes takes no memory.
     pub fn copy(&self, alloc: Global) -> Result<Reply, NoMemory>
-        ensures { IfOk result (λ reply. reply ≡ self.now) }
+        ensures same { IfOk result (λ reply. reply ≡ self.now) }
+        ensures plain { IsTrue (is_plain self.now) → IsOk result }
     {
         Ok(match self {
             Reply::Opened => Reply::Opened,

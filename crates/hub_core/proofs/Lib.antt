@@ -1,0 +1,4 @@
+pub mod Unclaimed
+pub mod Scans
+pub mod Prefixes
+pub mod Pushed

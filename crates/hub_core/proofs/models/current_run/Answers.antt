@@ -1,0 +1,15 @@
+-- the chain is the fold of what each entry gives
+use Rattle.std.proofs.Common.{◌≡◌, ◌∙◌, rules, None, if◌then◌else◌}
+use Rattle.std.proofs.lemmas.Iterator.{YieldsList-from_slice}
+use Rattle.std.proofs.lemmas.Iterator.Consumers.{fold_from_yields_List}
+use Rattle.job_calls.specs.declared.entry.Entry.{Entry}
+use Rattle.job_calls.specs.Runs.{later}
+use Rattle.job_calls.specs.Models.{run_of_model}
+use Rattle.hub_core.proofs.Scans.{fold_given}
+use Rattle.hub_core.proofs.models.current_run.Goals as goal
+
+pub returns : goal.returns
+returns c =
+    fold_from_yields_List _ (λ found (e : Entry). later found (run_of_model c.args.m e.call e.reply)) None _ c.fold.ensures.ran
+    (YieldsList-from_slice c.args.journal.now (search rules)) (λ a x b q k. search rules)
+    ∙ fold_given (λ (e : Entry). run_of_model c.args.m e.call e.reply) c.args.journal.now

@@ -1,0 +1,166 @@
+//! The hub itself: a journal that grows by one entry for each call that is answered.
+use crate::answers::answer_of;
+use crate::fitting::fits;
+use crate::held::{Acted, Held};
+use job_calls::{Answer, Call, Entry, Listed, Reply};
+use mos_text::{NoMemory, Place, Text};
+use sqlite_items::Items;
+use std::alloc::Global;
+use std::marker::Model;
+
+/// One journal, from an `Open` on, and room for entries to come. Contracts see the list of its entries
+/// and the number of those that it has room for.
+#[derive(Drop)]
+pub struct Hub {
+    entries: Vec<Entry>,
+    alloc: Global,
+}
+
+impl Model for Hub {
+    ghost use Rattle.std.specs.Prelude.{ℕ, ◌-◌, List, length, vec_capacity};
+    ghost use Rattle.job_calls.specs.declared.entry.Entry.{Entry};
+    ghost use Rattle.job_calls.specs.Legal.{IsLegal};
+
+    ghost Value = { List Entry × ℕ };
+
+    ghost view = { λ h. (h.entries.items, vec_capacity h.entries - length h.entries.items) };
+
+    ghost invariant = { λ h. IsLegal h.entries.items };
+}
+
+impl Hub {
+    ghost use Rattle.std.specs.Prelude.{◌≡◌, ℕ, ◌<◌, ◌≤◌, ◌+◌, [], ◌∷◌, length, None, IfOk, IfErr, OnOk, OnErr, IsTrue, IsFalse};
+    ghost use Rattle.job_calls.specs.declared.call.Call.TheVariants.{Open};
+    ghost use Rattle.job_calls.specs.declared.reply.Answer.TheVariants.{Ready};
+    ghost use Rattle.job_calls.specs.declared.reply.Reply.TheVariants.{Opened};
+    ghost use Rattle.job_calls.specs.Answers as answers;
+    ghost use Rattle.job_calls.specs.Fitting as fitting;
+    ghost use Rattle.job_calls.specs.Runs.{Opening, opening};
+    ghost use Rattle.job_calls.specs.Words.{own_entries};
+    ghost use Rattle.job_calls.specs.Legal.{CanOpen, IsLegal};
+    ghost use Rattle.hub_core.specs.Hubs.{journal_of, spare_of, entry_of, IsPut, IsRefused, wants_memory};
+    ghost use Rattle.hub_core.specs.Room.{takes_no_memory};
+    ghost use Rattle.job_calls.specs.Replies.{is_plain};
+
+    /// A hub whose journal is the `Open` alone.
+    pub fn new(
+        alloc: Global,
+        lanes: u32,
+        budget: u32,
+        params: Text,
+        files: Items<Listed>,
+    ) -> Result<Hub, NoMemory>
+        requires { CanOpen (record { lanes = lanes; budget = budget; params = params; files = files }) }
+        ensures opened { IfOk result (λ hub. journal_of hub ≡ entry_of 0 None (Open lanes budget params files) Opened ∷ []) }
+        ensures legal { IfOk result (λ hub. IsLegal (journal_of hub)) }
+    {
+        let call = Call::Open {
+            lanes,
+            budget,
+            params,
+            files,
+        };
+        let mut entries = Vec::new(alloc);
+        entries.push(Entry {
+            lane: 0,
+            run: None,
+            call,
+            reply: Reply::Opened,
+        })?;
+        Ok(Hub { entries, alloc })
+    }
+
+    /// The entries, in order.
+    pub fn journal(&self) -> &[Entry]
+        ensures { result.now ≡ journal_of self.now }
+    {
+        self.entries.as_slice()
+    }
+
+    /// Gives the journal away; it takes no memory.
+    pub fn into_journal(self) -> Items<Entry>
+        ensures { result ≡ journal_of self }
+    {
+        Items::from_vec(self.entries)
+    }
+
+    /// Whether the lane may make this call, for itself or for the run.
+    pub fn fits(&self, lane: u32, run: Option<u32>, call: &Call) -> bool
+        ensures { result ≡ fitting.fits (opening (journal_of self.now)) (own_entries lane (journal_of self.now)) lane run call.now }
+    {
+        fits(&self.entries, lane, run, call)
+    }
+
+    /// How many entries there is room for.
+    pub fn spare_entries(&self) -> usize
+        ensures { result ≡ spare_of self.now }
+    {
+        self.entries.capacity() - self.entries.len()
+    }
+
+    /// Makes room for so many entries more; without memory the journal and the room stay.
+    pub fn reserve_entries(&mut self, count: u32) -> Result<(), NoMemory>
+        ensures journal { journal_of self.new ≡ journal_of self.old }
+        ensures room { OnOk result (count ≤ spare_of self.new) }
+        ensures kept { spare_of self.old ≤ spare_of self.new }
+    {
+        self.entries.reserve(count as usize)?;
+        Ok(())
+    }
+
+    /// Answers the call by what the journal says, and puts both at its end; or hands the call back, and
+    /// the journal stays as it was.
+    pub fn act(&mut self, lane: u32, run: Option<u32>, call: Call) -> Result<Acted, Held>
+        requires { IsTrue (fitting.fits (opening (journal_of self.old)) (own_entries lane (journal_of self.old)) lane run call) }
+        ensures acted { IfOk result (λ acted. IsPut (journal_of self.old) (journal_of self.new) lane run call acted.place.0 acted.reply) }
+        ensures held { IfErr result (λ held. IsRefused (journal_of self.old) lane run call held) }
+        ensures stays { OnErr result (journal_of self.new ≡ journal_of self.old) }
+        ensures legal { IsLegal (journal_of self.new) }
+        ensures few { length (journal_of self.new) < 1100000 }
+        ensures spare { spare_of self.old ≤ spare_of self.new + 1 }
+        ensures room { 1 ≤ spare_of self.old → IsTrue (takes_no_memory call) → IfErr result (λ held. IsFalse (wants_memory held)) }
+    {
+        match answer_of(self.alloc, &self.entries, lane, run, &call) {
+            Err(_) => Err(Held::NoMemory(call)),
+            Ok(Answer::NotYet) => Err(Held::NotYet(call)),
+            Ok(Answer::Shut) => Err(Held::Shut(call)),
+            Ok(Answer::Ready(reply)) => self.put(lane, run, call, reply),
+        }
+    }
+
+    /// Puts a call with its reply at the end of the journal.
+    fn put(&mut self, lane: u32, run: Option<u32>, call: Call, reply: Reply) -> Result<Acted, Held>
+        requires fit { IsTrue (fitting.fits (opening (journal_of self.old)) (own_entries lane (journal_of self.old)) lane run call) }
+        requires answer { answers.answer_of (journal_of self.old) lane run call ≡ Ready reply }
+        ensures acted { IfOk result (λ acted. IsPut (journal_of self.old) (journal_of self.new) lane run call acted.place.0 acted.reply) }
+        ensures held { IfErr result (λ held. IsRefused (journal_of self.old) lane run call held) }
+        ensures stays { OnErr result (journal_of self.new ≡ journal_of self.old) }
+        ensures legal { IsLegal (journal_of self.new) }
+        ensures few { length (journal_of self.new) < 1100000 }
+        ensures spare { spare_of self.old ≤ spare_of self.new + 1 }
+        ensures room { 1 ≤ spare_of self.old → IsTrue (is_plain reply) → IfErr result (λ held. IsFalse (wants_memory held)) }
+    {
+        let place = Place(self.entries.len() as u32);
+        let Ok(again) = reply.copy(self.alloc) else {
+            return Err(Held::NoMemory(call));
+        };
+        let entry = Entry {
+            lane,
+            run,
+            call,
+            reply: again,
+        };
+        match self.entries.push(entry) {
+            Ok(()) => Ok(Acted { place, reply }),
+            Err(refused) => {
+                let Entry {
+                    lane: _,
+                    run: _,
+                    call,
+                    reply: _,
+                } = refused.value;
+                Err(Held::NoMemory(call))
+            }
+        }
+    }
+}

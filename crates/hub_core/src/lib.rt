@@ -1,0 +1,19 @@
+//! The hub: it keeps one journal, and answers each call by what the journal says.
+#![tactic(auto)]
+
+mod answers;
+mod blocks;
+mod events;
+mod files;
+mod fitting;
+mod held;
+mod hub;
+mod jobs;
+mod models;
+mod pipes;
+mod runs;
+mod weights;
+mod words;
+
+pub use held::{Acted, Held};
+pub use hub::Hub;

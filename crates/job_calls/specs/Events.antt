@@ -1,0 +1,49 @@
+-- Events: which run each goes to, and the queue of those that a run has not taken.
+
+use Rattle.std.specs.Prelude.{ℕ, ℤ, pos, Bool, true, false, ◌&&◌, List, Option, Some, None, count_by, drop, filter, map, slice_get}
+use Rattle.std.specs.Option.{option_map_or}
+use Rattle.job_calls.specs.declared.call.Call.{Call}
+use Rattle.job_calls.specs.declared.call.Call.TheVariants.{Finish, Send}
+use Rattle.job_calls.specs.declared.reply.Reply.{Reply}
+use Rattle.job_calls.specs.declared.reply.Reply.TheVariants.{Queued, Took}
+use Rattle.job_calls.specs.declared.entry.Entry.{Entry}
+use Rattle.job_calls.specs.Moments.{Moment, moments, place_of}
+use Rattle.job_calls.specs.Words.{is_run}
+use Rattle.job_calls.specs.Models.{parent_of, exit_code}
+
+-- the run that a call makes an event for: the one that an event was sent to, or the one that started a run which
+-- has ended
+abbrev pub receiver_of : List Entry → Option ℕ → Call → Reply → Option ℕ
+receiver_of before run (Send to class value) (Queued receiver) = Some receiver
+receiver_of before (Some run) (Finish end) reply = parent_of run before
+receiver_of before run call reply = None
+
+abbrev pub comes_to : ℕ → Moment → Bool
+comes_to r m = is_run r (receiver_of m.before m.entry.run m.entry.call m.entry.reply)
+
+-- the places of the events that came to run r
+abbrev pub arrivals : ℕ → List Entry → List ℕ
+arrivals r journal = map place_of (filter (comes_to r) (moments journal))
+
+-- an event was taken; only `Next` and `Drop` are answered so
+abbrev pub is_took : Reply → Bool
+is_took (Took place class value) = true
+is_took _ = false
+
+-- how many events run r took
+abbrev pub taken_count : ℕ → List Entry → ℕ
+taken_count r journal = count_by (λ e. is_run r e.run && is_took e.reply) journal
+
+-- the places of the events that run r has not taken
+abbrev pub queue : ℕ → List Entry → List ℕ
+queue r journal = drop (taken_count r journal) (arrivals r journal)
+
+-- the class and value of the event that a call makes; the end of a run has class 1
+abbrev pub event_of : Call → ℤ × ℤ
+event_of (Send to class value) = (class, value)
+event_of (Finish end) = (pos 1, exit_code end)
+event_of _ = (pos 0, pos 0)
+
+-- the class and value of the event at this place
+abbrev pub event_at : ℕ → List Entry → ℤ × ℤ
+event_at place journal = option_map_or (λ (e : Entry). event_of e.call) (slice_get journal place) (pos 0, pos 0)
