@@ -5,3 +5,4 @@ pub mod Counts
 pub mod Bound
 pub mod Lists
 pub mod Taking
+pub mod Piping

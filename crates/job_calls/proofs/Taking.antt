@@ -21,7 +21,7 @@ use Rattle.job_calls.specs.Events.{receiver_of, comes_to, arrivals, is_took, tak
 use Rattle.job_calls.specs.Answers.{first_event}
 use Rattle.job_calls.specs.Legal.{IsLegal, IsOpening, Follows}
 use Rattle.job_calls.specs.Laws.{IsSent, IsEnd, IsEvent, IsTaken, place_taken, taken}
-use Rattle.job_calls.proofs.Growing.{legal_induct, moments-snoc}
+use Rattle.job_calls.proofs.Growing.{legal_induct, moments-snoc, legal_cut, IsCut, opens as cut_opens, follows as cut_follows}
 use Rattle.job_calls.proofs.Lists.{none_some, some_is, get_behind, first_is, same_cut, tail_of}
 use Rattle.job_calls.proofs.Outcomes as outcome
 use Rattle.job_calls.proofs.Outcomes.{Outcome, run_outcome, is_idle, false_true}
@@ -363,3 +363,18 @@ taken_apart before between e f h fe ff te tf = λ same.
     let r : a.taker ≡ b.taker = same_receiver a.taker b.taker (place_taken e.reply) before (e ∷ between) a.came came in
     let less = apart_by b.taker before between e f h (subst (λ k. is_taking k e ≡ true) r a.by) b.first in
     absurd (omega (arith, less, same))
+
+none_opens : (e : Entry) → IsOpening e → is_took e.reply ≡ true → ⊥
+none_opens e o t = false_true (sym (ap is_took o.reply) ∙ t)
+
+once_cut : (before between : List Entry) (e f : Entry) → IsCut before e → IsCut (before ++ e ∷ between) f
+    → is_took e.reply ≡ true → is_took f.reply ≡ true → place_taken e.reply ≢ place_taken f.reply
+once_cut before between e f (cut_opens none o) g te tf = absurd (none_opens e o te)
+once_cut before between e f (cut_follows h k) (cut_opens none o) te tf = absurd (none_opens f o tf)
+once_cut before between e f (cut_follows h k) (cut_follows g l) te tf = taken_apart before between e f g k l te tf
+
+pub taken_once : (before between after : List Entry) (e f : Entry) → IsLegal (before ++ e ∷ between ++ f ∷ after)
+    → is_took e.reply ≡ true → is_took f.reply ≡ true → place_taken e.reply ≢ place_taken f.reply
+taken_once before between after e f h te tf =
+    let whole : before ++ e ∷ between ++ f ∷ after ≡ before ++ e ∷ (between ++ f ∷ after) = append_assoc before (e ∷ between) (f ∷ after) in
+    once_cut before between e f (legal_cut before (between ++ f ∷ after) e (subst IsLegal whole h)) (legal_cut (before ++ e ∷ between) after f h) te tf
