@@ -53,16 +53,22 @@ fn has_ending(ending: &[u8], name: &Text) -> bool
     &bytes[bytes.len().saturating_sub(ending.len())..] == ending
 }
 
-fn is_source(name: &Text) -> bool
+pub(crate) fn is_source(name: &Text) -> bool
     ensures { result ≡ listing.is_source name.now }
 {
     has_ending(b".mos", name)
 }
 
+pub(crate) fn is_image(name: &Text) -> bool
+    ensures { result ≡ listing.has_ending (codes ".bim") name.now }
+{
+    has_ending(b".bim", name)
+}
+
 fn is_data(name: &Text) -> bool
     ensures { result ≡ listing.is_data name.now }
 {
-    !is_source(name) && !has_ending(b".bim", name)
+    !is_source(name) && !is_image(name)
 }
 
 fn listed_source<'a>(name: &Text, files: &'a [Listed]) -> Option<&'a Listed>

@@ -38,6 +38,7 @@ impl Hub {
     ghost use Rattle.job_calls.specs.Runs.{Opening, opening};
     ghost use Rattle.job_calls.specs.Words.{own_entries};
     ghost use Rattle.job_calls.specs.Legal.{CanOpen, IsLegal};
+    ghost use Rattle.job_calls.specs.Laws.{SaysTrue};
     ghost use Rattle.hub_core.specs.Hubs.{journal_of, spare_of, entry_of, IsPut, IsRefused, wants_memory};
     ghost use Rattle.hub_core.specs.Room.{takes_no_memory};
     ghost use Rattle.job_calls.specs.Replies.{is_plain};
@@ -115,6 +116,7 @@ impl Hub {
         ensures acted { IfOk result (λ acted. IsPut (journal_of self.old) (journal_of self.new) lane run call acted.place.0 acted.reply) }
         ensures held { IfErr result (λ held. IsRefused (journal_of self.old) lane run call held) }
         ensures stays { OnErr result (journal_of self.new ≡ journal_of self.old) }
+        ensures says_true { IfOk result (λ acted. SaysTrue (journal_of self.old) run call acted.reply) }
         ensures legal { IsLegal (journal_of self.new) }
         ensures few { length (journal_of self.new) < 1100000 }
         ensures spare { spare_of self.old ≤ spare_of self.new + 1 }

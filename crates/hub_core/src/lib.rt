@@ -10,10 +10,14 @@ mod held;
 mod hub;
 mod jobs;
 mod models;
+mod opening;
 mod pipes;
 mod runs;
+#[cfg(test)]
+mod tests;
 mod weights;
 mod words;
 
 pub use held::{Acted, Held};
 pub use hub::Hub;
+pub use opening::can_open;

@@ -3,3 +3,6 @@ pub mod Outcomes
 pub mod Entering
 pub mod Counts
 pub mod Bound
+pub mod Lists
+pub mod Taking
+pub mod Piping

@@ -11,6 +11,7 @@ pub mod Replies
 pub mod Answers
 pub mod Fitting
 pub mod Legal
+pub mod Laws
 pub mod Quoting
 pub mod CallText
 pub mod ReplyText

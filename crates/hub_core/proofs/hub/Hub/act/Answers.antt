@@ -3,6 +3,7 @@ use Rattle.std.proofs.Common.{◌≡◌, ◌<◌, ◌≤◌, sym, ap, subst, ari
 use Rattle.job_calls.specs.Files.{files_of}
 use Rattle.job_calls.proofs.Bound.{few_entries, few_files}
 use Rattle.hub_core.specs.Hubs.{journal_of}
+use Rattle.hub_core.proofs.Pushed.{says}
 use Rattle.hub_core.proofs.hub.Hub.act.Goals as goal
 
 pub answer_of-requires-clause-few : goal.answer_of-requires-clause-few
@@ -25,3 +26,7 @@ returns-in-Ok-NotYet-clause-few c = subst (λ j. length j < 1100000) (ap journal
 
 pub returns-in-Ok-Shut-clause-few : goal.returns-in-Ok-Shut-clause-few
 returns-in-Ok-Shut-clause-few c = subst (λ j. length j < 1100000) (ap journal_of c.self.view_is) (few_entries c.self.inside.entries.items c.self.invariant)
+
+pub returns-in-Ok-Ready-clause-says_true : goal.returns-in-Ok-Ready-clause-says_true
+returns-in-Ok-Ready-clause-says_true c =
+    says _ _ c.args.self.now c.args.lane c.args.run c.args.call _ c.put.result c.self.view_is c.self.invariant c.requires c.put.ensures.acted

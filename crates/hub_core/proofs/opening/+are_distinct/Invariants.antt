@@ -1,0 +1,6 @@
+-- each call has fewer files
+use Rattle.std.proofs.Common.{length}
+use Rattle.hub_core.proofs.opening.+are_distinct.Given as goal
+
+abbrev pub decreases-are_distinct : goal.decreases-are_distinct
+decreases-are_distinct l = length l.files.now
