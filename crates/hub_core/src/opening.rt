@@ -23,9 +23,7 @@ fn is_master(files: &[Listed]) -> bool
 fn have_file_names(files: &[Listed]) -> bool
     ensures { result ≡ list_all (λ file. is_file_name file.name) files.now }
 {
-    files
-        .iter()
-        .all(|file| is_file_name(&file.name))
+    files.iter().all(|file| is_file_name(&file.name))
 }
 
 fn is_among(name: &Listed, files: &[Listed]) -> bool
@@ -50,5 +48,9 @@ pub fn can_open(lanes: u32, budget: u32, files: &[Listed]) -> bool
     ensures { IsTrue result → (params : List ℕ) → CanOpen (record { lanes = lanes; budget = budget; params = params; files = files.now }) }
 {
     let numbers = lanes >= 1 && lanes <= 64 && budget >= 1 && budget <= 1_000_000_000;
-    numbers && files.len() <= 128 && is_master(files) && have_file_names(files) && are_distinct(files)
+    numbers
+        && files.len() <= 128
+        && is_master(files)
+        && have_file_names(files)
+        && are_distinct(files)
 }

@@ -30,7 +30,8 @@ fn hub(rt: &impl Abort, alloc: Global, lanes: u32) -> Result<Hub, Fail> {
     files.push(file(alloc, "c.mos", 0)?)?;
     files.push(file(alloc, "bad.mos", 2)?)?;
     files.push(file(alloc, "d.dat", 0)?)?;
-    assert!(rt; can_open(lanes, 100, files.as_slice()));
+    let fine = can_open(lanes, 100, files.as_slice());
+    assert!(rt; fine);
     Ok(Hub::new(alloc, lanes, 100, text(alloc, "")?, files)?)
 }
 
@@ -74,7 +75,14 @@ fn loaded(rt: &impl Abort, alloc: Global, lanes: u32) -> Result<Hub, Fail> {
     let claimed = "Claimed { run: 0, source: 0, params: Text { text: \"\" } }";
     expect(rt, alloc, &mut hub, (0, None), Call::Claim, claimed)?;
     let (src, dst) = (text(alloc, "c.mos")?, text(alloc, "c.bim")?);
-    expect(rt, alloc, &mut hub, (0, Some(0)), Call::Compile { src, dst }, "Code(0)")?;
+    expect(
+        rt,
+        alloc,
+        &mut hub,
+        (0, Some(0)),
+        Call::Compile { src, dst },
+        "Code(0)",
+    )?;
     let load = Call::Load {
         file: text(alloc, "c.bim")?,
     };
@@ -95,4 +103,5 @@ fn running(rt: &impl Abort, alloc: Global) -> Result<Hub, Fail> {
 }
 
 const MASTER: (u32, Option<u32>) = (0, Some(0));
+
 const CHILD: (u32, Option<u32>) = (1, Some(1));

@@ -2,31 +2,29 @@
 -- ends once, each lane is told once that the job is done, and the job is ended once.
 
 use Rattle.std.proofs.Common.{◌≡◌, ◌≢◌, ◌≤◌, ◌<◌, ℕ, suc, zero, ◌+◌, Bool, true, false, not, ◌&&◌, ◌||◌, List, [], ◌∷◌, ◌++◌, Option, Some, None, refl, sym, ap, ◌∙◌, subst, inl, inr, ◌⊎◌, nat_eq, nat_lt, length, length-append, cond, arith}
-use Rattle.std.specs.Prelude.{count_by, fold, is_some, if◌then◌else◌}
-use Rattle.std.specs.List.{list_any}
-use Rattle.std.proofs.lemmas.Bool.{eqb-true, eq-eqb, ne_eqb, lt-ltb, le-ltb, ltb-true, ltb-false, eqb-false}
+use Rattle.std.specs.Prelude.{count_by, is_some, if◌then◌else◌}
+use Rattle.std.proofs.lemmas.Bool.{eqb-true, eq-eqb, lt-ltb, le-ltb, ltb-true, ltb-false, eqb-false}
 use Rattle.std.proofs.lemmas.Bool.Decides.{eqb_tells}
 use Rattle.std.proofs.lemmas.List.Sums.{fold-append}
 use Rattle.job_calls.specs.declared.call.Call.{Call}
 use Rattle.job_calls.specs.declared.call.Call.TheVariants.{Open, Claim, Quit, Finish}
-use Rattle.job_calls.specs.declared.reply.Answer.{Answer}
-use Rattle.job_calls.specs.declared.reply.Answer.TheVariants.{Ready, NotYet, Shut}
+use Rattle.job_calls.specs.declared.reply.Answer.TheVariants.{Ready}
 use Rattle.job_calls.specs.declared.reply.Reply.{Reply}
 use Rattle.job_calls.specs.declared.reply.Reply.TheVariants.{Opened, Claimed, Done, Started, Unit as Accepted}
 use Rattle.job_calls.specs.declared.entry.Entry.{Entry}
-use Rattle.job_calls.specs.Words.{is_run, is_quit, is_finish, is_started, claims, is_done, is_last, own_entries, has_quit, run_count, is_claimed, is_finished, first_unclaimed, unclaimed}
+use Rattle.job_calls.specs.Words.{is_run, is_quit, is_finish, is_started, claims, is_done, is_last, own_entries, run_count, is_claimed, first_unclaimed}
 use Rattle.job_calls.specs.Runs.{Opening, opening, opening_of}
 use Rattle.std.specs.Option.{option_map_or}
 use Rattle.job_calls.specs.Files.{files_of}
-use Rattle.job_calls.specs.Answers.{claimed, next_run, claim_answer, answer_to_run, stop_rows, table_answer, open_answer, answer_of, is_full}
-use Rattle.job_calls.specs.Fitting.{held_after, held_run, was_done, is_over, is_for_lane, fits, below_lanes, call_fits}
-use Rattle.job_calls.specs.Legal.{IsLegal, IsOpening, OpensSo, CanOpen, Follows}
+use Rattle.job_calls.specs.Answers.{claimed, stop_rows, table_answer, is_full}
+use Rattle.job_calls.specs.Fitting.{held_after, held_run, is_over, is_for_lane, below_lanes}
+use Rattle.job_calls.specs.Legal.{IsLegal, IsOpening, OpensSo, Follows}
 use Rattle.job_calls.proofs.Growing.{legal_induct}
 use Rattle.job_calls.proofs.Outcomes as outcome
 use Rattle.job_calls.proofs.Outcomes.{Outcome, run_outcome, is_idle, false_true}
 use Rattle.job_calls.proofs.Entering as enter
 use Rattle.job_calls.proofs.Entering.{Entering, entering, no_quit, is_below, and_true}
-use Rattle.job_calls.proofs.Counts.{as_number, count-snoc, any-snoc, AtMostOnce, once_more, once_same, total, total_le, total_same, AllBelow, AllBelow-snoc, count_parts, own-snoc-same, own-snoc-other, count_either}
+use Rattle.job_calls.proofs.Counts.{as_number, count-snoc, any-snoc, AtMostOnce, once_more, once_same, total_le, total_same, AllBelow, AllBelow-snoc, count_parts, own-snoc-same, own-snoc-other, count_either}
 
 -- a lane was given a run
 abbrev pub is_given : Reply → Bool
@@ -88,16 +86,16 @@ over-snoc : (run : ℕ) (own : List Entry) (e : Entry) → is_over run own ≡ f
     → as_number (is_last e.reply) + as_number (not (is_over run (own ++ e ∷ []))) ≡ as_number (not (is_over run own))
 over-snoc run own e fresh by =
     let now : (is_run run e.run && is_last e.reply) ≡ is_last e.reply =
-        ap (λ r. is_run run r && is_last e.reply) by ∙ ap (λ b. b && is_last e.reply) (eq-eqb run run refl) in
+    ap (λ r. is_run run r && is_last e.reply) by ∙ ap (λ b. b && is_last e.reply) (eq-eqb run run refl) in
     let over : is_over run (own ++ e ∷ []) ≡ is_last e.reply =
-        any-snoc (λ (x : Entry). is_run run x.run && is_last x.reply) own e ∙ ap (λ b. b || (is_run run e.run && is_last e.reply)) fresh ∙ now in
+    any-snoc (λ (x : Entry). is_run run x.run && is_last x.reply) own e ∙ ap (λ b. b || (is_run run e.run && is_last e.reply)) fresh ∙ now in
     ap (λ b. as_number (is_last e.reply) + as_number (not b)) over
     ∙ halves (is_last e.reply)
     ∙ ap (λ b. as_number (not b)) (sym fresh)
-    where
-      halves : (b : Bool) → as_number b + as_number (not b) ≡ 1
-      halves true = refl
-      halves false = refl
+  where
+    halves : (b : Bool) → as_number b + as_number (not b) ≡ 1
+    halves true = refl
+    halves false = refl
 
 abbrev pub fins : List Entry → ℕ
 fins es = count_by (λ (e : Entry). is_finish e.call) es
@@ -135,14 +133,14 @@ goes_past : (o : Option ℕ) (own : List Entry) (e : Entry) → e.run ≡ None �
 goes_past None own e none = refl
 goes_past (Some run) own e none =
     ap (λ b. as_number (not b)) (
-      any-snoc (λ (x : Entry). is_run run x.run && is_last x.reply) own e
-      ∙ ap (λ r. is_over run own || (is_run run r && is_last e.reply)) none
-      ∙ or_none (is_over run own)
+    any-snoc (λ (x : Entry). is_run run x.run && is_last x.reply) own e
+    ∙ ap (λ r. is_over run own || (is_run run r && is_last e.reply)) none
+    ∙ or_none (is_over run own)
     )
-    where
-      or_none : (b : Bool) → (b || false) ≡ b
-      or_none true = refl
-      or_none false = refl
+  where
+    or_none : (b : Bool) → (b || false) ≡ b
+    or_none true = refl
+    or_none false = refl
 
 lane_step : (log : List Entry) (lane : ℕ) (run : Option ℕ) (call : Call) (reply : Reply) → LaneCounts (own_entries lane log)
     → Entering log lane run call reply → LaneCounts (own_entries lane log ++ record { lane = lane; run = run; call = call; reply = reply } ∷ [])
@@ -257,10 +255,11 @@ lane_counts l = legal_induct (λ log. LaneCounts (own_entries l log)) first step
   where
     first : (e : Entry) → IsOpening e → LaneCounts (own_entries l (e ∷ []))
     first e o = elim (nat_eq e.lane l) as (λ b. LaneCounts (cond b (e ∷ []) [])) [ true ↦ lane_first e o | false ↦ lane_none ]
+
     step : (log : List Entry) (e : Entry) → LaneCounts (own_entries l log) → Follows log e → LaneCounts (own_entries l (log ++ e ∷ []))
     step log e p f =
         elim (eqb_tells e.lane l) [
-          inl q ↦ subst (λ m. LaneCounts (own_entries m (log ++ e ∷ []))) q.1
+          | inl q ↦ subst (λ m. LaneCounts (own_entries m (log ++ e ∷ []))) q.1
               (subst LaneCounts (sym (own-snoc-same log e))
               (lane_step log e.lane e.run e.call e.reply (subst (λ m. LaneCounts (own_entries m log)) (sym q.1) p) (entering log e f)))
           | inr q ↦ subst LaneCounts (sym (own-snoc-other l log e q.1)) p
@@ -330,14 +329,14 @@ run_same log e c none started =
       first_given = λ k. claimed-snoc k log e ∙ ap (λ b. is_claimed k log || b) (not_given e.reply k none) ∙ or_no (is_claimed k log) ∙ c.first_given k ∙ ap (nat_lt k) (sym same);
       few_given = omega (arith, same, r, few);
       few_runs = elim started [
-          inl n ↦ let z : run_count (log ++ e ∷ []) ≡ run_count log + 0 = r ∙ ap (λ b. run_count log + as_number b) n in omega (arith, z, runs)
-          | inr l ↦ let less = ltb-true (run_count log) 4096 l in let one = small_number (is_started e.reply) in omega (arith, r, less, one)
-        ];
+        | inl n ↦ let z : run_count (log ++ e ∷ []) ≡ run_count log + 0 = r ∙ ap (λ b. run_count log + as_number b) n in omega (arith, z, runs)
+        | inr l ↦ let less = ltb-true (run_count log) 4096 l in let one = small_number (is_started e.reply) in omega (arith, r, less, one)
+      ];
     }
-    where
-      or_no : (b : Bool) → (b || false) ≡ b
-      or_no true = refl
-      or_no false = refl
+  where
+    or_no : (b : Bool) → (b || false) ≡ b
+    or_no true = refl
+    or_no false = refl
 
 run_step : (log : List Entry) (lane : ℕ) (run : Option ℕ) (call : Call) (reply : Reply) → RunCounts log
     → Entering log lane run call reply → RunCounts (log ++ record { lane = lane; run = run; call = call; reply = reply } ∷ [])
@@ -437,9 +436,9 @@ late_mark log lane _ _ _ many enter.quits = refl
 late_mark log lane _ _ _ many (enter.finishes run end held) = refl
 late_mark log lane _ _ _ many (enter.acts run call reply held fresh ends_fit_ for_run no_finish answered) =
     elim (outcome.by_rows (stop_rows log run call) (table_answer log run call) (Ready reply) answered) [
-      inl w ↦ last_marks call reply (ap is_last (sym (ap outcome.reply_of w.1)))
+      | inl w ↦ last_marks call reply (ap is_last (sym (ap outcome.reply_of w.1)))
       | inr w ↦ elim w.1 [
-        inl v ↦ last_marks call reply (ap is_last (sym (ap outcome.reply_of v.1)))
+        | inl v ↦ last_marks call reply (ap is_last (sym (ap outcome.reply_of v.1)))
         | inr v ↦ absurd (full_by log call many v.0)
       ]
     ]
@@ -454,7 +453,7 @@ late_by log e h f true q =
 late_by log e h f false q =
     let l = length-append log (e ∷ []) in
     let m : marks (log ++ e ∷ []) ≡ marks log + 1 =
-        marks-snoc log e ∙ ap (λ b. marks log + as_number b) (late_mark log e.lane e.run e.call e.reply (ltb-false (length log) 1000000 q) (entering log e f)) in
+    marks-snoc log e ∙ ap (λ b. marks log + as_number b) (late_mark log e.lane e.run e.call e.reply (ltb-false (length log) 1000000 q) (entering log e f)) in
     omega (arith, l, m, h)
 
 late : (journal : List Entry) → IsLegal journal → length journal ≤ 1000000 + marks journal

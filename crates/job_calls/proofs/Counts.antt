@@ -1,9 +1,9 @@
 -- Counts of a journal's entries, one entry more; and of the entries of each lane, put together.
 
 use Rattle.std.proofs.Common.{◌≡◌, ◌≢◌, ◌≤◌, ◌<◌, ℕ, suc, zero, ◌+◌, Bool, true, false, not, ◌||◌, List, [], ◌∷◌, ◌++◌, refl, sym, ap, ◌∙◌, subst, inl, inr, ◌⊎◌, nat_eq, cond, append-nil, arith}
-use Rattle.std.specs.Prelude.{count_by, filter, if◌then◌else◌}
+use Rattle.std.specs.Prelude.{count_by}
 use Rattle.std.specs.List.{list_any}
-use Rattle.std.proofs.lemmas.Bool.{eqb-true, eqb-false, eq-eqb, ne_eqb}
+use Rattle.std.proofs.lemmas.Bool.{eq-eqb, ne_eqb}
 use Rattle.std.proofs.lemmas.Bool.Decides.{eqb_tells}
 use Rattle.std.proofs.Math.Bool.{or-false}
 use Rattle.std.proofs.lemmas.List.Sums.{sum_by-append, sum_by-cons}
@@ -87,8 +87,8 @@ total_more : (n lane c : ℕ) (f g : ℕ → ℕ) → g lane ≡ c + f lane → 
 total_more zero lane c f g at off = inl (omega arith, refl)
 total_more (suc n) lane c f g at off =
     elim (total_more n lane c f g at off) [
-      inl h ↦ elim (eqb_tells lane n) [
-        inl q ↦ inr (let e = q.1 in omega (arith, e), let z : g n ≡ c + f n = subst (λ m. g m ≡ c + f m) q.1 at in let s = h.1 in omega (arith, z, s))
+      | inl h ↦ elim (eqb_tells lane n) [
+        | inl q ↦ inr (let e = q.1 in omega (arith, e), let z : g n ≡ c + f n = subst (λ m. g m ≡ c + f m) q.1 at in let s = h.1 in omega (arith, z, s))
         | inr q ↦ inl (let e = q.1 in let l = h.0 in omega (arith, e, l), let z = off n q.1 in let s = h.1 in omega (arith, z, s))
       ]
       | inr h ↦ inr (let l = h.0 in omega (arith, l), let l = h.0 in let z = off n (λ e. absurd (omega (arith, l, e))) in let s = h.1 in omega (arith, z, s))
@@ -113,9 +113,9 @@ count_parts p n (e ∷ es) all =
     let less = all.0 in
     let whole = count-cons p e es in
     elim (total_more n e.lane (as_number (p e)) (λ l. count_by p (own_entries l es)) (λ l. count_by p (own_entries l (e ∷ es)))
-      (ap (count_by p) (own-cons-same e es) ∙ count-cons p e (own_entries e.lane es))
-      (λ l apart. ap (count_by p) (own-cons-other l e es apart))) [
-      inl h ↦ absurd (let l = h.0 in omega (arith, l, less))
+    (ap (count_by p) (own-cons-same e es) ∙ count-cons p e (own_entries e.lane es))
+    (λ l apart. ap (count_by p) (own-cons-other l e es apart))) [
+      | inl h ↦ absurd (let l = h.0 in omega (arith, l, less))
       | inr h ↦ let s = h.1 in s ∙ ap (λ m. as_number (p e) + m) rest ∙ sym whole
     ]
 

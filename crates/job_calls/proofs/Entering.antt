@@ -1,10 +1,10 @@
 -- What an entry that follows a journal is: a call that fits, with the answer that is given.
 
-use Rattle.std.proofs.Common.{◌≡◌, ℕ, Bool, true, false, not, ◌&&◌, ◌||◌, List, Option, Some, None, refl, sym, ap, ◌∙◌, subst, inl, inr, ◌⊎◌, nat_eq}
+use Rattle.std.proofs.Common.{◌≡◌, ℕ, Bool, true, false, not, ◌&&◌, List, Option, Some, None, refl, sym, ap, subst, nat_eq}
 use Rattle.std.specs.Prelude.{is_some, if◌then◌else◌}
 use Rattle.std.proofs.lemmas.Bool.{eqb-true}
 use Rattle.job_calls.specs.declared.call.Call.{Call}
-use Rattle.job_calls.specs.declared.call.Call.TheVariants.{Open, Claim, Quit, Finish, Compile, Load, Run, Wait, Next, Peek, Drop, IsEmpty, Send, Status, ExitCode, Stop, Unload, Read, Write, PipeOpen, PipePut, PipeTake, PipeClose}
+use Rattle.job_calls.specs.declared.call.Call.TheVariants.{Open, Claim, Quit, Finish}
 use Rattle.job_calls.specs.declared.end.End.{End}
 use Rattle.job_calls.specs.declared.reply.Answer.{Answer}
 use Rattle.job_calls.specs.declared.reply.Answer.TheVariants.{Ready, NotYet, Shut}
@@ -12,11 +12,11 @@ use Rattle.job_calls.specs.declared.reply.Reply.{Reply}
 use Rattle.job_calls.specs.declared.reply.Reply.TheVariants.{Done, Unit as Accepted}
 use Rattle.job_calls.specs.declared.entry.Entry.{Entry}
 use Rattle.job_calls.specs.Words.{is_run, is_finish, has_quit, is_claimed, is_finished, unclaimed, own_entries}
-use Rattle.job_calls.specs.Runs.{Opening, opening}
-use Rattle.job_calls.specs.Answers.{claimed, next_run, answer_to_run, open_answer, answer_of}
+use Rattle.job_calls.specs.Runs.{opening}
+use Rattle.job_calls.specs.Answers.{claimed, next_run, answer_to_run, open_answer}
 use Rattle.job_calls.specs.Fitting.{held_run, was_done, is_over, ends_fit, is_for_lane, below_lanes, call_fits}
 use Rattle.job_calls.specs.Legal.{Follows}
-use Rattle.job_calls.proofs.Outcomes.{Outcome, run_outcome, reply_of, false_true}
+use Rattle.job_calls.proofs.Outcomes.{reply_of, false_true}
 
 pub and_true : (a b : Bool) → (a && b) ≡ true → (a ≡ true) × (b ≡ true)
 and_true true b e = (refl, e)

@@ -1,9 +1,9 @@
 -- How the moments of a journal grow by one entry, and what a legal journal's entries follow.
 
-use Rattle.std.proofs.Common.{◌≡◌, ◌<◌, ◌≤◌, ℕ, suc, List, [], ◌∷◌, ◌++◌, Option, Some, None, refl, sym, ap, ◌∙◌, subst, append_assoc, append-nil, length, get_or, take, drop, inl, inr, ◌⊎◌}
+use Rattle.std.proofs.Common.{◌≡◌, ◌<◌, ℕ, suc, List, [], ◌∷◌, ◌++◌, refl, sym, ap, ◌∙◌, subst, append_assoc, append-nil, length, get_or, take}
 use Rattle.std.proofs.Math.Seq.{take-suc}
 use Rattle.job_calls.specs.declared.entry.Entry.{Entry}
-use Rattle.job_calls.specs.Moments.{Moment, moments_from, moments}
+use Rattle.job_calls.specs.Moments.{moments_from, moments}
 use Rattle.job_calls.specs.Legal.{IsLegal, IsOpening, Follows, FollowOn}
 
 pub moments_from-append : (before xs ys : List Entry)

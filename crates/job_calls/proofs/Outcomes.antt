@@ -1,22 +1,22 @@
 -- What an answer can be, call by call: the reply with what the journal then says.
 
-use Rattle.std.proofs.Common.{◌≡◌, ℕ, ℤ, ◌+◌, ◌<◌, ◌≤◌, Bool, true, false, not, ◌&&◌, ◌||◌, List, [], ◌∷◌, ◌++◌, Option, Some, None, refl, sym, ap, ◌∙◌, subst, inl, inr, ◌⊎◌, nat_lt, nat_eq, length}
-use Rattle.std.specs.Prelude.{unwrap_or, is_some, slice_get, if◌then◌else◌}
+use Rattle.std.proofs.Common.{◌≡◌, ℕ, ℤ, Bool, true, false, not, List, [], ◌∷◌, Option, Some, None, refl, sym, ap, subst, inl, inr, ◌⊎◌, nat_lt, length}
+use Rattle.std.specs.Prelude.{unwrap_or, is_some, if◌then◌else◌}
 use Rattle.job_calls.specs.declared.call.Call.{Call}
 use Rattle.job_calls.specs.declared.call.Call.TheVariants.{Open, Claim, Quit, Finish, Compile, Load, Run, Wait, Next, Peek, Drop, IsEmpty, Send, Status, ExitCode, Stop, Unload, Read, Write, PipeOpen, PipePut, PipeTake, PipeClose}
 use Rattle.job_calls.specs.declared.call.Way.TheVariants.{Reads, Writes}
 use Rattle.job_calls.specs.declared.reply.Answer.{Answer}
-use Rattle.job_calls.specs.declared.reply.Answer.TheVariants.{Ready, NotYet, Shut}
+use Rattle.job_calls.specs.declared.reply.Answer.TheVariants.{Ready, NotYet}
 use Rattle.job_calls.specs.declared.reply.Reply.{Reply}
 use Rattle.job_calls.specs.declared.reply.Reply.TheVariants.{Opened, Claimed, Done, Started, Took, Queued, Found, Session, Bytes, PipeEnd, Nothing, Unit as Accepted}
 use Rattle.job_calls.specs.declared.entry.Entry.{Entry}
-use Rattle.job_calls.specs.Words.{has_quit, is_claimed, is_finished, run_count, unclaimed}
+use Rattle.job_calls.specs.Words.{run_count}
 use Rattle.job_calls.specs.Files.{data_of}
 use Rattle.job_calls.specs.Models.{compiled_from}
 use Rattle.job_calls.specs.Events.{event_at}
 use Rattle.job_calls.specs.Blocks.{last_write, written_at}
 use Rattle.job_calls.specs.Pipes.{holder, session, had_writer, is_joined, is_ended, untaken}
-use Rattle.job_calls.specs.Answers.{first_row, claimed, next_run, claim_answer, load_answer, run_rows, run_answer, first_event, wait_answer, take_answer, peek_answer, target, send_rows, send_answer, unload_rows, read_answer, reader_rows, writer_rows, put_rows, pipe_rows, table_answer, stop_rows, answer_to_run, open_answer, answer_of}
+use Rattle.job_calls.specs.Answers.{first_row, load_answer, run_rows, first_event, wait_answer, take_answer, peek_answer, target, send_rows, unload_rows, read_answer, reader_rows, writer_rows, put_rows, pipe_rows, table_answer, stop_rows, answer_to_run}
 
 -- the replies that say nothing which later answers rest on
 abbrev pub is_idle : Reply → Bool
@@ -106,13 +106,13 @@ run_by : (log : List Entry) (run model : ℕ) (params : List ℕ) (reply : Reply
     → InRows (run_rows log model) (Ready (Started (run_count log))) (Ready reply) → Outcome log run (Run model params) reply
 run_by log run model params reply h =
     elim h [
-      inl w ↦ idle_by log run (Run model params) _ reply refl w.1
+      | inl w ↦ idle_by log run (Run model params) _ reply refl w.1
       | inr w ↦ elim w.1 [
-        inl v ↦ idle_by log run (Run model params) _ reply refl v.1
+        | inl v ↦ idle_by log run (Run model params) _ reply refl v.1
         | inr v ↦ elim v.1 [
-          inl u ↦ idle_by log run (Run model params) _ reply refl u.1
+          | inl u ↦ idle_by log run (Run model params) _ reply refl u.1
           | inr u ↦ elim u.1 [
-            inl t ↦ idle_by log run (Run model params) _ reply refl t.1
+            | inl t ↦ idle_by log run (Run model params) _ reply refl t.1
             | inr t ↦ subst (Outcome log run (Run model params)) (ap reply_of t.1) (started model params (not_false (nat_lt (run_count log) 4096) u.0))
           ]
         ]
@@ -139,9 +139,9 @@ send_by : (log : List Entry) (run : ℕ) (to : Option ℕ) (class value : ℤ) (
     → InRows (send_rows log receiver) (Ready (Queued (unwrap_or receiver 0))) (Ready reply) → Outcome log run (Send to class value) reply
 send_by log run to class value receiver reply h =
     elim h [
-      inl w ↦ idle_by log run (Send to class value) _ reply refl w.1
+      | inl w ↦ idle_by log run (Send to class value) _ reply refl w.1
       | inr w ↦ elim w.1 [
-        inl v ↦ idle_by log run (Send to class value) _ reply refl v.1
+        | inl v ↦ idle_by log run (Send to class value) _ reply refl v.1
         | inr v ↦ subst (Outcome log run (Send to class value)) (ap reply_of v.1) (queued to class value (unwrap_or receiver 0))
       ]
     ]
@@ -149,7 +149,7 @@ send_by log run to class value receiver reply h =
 unload_by : (log : List Entry) (run model : ℕ) (reply : Reply) → InRows (unload_rows log model) (Ready Accepted) (Ready reply) → Outcome log run (Unload model) reply
 unload_by log run model reply h =
     elim h [
-      inl w ↦ idle_by log run (Unload model) _ reply refl w.1
+      | inl w ↦ idle_by log run (Unload model) _ reply refl w.1
       | inr w ↦ granted_by log run (Unload model) reply refl w.1
     ]
 
@@ -163,7 +163,7 @@ reader_by : (log : List Entry) (run : ℕ) (name : List ℕ) (reply : Reply)
     → InRows (reader_rows log name) (Ready (Session (record { 0 = length log }))) (Ready reply) → Outcome log run (PipeOpen name Reads) reply
 reader_by log run name reply h =
     elim h [
-      inl w ↦ idle_by log run (PipeOpen name Reads) _ reply refl w.1
+      | inl w ↦ idle_by log run (PipeOpen name Reads) _ reply refl w.1
       | inr w ↦ subst (Outcome log run (PipeOpen name Reads)) (ap reply_of w.1) (reads name w.0)
     ]
 
@@ -171,11 +171,11 @@ writer_by : (log : List Entry) (run : ℕ) (name : List ℕ) (reply : Reply)
     → InRows (writer_rows log name) (Ready (Session (record { 0 = unwrap_or (session name log) 0 }))) (Ready reply) → Outcome log run (PipeOpen name Writes) reply
 writer_by log run name reply h =
     elim h [
-      inl w ↦ idle_by log run (PipeOpen name Writes) _ reply refl w.1
+      | inl w ↦ idle_by log run (PipeOpen name Writes) _ reply refl w.1
       | inr w ↦ elim w.1 [
-        inl v ↦ not_yet log run (PipeOpen name Writes) reply v.1
+        | inl v ↦ not_yet log run (PipeOpen name Writes) reply v.1
         | inr v ↦ elim v.1 [
-          inl u ↦ not_yet log run (PipeOpen name Writes) reply u.1
+          | inl u ↦ not_yet log run (PipeOpen name Writes) reply u.1
           | inr u ↦ subst (Outcome log run (PipeOpen name Writes)) (ap reply_of u.1) (joins name w.0 v.0 u.0)
         ]
       ]
@@ -185,9 +185,9 @@ put_by_rows : (log : List Entry) (run : ℕ) (name bytes : List ℕ) (reply : Re
     → InRows (put_rows log name bytes) (Ready Accepted) (Ready reply) → Outcome log run (PipePut name bytes) reply
 put_by_rows log run name bytes reply h =
     elim h [
-      inl w ↦ idle_by log run (PipePut name bytes) _ reply refl w.1
+      | inl w ↦ idle_by log run (PipePut name bytes) _ reply refl w.1
       | inr w ↦ elim w.1 [
-        inl v ↦ not_yet log run (PipePut name bytes) reply v.1
+        | inl v ↦ not_yet log run (PipePut name bytes) reply v.1
         | inr v ↦ subst (Outcome log run (PipePut name bytes)) (ap reply_of v.1) (put name bytes w.0)
       ]
     ]
@@ -196,9 +196,9 @@ take_by_rows : (log : List Entry) (run : ℕ) (name : List ℕ) (reply : Reply)
     → InRows (pipe_rows log name) NotYet (Ready reply) → Outcome log run (PipeTake name) reply
 take_by_rows log run name reply h =
     elim h [
-      inl w ↦ subst (Outcome log run (PipeTake name)) (ap reply_of w.1) (took_all name)
+      | inl w ↦ subst (Outcome log run (PipeTake name)) (ap reply_of w.1) (took_all name)
       | inr w ↦ elim w.1 [
-        inl v ↦ subst (Outcome log run (PipeTake name)) (ap reply_of v.1) (ended name w.0 v.0)
+        | inl v ↦ subst (Outcome log run (PipeTake name)) (ap reply_of v.1) (ended name w.0 v.0)
         | inr v ↦ not_yet log run (PipeTake name) reply v.1
       ]
     ]
@@ -236,9 +236,9 @@ outcome log run (Finish end) reply e = not_yet log run (Finish end) reply e
 pub run_outcome : (log : List Entry) (run : ℕ) (call : Call) (reply : Reply) → answer_to_run log (Some run) call ≡ Ready reply → Outcome log run call reply
 run_outcome log run call reply e =
     elim (by_rows (stop_rows log run call) (table_answer log run call) (Ready reply) e) [
-      inl w ↦ idle_by log run call _ reply refl w.1
+      | inl w ↦ idle_by log run call _ reply refl w.1
       | inr w ↦ elim w.1 [
-        inl v ↦ idle_by log run call _ reply refl v.1
+        | inl v ↦ idle_by log run call _ reply refl v.1
         | inr v ↦ outcome log run call reply v.1
       ]
     ]

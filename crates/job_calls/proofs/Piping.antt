@@ -1,7 +1,7 @@
 -- What was read, and what was taken out of a pipe: the last write, and what was put.
 
-use Rattle.std.proofs.Common.{◌≡◌, ◌≢◌, ◌≤◌, ◌<◌, ℕ, suc, zero, ◌+◌, Bool, true, false, not, ◌&&◌, ◌||◌, List, [], ◌∷◌, ◌++◌, Option, Some, None, refl, sym, ap, ◌∙◌, subst, inl, inr, ◌⊎◌, nat_lt, length, length-append, drop, cond, arith, append_assoc, append-nil}
-use Rattle.std.specs.Prelude.{slice_get, flat_map, is_some, if◌then◌else◌}
+use Rattle.std.proofs.Common.{◌≡◌, ℕ, ◌+◌, Bool, true, false, ◌||◌, List, [], ◌∷◌, ◌++◌, Option, Some, None, refl, sym, ap, ◌∙◌, subst, inl, inr, nat_lt, length, length-append, drop, arith, append_assoc, append-nil}
+use Rattle.std.specs.Prelude.{slice_get, if◌then◌else◌}
 use Rattle.std.specs.Option.{option_map_or}
 use Rattle.std.specs.List.{list_any, enumerate_from}
 use Rattle.std.specs.Str.{bytes_eq}
@@ -11,16 +11,16 @@ use Rattle.std.proofs.lemmas.Grind.{flat_map-append}
 use Rattle.std.proofs.lemmas.Bool.{ltb-false}
 use Rattle.std.proofs.lemmas.Slice.Eq.{bytes_eq-Decides}
 use Rattle.job_calls.specs.declared.call.Call.{Call}
-use Rattle.job_calls.specs.declared.call.Call.TheVariants.{Open, Write, Read, PipeOpen, PipePut, PipeTake, Next, Drop}
+use Rattle.job_calls.specs.declared.call.Call.TheVariants.{Write, PipeTake, Next, Drop}
 use Rattle.job_calls.specs.declared.call.Way.TheVariants.{Reads}
 use Rattle.job_calls.specs.declared.reply.Reply.{Reply}
-use Rattle.job_calls.specs.declared.reply.Reply.TheVariants.{Opened, Took, Found, Session, Bytes, PipeEnd, Unit as Accepted}
+use Rattle.job_calls.specs.declared.reply.Reply.TheVariants.{Opened, Took, Found, Bytes, PipeEnd, Unit as Accepted}
 use Rattle.job_calls.specs.declared.entry.Entry.{Entry}
 use Rattle.job_calls.specs.Runs.{later, last_given}
-use Rattle.job_calls.specs.Blocks.{last_place, writes, last_write, written, written_at}
-use Rattle.job_calls.specs.Pipes.{opened_session, opens, session, in_session, put_by, taken_by, put_in, taken_in, untaken}
-use Rattle.job_calls.specs.Legal.{IsLegal, IsOpening, Follows}
-use Rattle.job_calls.specs.Laws.{IsLastWrite, IsListed, SaysTrue}
+use Rattle.job_calls.specs.Blocks.{writes, last_write, written, written_at}
+use Rattle.job_calls.specs.Pipes.{opens, session, in_session, put_by, taken_by, put_in, taken_in, untaken}
+use Rattle.job_calls.specs.Legal.{IsLegal, Follows}
+use Rattle.job_calls.specs.Laws.{IsLastWrite, SaysTrue}
 use Rattle.job_calls.proofs.Growing.{legal_induct, legal_cut, IsCut, opens as cut_opens, follows as cut_follows}
 use Rattle.job_calls.proofs.Lists.{none_some, some_is, last_given-snoc, enumerate-snoc, get_behind}
 use Rattle.job_calls.proofs.Outcomes as outcome
@@ -105,9 +105,9 @@ write_is log name place q =
     let w = wrote_by name c.at.call c.at.reply c.passes in
     let at : length c.before ≡ place = let p = c.place_is in omega (arith, p) in
     let bytes : written c.at.call ≡ written_at place log =
-        sym (ap (λ o. option_map_or (λ (e : Entry). written e.call) o []) (
-          ap (λ xs. slice_get xs place) c.cut ∙ ap (slice_get (c.before ++ c.at ∷ c.after)) (sym at) ∙ get_behind c.before c.at c.after
-        )) in
+    sym (ap (λ o. option_map_or (λ (e : Entry). written e.call) o []) (
+    ap (λ xs. slice_get xs place) c.cut ∙ ap (slice_get (c.before ++ c.at ∷ c.after)) (sym at) ∙ get_behind c.before c.at c.after
+    )) in
     record {
       before = c.before;
       write = c.at;
@@ -148,9 +148,9 @@ longer_by name log e (Some place) q r =
     let l = ap (λ xs. length xs) c.cut ∙ length-append c.before (c.at ∷ c.after) in
     let p = c.place_is in
     goes_on (
-      ap (λ s. part_of s (log ++ e ∷ [])) r
-      ∙ drop-append-le (place + 1) log (e ∷ []) (omega (arith, l, p))
-      ∙ ap (λ s. part_of s log ++ e ∷ []) (sym q)
+    ap (λ s. part_of s (log ++ e ∷ [])) r
+    ∙ drop-append-le (place + 1) log (e ∷ []) (omega (arith, l, p))
+    ∙ ap (λ s. part_of s log ++ e ∷ []) (sym q)
     )
 
 longer : (name : List ℕ) (log : List Entry) (e : Entry) → opens Reads name e ≡ false → Longer name log e
@@ -218,23 +218,21 @@ untaken_is name log rest q =
 piped_more : (name : List ℕ) (log : List Entry) (e : Entry) → Piped name (in_session name log) → Flow name log e.call e.reply
     → Piped name (in_session name log ++ e ∷ [])
 piped_more name log e p (quiet none) =
-    let part = in_session name log in
-    (
+    let part = in_session name log in (
       p.0 ++ put_by name e.call e.reply,
       put-snoc name part e
-      ∙ ap (λ xs. xs ++ put_by name e.call e.reply) p.1
-      ∙ append_assoc (taken_in name part) p.0 (put_by name e.call e.reply)
-      ∙ ap (λ xs. xs ++ (p.0 ++ put_by name e.call e.reply)) (sym (taken-snoc name part e ∙ ap (λ xs. taken_in name part ++ xs) none ∙ append-nil (taken_in name part))),
+          ∙ ap (λ xs. xs ++ put_by name e.call e.reply) p.1
+          ∙ append_assoc (taken_in name part) p.0 (put_by name e.call e.reply)
+          ∙ ap (λ xs. xs ++ (p.0 ++ put_by name e.call e.reply)) (sym (taken-snoc name part e ∙ ap (λ xs. taken_in name part ++ xs) none ∙ append-nil (taken_in name part))),
     )
 piped_more name log e p (empties none all) =
-    let part = in_session name log in
-    (
+    let part = in_session name log in (
       [],
       put-snoc name part e
-      ∙ ap (λ xs. put_in name part ++ xs) none
-      ∙ append-nil (put_in name part)
-      ∙ p.1
-      ∙ sym (append-nil (taken_in name (part ++ e ∷ [])) ∙ taken-snoc name part e ∙ ap (λ xs. taken_in name part ++ xs) (all ∙ untaken_is name log p.0 p.1)),
+          ∙ ap (λ xs. put_in name part ++ xs) none
+          ∙ append-nil (put_in name part)
+          ∙ p.1
+          ∙ sym (append-nil (taken_in name (part ++ e ∷ [])) ∙ taken-snoc name part e ∙ ap (λ xs. taken_in name part ++ xs) (all ∙ untaken_is name log p.0 p.1)),
     )
 
 piped_by : (name : List ℕ) (log : List Entry) (e : Entry) → Piped name (in_session name log) → Flow name log e.call e.reply → Longer name log e

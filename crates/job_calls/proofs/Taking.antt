@@ -1,10 +1,10 @@
 -- Events that are taken: each was sent, they come in order, and none comes twice.
 
-use Rattle.std.proofs.Common.{◌≡◌, ◌≢◌, ◌≤◌, ◌<◌, ℕ, ℤ, pos, suc, zero, ◌+◌, Bool, true, false, ◌&&◌, ◌||◌, List, [], ◌∷◌, ◌++◌, Option, Some, None, refl, sym, ap, ◌∙◌, subst, inl, inr, ◌⊎◌, nat_eq, length, length-append, drop, map, cond, arith, append_assoc, append-nil}
-use Rattle.std.specs.Prelude.{filter, count_by, slice_get, if◌then◌else◌}
+use Rattle.std.proofs.Common.{◌≡◌, ◌≢◌, ◌≤◌, ◌<◌, ℕ, ℤ, pos, suc, zero, ◌+◌, Bool, true, false, ◌&&◌, List, [], ◌∷◌, ◌++◌, Option, Some, None, refl, sym, ap, ◌∙◌, subst, inl, inr, ◌⊎◌, length, length-append, drop, map, cond, arith, append_assoc, append-nil}
+use Rattle.std.specs.Prelude.{filter, slice_get, if◌then◌else◌}
 use Rattle.std.specs.Option.{option_map_or}
 use Rattle.std.proofs.Math.Seq.{drop-append_seam}
-use Rattle.std.proofs.lemmas.Bool.{eqb-true, eq-eqb}
+use Rattle.std.proofs.lemmas.Bool.{eq-eqb}
 use Rattle.std.proofs.lemmas.List.{map-append, length-map}
 use Rattle.std.proofs.lemmas.List.Elements.{filter-append}
 use Rattle.std.proofs.lemmas.List.Sums.{length-filter}
@@ -16,8 +16,8 @@ use Rattle.job_calls.specs.declared.reply.Reply.TheVariants.{Took, Queued}
 use Rattle.job_calls.specs.declared.entry.Entry.{Entry}
 use Rattle.job_calls.specs.Moments.{Moment, moments_from, moments, place_of}
 use Rattle.job_calls.specs.Words.{is_run}
-use Rattle.job_calls.specs.Models.{parent_of, exit_code}
-use Rattle.job_calls.specs.Events.{receiver_of, comes_to, arrivals, is_took, taken_count, queue, event_of, event_at}
+use Rattle.job_calls.specs.Models.{parent_of}
+use Rattle.job_calls.specs.Events.{receiver_of, comes_to, arrivals, is_took, taken_count, event_of, event_at}
 use Rattle.job_calls.specs.Answers.{first_event}
 use Rattle.job_calls.specs.Legal.{IsLegal, IsOpening, Follows}
 use Rattle.job_calls.specs.Laws.{IsSent, IsEnd, IsEvent, IsTaken, place_taken, taken}
@@ -149,7 +149,7 @@ at_cut : (earlier : List Entry) (event : Entry) (rest log : List Entry) (place :
     → event_at place log ≡ event_of event.call
 at_cut earlier event rest log place cut at =
     ap (λ o. option_map_or (λ (e : Entry). event_of e.call) o (pos 0, pos 0)) (
-      ap (λ xs. slice_get xs place) cut ∙ ap (slice_get (earlier ++ event ∷ rest)) (sym at) ∙ get_behind earlier event rest
+    ap (λ xs. slice_get xs place) cut ∙ ap (slice_get (earlier ++ event ∷ rest)) (sym at) ∙ get_behind earlier event rest
     )
 
 event_from : (log : List Entry) (r place : ℕ) → Arrival r place [] log → IsEvent log place r (event_at place log).0 (event_at place log).1
@@ -222,20 +222,19 @@ InOrder log = (r : ℕ) → (rest : List ℕ) × (arrivals r log ≡ taken r log
 rest_first : (r place : ℕ) (log : List Entry) (rest : List ℕ) → arrivals r log ≡ taken r log ++ rest → first_event r log ≡ Some place → rest ≡ place ∷ tail_of rest
 rest_first r place log rest q first =
     let left : drop (taken_count r log) (arrivals r log) ≡ rest =
-        ap (λ n. drop n (arrivals r log)) (sym (taken_length r log)) ∙ ap (drop (length (taken r log))) q ∙ drop-append_seam (taken r log) rest in
+    ap (λ n. drop n (arrivals r log)) (sym (taken_length r log)) ∙ ap (drop (length (taken r log))) q ∙ drop-append_seam (taken r log) rest in
     first_is rest place (ap (λ xs. slice_get xs 0) (sym left) ∙ first)
 
 order_by : (r : ℕ) (log : List Entry) (e : Entry) (rest : List ℕ) → arrivals r log ≡ taken r log ++ rest → Follows log e
     → (b : Bool) → is_taking r e ≡ b → (more : List ℕ) × (arrivals r (log ++ e ∷ []) ≡ taken r (log ++ e ∷ []) ++ more)
 order_by r log e rest q f false is =
     let new = map place_of (filter (comes_to r) (record { before = log; entry = e } ∷ [])) in
-    let none : taken r (e ∷ []) ≡ [] = one_taken r e ∙ ap (λ b. if b then place_taken e.reply ∷ [] else []) is in
-    (
+    let none : taken r (e ∷ []) ≡ [] = one_taken r e ∙ ap (λ b. if b then place_taken e.reply ∷ [] else []) is in (
       rest ++ new,
       arrivals-snoc r log e
-      ∙ ap (λ xs. xs ++ new) q
-      ∙ append_assoc (taken r log) rest new
-      ∙ ap (λ xs. xs ++ (rest ++ new)) (sym (taken-snoc r log e ∙ ap (λ xs. taken r log ++ xs) none ∙ append-nil (taken r log))),
+          ∙ ap (λ xs. xs ++ new) q
+          ∙ append_assoc (taken r log) rest new
+          ∙ ap (λ xs. xs ++ (rest ++ new)) (sym (taken-snoc r log e ∙ ap (λ xs. taken r log ++ xs) none ∙ append-nil (taken r log))),
     )
 order_by r log e rest q f true is =
     let both = enter.and_true (is_run r e.run) (is_took e.reply) is in
@@ -243,23 +242,22 @@ order_by r log e rest q f true is =
     let same : t.taker ≡ r = some_is t.taker r (sym t.by ∙ is_run-some r e.run both.0) in
     let at : place_taken e.reply ≡ t.taking.place = ap place_taken t.taking.reply_is in
     let first : first_event r log ≡ Some (place_taken e.reply) =
-        ap (λ k. first_event k log) (sym same) ∙ t.taking.first ∙ ap Some (sym at) in
+    ap (λ k. first_event k log) (sym same) ∙ t.taking.first ∙ ap Some (sym at) in
     let head = rest_first r (place_taken e.reply) log rest q first in
     let new = map place_of (filter (comes_to r) (record { before = log; entry = e } ∷ [])) in
-    let one : taken r (e ∷ []) ≡ place_taken e.reply ∷ [] = one_taken r e ∙ ap (λ b. if b then place_taken e.reply ∷ [] else []) is in
-    (
+    let one : taken r (e ∷ []) ≡ place_taken e.reply ∷ [] = one_taken r e ∙ ap (λ b. if b then place_taken e.reply ∷ [] else []) is in (
       tail_of rest ++ new,
       arrivals-snoc r log e
-      ∙ ap (λ xs. xs ++ new) (q ∙ ap (λ xs. taken r log ++ xs) head)
-      ∙ append_assoc (taken r log) (place_taken e.reply ∷ tail_of rest) new
-      ∙ sym (append_assoc (taken r log) (place_taken e.reply ∷ []) (tail_of rest ++ new))
-      ∙ ap (λ xs. xs ++ (tail_of rest ++ new)) (sym (taken-snoc r log e ∙ ap (λ xs. taken r log ++ xs) one)),
+          ∙ ap (λ xs. xs ++ new) (q ∙ ap (λ xs. taken r log ++ xs) head)
+          ∙ append_assoc (taken r log) (place_taken e.reply ∷ tail_of rest) new
+          ∙ sym (append_assoc (taken r log) (place_taken e.reply ∷ []) (tail_of rest ++ new))
+          ∙ ap (λ xs. xs ++ (tail_of rest ++ new)) (sym (taken-snoc r log e ∙ ap (λ xs. taken r log ++ xs) one)),
     )
 
 order_first : (r : ℕ) (e : Entry) → IsOpening e → (rest : List ℕ) × (arrivals r (e ∷ []) ≡ taken r (e ∷ []) ++ rest)
 order_first r e o =
     let none : taken r (e ∷ []) ≡ [] =
-        one_taken r e ∙ ap (λ k. if is_run r k && is_took e.reply then place_taken e.reply ∷ [] else []) o.run in
+    one_taken r e ∙ ap (λ k. if is_run r k && is_took e.reply then place_taken e.reply ∷ [] else []) o.run in
     (arrivals r (e ∷ []), sym (ap (λ xs. xs ++ arrivals r (e ∷ [])) none))
 
 pub in_order : (journal : List Entry) → IsLegal journal → InOrder journal
@@ -329,7 +327,7 @@ takes_event log e f t =
 same_receiver : (r s place : ℕ) (log more : List Entry) → Arrival r place [] log → Arrival s place [] (log ++ more) → r ≡ s
 same_receiver r s place log more a b =
     let longer : log ++ more ≡ a.earlier ++ a.event ∷ (a.rest ++ more) =
-        ap (λ xs. xs ++ more) a.cut ∙ append_assoc a.earlier (a.event ∷ a.rest) more in
+    ap (λ xs. xs ++ more) a.cut ∙ append_assoc a.earlier (a.event ∷ a.rest) more in
     let same = same_cut a.earlier b.earlier (a.rest ++ more) b.rest a.event b.event (sym longer ∙ b.cut) (a.place_is ∙ sym b.place_is) in
     let ra = is_run-some r _ a.comes in
     let rb = is_run-some s _ b.comes in
@@ -344,12 +342,12 @@ apart_by r before between e f h takes_e first =
     let head = rest_first r (place_taken f.reply) log o.0 o.1 first in
     let one : taken r (e ∷ []) ≡ place_taken e.reply ∷ [] = one_taken r e ∙ ap (λ b. if b then place_taken e.reply ∷ [] else []) takes_e in
     let tail : taken r (e ∷ between) ≡ place_taken e.reply ∷ taken r between =
-        taken-append r (e ∷ []) between ∙ ap (λ xs. xs ++ taken r between) one in
+    taken-append r (e ∷ []) between ∙ ap (λ xs. xs ++ taken r between) one in
     let whole : arrivals r log ≡ taken r before ++ place_taken e.reply ∷ (taken r between ++ place_taken f.reply ∷ tail_of o.0) =
-        o.1
-        ∙ ap (λ xs. taken r log ++ xs) head
-        ∙ ap (λ xs. xs ++ place_taken f.reply ∷ tail_of o.0) (taken-append r before (e ∷ between) ∙ ap (λ xs. taken r before ++ xs) tail)
-        ∙ append_assoc (taken r before) (place_taken e.reply ∷ taken r between) (place_taken f.reply ∷ tail_of o.0) in
+    o.1
+    ∙ ap (λ xs. taken r log ++ xs) head
+    ∙ ap (λ xs. xs ++ place_taken f.reply ∷ tail_of o.0) (taken-append r before (e ∷ between) ∙ ap (λ xs. taken r before ++ xs) tail)
+    ∙ append_assoc (taken r before) (place_taken e.reply ∷ taken r between) (place_taken f.reply ∷ tail_of o.0) in
     pair_rises 0 (place_taken e.reply) (place_taken f.reply) (taken r before) (taken r between) (tail_of o.0) (subst (Rises 0) whole (places_rise r [] log))
 
 -- no event is taken twice
@@ -359,7 +357,7 @@ taken_apart before between e f h fe ff te tf = λ same.
     let a = takes_event before e fe te in
     let b = takes_event (before ++ e ∷ between) f ff tf in
     let came : Arrival b.taker (place_taken e.reply) [] (before ++ e ∷ between) =
-        subst (λ p. Arrival b.taker p [] (before ++ e ∷ between)) (sym same) b.came in
+    subst (λ p. Arrival b.taker p [] (before ++ e ∷ between)) (sym same) b.came in
     let r : a.taker ≡ b.taker = same_receiver a.taker b.taker (place_taken e.reply) before (e ∷ between) a.came came in
     let less = apart_by b.taker before between e f h (subst (λ k. is_taking k e ≡ true) r a.by) b.first in
     absurd (omega (arith, less, same))

@@ -1,11 +1,9 @@
 -- The laws of legal journals: what users rely on, whatever runs call and however many lanes there are.
 
-use Rattle.std.specs.Prelude.{◌≡◌, ◌≢◌, ◌<◌, ℕ, ℤ, pos, Bool, true, false, ◌&&◌, List, [], ◌∷◌, ◌++◌, Option, Some, None, ◌⊎◌, filter, map, length, drop, codes}
+use Rattle.std.specs.Prelude.{◌≡◌, ◌≢◌, ◌<◌, ℕ, ℤ, pos, true, false, ◌&&◌, List, ◌∷◌, ◌++◌, Option, Some, None, ◌⊎◌, filter, map, length, codes}
 use Rattle.std.specs.List.{list_any}
-use Rattle.mos_text.specs.declared.place.Place.{Place}
 use Rattle.job_calls.specs.declared.call.Call.{Call}
 use Rattle.job_calls.specs.declared.call.Call.TheVariants.{Finish, Send, Read, Write, PipeTake}
-use Rattle.job_calls.specs.declared.call.Way.TheVariants.{Reads}
 use Rattle.job_calls.specs.declared.end.End.{End}
 use Rattle.job_calls.specs.declared.reply.Reply.{Reply}
 use Rattle.job_calls.specs.declared.reply.Reply.TheVariants.{Took, Queued, Found, Bytes, PipeEnd, Unit as Accepted}
@@ -15,7 +13,7 @@ use Rattle.job_calls.specs.Files.{data_of}
 use Rattle.job_calls.specs.Models.{parent_of, exit_code}
 use Rattle.job_calls.specs.Events.{arrivals, is_took}
 use Rattle.job_calls.specs.Blocks.{writes}
-use Rattle.job_calls.specs.Pipes.{opens, in_session, put_in, taken_in}
+use Rattle.job_calls.specs.Pipes.{in_session, put_in, taken_in}
 use Rattle.job_calls.specs.Legal.{IsLegal}
 
 -- a legal journal never has 1,100,000 entries

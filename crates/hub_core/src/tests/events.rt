@@ -18,9 +18,30 @@ fn events_come_in_order(rt: HostRuntime) -> Result<(), Fail> {
     let mut hub = running(&rt, alloc)?;
     expect(&rt, alloc, &mut hub, MASTER, Call::Wait, "not yet")?;
     expect(&rt, alloc, &mut hub, MASTER, Call::Next, "Nothing")?;
-    expect(&rt, alloc, &mut hub, CHILD, send(None, 5), "Queued { run: 0 }")?;
-    expect(&rt, alloc, &mut hub, CHILD, send(None, 6), "Queued { run: 0 }")?;
-    expect(&rt, alloc, &mut hub, CHILD, Call::Finish(End::Spent), "Unit")?;
+    expect(
+        &rt,
+        alloc,
+        &mut hub,
+        CHILD,
+        send(None, 5),
+        "Queued { run: 0 }",
+    )?;
+    expect(
+        &rt,
+        alloc,
+        &mut hub,
+        CHILD,
+        send(None, 6),
+        "Queued { run: 0 }",
+    )?;
+    expect(
+        &rt,
+        alloc,
+        &mut hub,
+        CHILD,
+        Call::Finish(End::Spent),
+        "Unit",
+    )?;
     expect(&rt, alloc, &mut hub, MASTER, Call::Wait, "Unit")?;
     let first = "Seen { place: Place(7), class: 2, value: 5 }";
     expect(&rt, alloc, &mut hub, MASTER, Call::Peek, first)?;
@@ -38,10 +59,24 @@ fn events_come_in_order(rt: HostRuntime) -> Result<(), Fail> {
 fn events_that_are_lost(rt: HostRuntime) -> Result<(), Fail> {
     let alloc = rt.alloc();
     let mut hub = running(&rt, alloc)?;
-    expect(&rt, alloc, &mut hub, MASTER, send(Some(1), 5), "Queued { run: 1 }")?;
+    expect(
+        &rt,
+        alloc,
+        &mut hub,
+        MASTER,
+        send(Some(1), 5),
+        "Queued { run: 1 }",
+    )?;
     expect(&rt, alloc, &mut hub, MASTER, send(Some(9), 5), "Lost")?;
     expect(&rt, alloc, &mut hub, MASTER, send(None, 5), "Lost")?;
-    expect(&rt, alloc, &mut hub, CHILD, Call::Finish(End::Code(0)), "Unit")?;
+    expect(
+        &rt,
+        alloc,
+        &mut hub,
+        CHILD,
+        Call::Finish(End::Code(0)),
+        "Unit",
+    )?;
     expect(&rt, alloc, &mut hub, MASTER, send(Some(1), 5), "Lost")
 }
 
@@ -69,9 +104,17 @@ fn reads_give_the_last_write(rt: HostRuntime) -> Result<(), Fail> {
     expect(&rt, alloc, &mut hub, MASTER, write(alloc, &two)?, "Unit")?;
     let second = "Found { place: Place(8), bytes: SharedBlob { blob: Blob { bytes: [50] } } }";
     expect(&rt, alloc, &mut hub, CHILD, read(alloc, "shmem:x")?, second)?;
-    let file = "Found { place: Place(0), bytes: SharedBlob { blob: Blob { bytes: [120, 58, 32, 49] } } }";
+    let file =
+        "Found { place: Place(0), bytes: SharedBlob { blob: Blob { bytes: [120, 58, 32, 49] } } }";
     expect(&rt, alloc, &mut hub, CHILD, read(alloc, "d.dat")?, file)?;
-    expect(&rt, alloc, &mut hub, CHILD, read(alloc, "c.mos")?, "Fault(NoFile)")
+    expect(
+        &rt,
+        alloc,
+        &mut hub,
+        CHILD,
+        read(alloc, "c.mos")?,
+        "Fault(NoFile)",
+    )
 }
 
 #[test]
@@ -83,8 +126,29 @@ fn a_journal_that_is_full(rt: HostRuntime) -> Result<(), Fail> {
     for _ in 0..3 {
         expect(&rt, alloc, &mut hub, MASTER, write(alloc, &large)?, "Unit")?;
     }
-    expect(&rt, alloc, &mut hub, MASTER, Call::Stop { model: 1 }, "Unit")?;
-    expect(&rt, alloc, &mut hub, MASTER, write(alloc, &large)?, "Fault(HubFull)")?;
+    expect(
+        &rt,
+        alloc,
+        &mut hub,
+        MASTER,
+        Call::Stop { model: 1 },
+        "Unit",
+    )?;
+    expect(
+        &rt,
+        alloc,
+        &mut hub,
+        MASTER,
+        write(alloc, &large)?,
+        "Fault(HubFull)",
+    )?;
     expect(&rt, alloc, &mut hub, CHILD, Call::Wait, "Halt")?;
-    expect(&rt, alloc, &mut hub, MASTER, Call::Finish(End::Code(0)), "Unit")
+    expect(
+        &rt,
+        alloc,
+        &mut hub,
+        MASTER,
+        Call::Finish(End::Code(0)),
+        "Unit",
+    )
 }

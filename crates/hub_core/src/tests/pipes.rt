@@ -30,13 +30,34 @@ fn a_pipe_from_open_to_end(rt: HostRuntime) -> Result<(), Fail> {
     let alloc = rt.alloc();
     let mut hub = running(&rt, alloc)?;
     let session = "Session { place: Place(6) }";
-    expect(&rt, alloc, &mut hub, MASTER, open(alloc, Way::Writes)?, "not yet")?;
-    expect(&rt, alloc, &mut hub, CHILD, open(alloc, Way::Reads)?, session)?;
+    expect(
+        &rt,
+        alloc,
+        &mut hub,
+        MASTER,
+        open(alloc, Way::Writes)?,
+        "not yet",
+    )?;
+    expect(
+        &rt,
+        alloc,
+        &mut hub,
+        CHILD,
+        open(alloc, Way::Reads)?,
+        session,
+    )?;
     expect(&rt, alloc, &mut hub, CHILD, take(alloc)?, "not yet")?;
     expect(&rt, alloc, &mut hub, MASTER, put(alloc, 1)?, "unfit")?;
     expect(&rt, alloc, &mut hub, MASTER, take(alloc)?, "unfit")?;
     expect(&rt, alloc, &mut hub, MASTER, close(alloc)?, "unfit")?;
-    expect(&rt, alloc, &mut hub, MASTER, open(alloc, Way::Writes)?, session)?;
+    expect(
+        &rt,
+        alloc,
+        &mut hub,
+        MASTER,
+        open(alloc, Way::Writes)?,
+        session,
+    )?;
     expect(&rt, alloc, &mut hub, MASTER, put(alloc, 2)?, "Unit")?;
     expect(&rt, alloc, &mut hub, MASTER, put(alloc, 4095)?, "not yet")?;
     expect(&rt, alloc, &mut hub, MASTER, put(alloc, 1)?, "Unit")?;
@@ -45,7 +66,14 @@ fn a_pipe_from_open_to_end(rt: HostRuntime) -> Result<(), Fail> {
     expect(&rt, alloc, &mut hub, MASTER, put(alloc, 4096)?, "Unit")?;
     expect(&rt, alloc, &mut hub, MASTER, put(alloc, 1)?, "not yet")?;
     expect(&rt, alloc, &mut hub, MASTER, close(alloc)?, "Unit")?;
-    expect(&rt, alloc, &mut hub, MASTER, open(alloc, Way::Writes)?, "not yet")
+    expect(
+        &rt,
+        alloc,
+        &mut hub,
+        MASTER,
+        open(alloc, Way::Writes)?,
+        "not yet",
+    )
 }
 
 #[test]
@@ -53,12 +81,40 @@ fn ends_that_are_taken(rt: HostRuntime) -> Result<(), Fail> {
     let alloc = rt.alloc();
     let mut hub = running(&rt, alloc)?;
     let session = "Session { place: Place(6) }";
-    expect(&rt, alloc, &mut hub, MASTER, open(alloc, Way::Reads)?, session)?;
-    expect(&rt, alloc, &mut hub, MASTER, open(alloc, Way::Writes)?, session)?;
+    expect(
+        &rt,
+        alloc,
+        &mut hub,
+        MASTER,
+        open(alloc, Way::Reads)?,
+        session,
+    )?;
+    expect(
+        &rt,
+        alloc,
+        &mut hub,
+        MASTER,
+        open(alloc, Way::Writes)?,
+        session,
+    )?;
     expect(&rt, alloc, &mut hub, MASTER, close(alloc)?, "Unit")?;
     let again = "Session { place: Place(9) }";
-    expect(&rt, alloc, &mut hub, MASTER, open(alloc, Way::Reads)?, again)?;
-    expect(&rt, alloc, &mut hub, CHILD, open(alloc, Way::Reads)?, "Fault(PipeBusy)")
+    expect(
+        &rt,
+        alloc,
+        &mut hub,
+        MASTER,
+        open(alloc, Way::Reads)?,
+        again,
+    )?;
+    expect(
+        &rt,
+        alloc,
+        &mut hub,
+        CHILD,
+        open(alloc, Way::Reads)?,
+        "Fault(PipeBusy)",
+    )
 }
 
 #[test]
@@ -66,12 +122,47 @@ fn a_reader_that_is_gone(rt: HostRuntime) -> Result<(), Fail> {
     let alloc = rt.alloc();
     let mut hub = running(&rt, alloc)?;
     let session = "Session { place: Place(6) }";
-    expect(&rt, alloc, &mut hub, CHILD, open(alloc, Way::Reads)?, session)?;
-    expect(&rt, alloc, &mut hub, MASTER, open(alloc, Way::Writes)?, session)?;
+    expect(
+        &rt,
+        alloc,
+        &mut hub,
+        CHILD,
+        open(alloc, Way::Reads)?,
+        session,
+    )?;
+    expect(
+        &rt,
+        alloc,
+        &mut hub,
+        MASTER,
+        open(alloc, Way::Writes)?,
+        session,
+    )?;
     expect(&rt, alloc, &mut hub, CHILD, close(alloc)?, "Unit")?;
     let again = "Session { place: Place(9) }";
     expect(&rt, alloc, &mut hub, CHILD, open(alloc, Way::Reads)?, again)?;
-    expect(&rt, alloc, &mut hub, CHILD, open(alloc, Way::Writes)?, "Fault(PipeBusy)")?;
-    expect(&rt, alloc, &mut hub, CHILD, Call::Finish(End::Code(0)), "Unit")?;
-    expect(&rt, alloc, &mut hub, MASTER, put(alloc, 1)?, "Fault(Broken)")
+    expect(
+        &rt,
+        alloc,
+        &mut hub,
+        CHILD,
+        open(alloc, Way::Writes)?,
+        "Fault(PipeBusy)",
+    )?;
+    expect(
+        &rt,
+        alloc,
+        &mut hub,
+        CHILD,
+        Call::Finish(End::Code(0)),
+        "Unit",
+    )?;
+    expect(
+        &rt,
+        alloc,
+        &mut hub,
+        MASTER,
+        put(alloc, 1)?,
+        "Fault(Broken)",
+    )
 }
