@@ -1,7 +1,7 @@
 -- When a reply fits a call: the call can be answered so by some journal, and the reply's numbers are
 -- in the ranges of their types.
 
-use Rattle.std.specs.Prelude.{◌≤◌, ◌<◌, ◌^◌, List, [], ◌∷◌, FitsSigned, Bool, true, false}
+use Rattle.std.specs.Prelude.{◌≤◌, ◌<◌, ◌^◌, List, [], ◌∷◌, All, FitsSigned, Bool, true, false}
 use Rattle.std.specs.Int.{w32}
 use Rattle.mos_text.specs.FaultKinds.{fault_number}
 use Rattle.job_calls.specs.declared.call.Call.{Call}
@@ -34,11 +34,11 @@ IsAnswer (call.Status model) (Number number) = FitsSigned w32 number
 IsAnswer (call.ExitCode model) (Number number) = FitsSigned w32 number
 IsAnswer (call.Stop model) reply.Unit = Unit {0}
 IsAnswer (call.Unload model) reply.Unit = Unit {0}
-IsAnswer (call.Read name) (Found place bytes) = place.0 < 2 ^ 32
+IsAnswer (call.Read name) (Found place bytes) = (place.0 < 2 ^ 32) × All (λ byte. byte < 2 ^ 8) bytes
 IsAnswer (call.Write name bytes) reply.Unit = Unit {0}
 IsAnswer (call.PipeOpen name way) (Session place) = place.0 < 2 ^ 32
 IsAnswer (call.PipePut name bytes) reply.Unit = Unit {0}
-IsAnswer (call.PipeTake name) (Bytes bytes) = Unit {0}
+IsAnswer (call.PipeTake name) (Bytes bytes) = All (λ byte. byte < 2 ^ 8) bytes
 IsAnswer (call.PipeTake name) PipeEnd = Unit {0}
 IsAnswer (call.PipeClose name) reply.Unit = Unit {0}
 IsAnswer _ _ = ⊥
