@@ -10,3 +10,6 @@ mod unknown;
 pub use built::not_built;
 pub use form::{Form, form_of};
 pub use names::{CheckFault, check};
+
+#[cfg(test)]
+mod tests;
