@@ -6,3 +6,4 @@ pub mod Bound
 pub mod Lists
 pub mod Taking
 pub mod Piping
+pub mod Listing

@@ -1,5 +1,5 @@
 //! What holds of every legal journal: functions that do nothing, whose contracts are the laws.
-ghost use Rattle.job_calls.specs.Laws.{FewEntries, RepliesAreTrue, TakenInOrder, TakenOnce, PipedInOrder};
+ghost use Rattle.job_calls.specs.Laws.{FewEntries, RepliesAreTrue, TakenInOrder, TakenOnce, PipedInOrder, BlocksAreNotListed};
 
 /// A legal journal has fewer than 1,100,000 entries, so that a place always fits 32 bits.
 pub fn few_entries()
@@ -26,4 +26,9 @@ pub fn taken_once()
 /// What was taken out of a pipe's session is a beginning of what was put into it.
 pub fn piped_in_order()
     ensures { PipedInOrder }
+{}
+
+/// No file is listed under the name of a block in memory, so that what is read there was written.
+pub fn blocks_are_not_listed()
+    ensures { BlocksAreNotListed }
 {}
