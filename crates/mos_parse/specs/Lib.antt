@@ -1,0 +1,6 @@
+pub mod Faults
+pub mod Forms
+pub mod Limits
+pub mod Places
+pub mod Sources
+pub mod Statements
