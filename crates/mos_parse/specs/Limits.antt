@@ -8,20 +8,25 @@ use Rattle.mos_parse.specs.declared.form.Form.{Form}
 use Rattle.mos_parse.specs.declared.form.Form.TheVariants as f
 use Rattle.mos_parse.specs.Sources.{no_implicit, jobs_module}
 
--- the first module that is another than the one there is
-abbrev pub other_module : List (List ℕ) → Option (List ℕ)
-other_module [] = None
-other_module (x ∷ xs) = if bytes_eq x jobs_module then other_module xs else Some x
+abbrev pub is_jobs : List ℕ → Bool
+is_jobs name = bytes_eq name jobs_module
 
-abbrev pub module_limit : Option (List ℕ) → Option Kind
-module_limit None = None
-module_limit (Some name) = Some (k.Module name)
+abbrev pub is_no_implicit : List ℕ → Bool
+is_no_implicit name = bytes_eq name no_implicit
+
+-- the first module that is another than the one there is
+abbrev pub module_limit : List (List ℕ) → Option Kind
+module_limit [] = None
+module_limit (x ∷ xs) = if is_jobs x then module_limit xs else Some (k.Module x)
+
+abbrev pub option_limit : List ℕ → Option Kind
+option_limit name = if is_no_implicit name then None else Some (k.Out name)
 
 -- the limit that a piece breaks wherever it stands: another module, another option, a tree that is too high
 abbrev pub own_limit : Form → Option Kind
 own_limit (f.TooHigh mould) = Some k.Deep
-own_limit (f.Uses modules) = module_limit (other_module modules)
-own_limit (f.Options name) = if bytes_eq name no_implicit then None else Some (k.Out name)
+own_limit (f.Uses modules) = module_limit modules
+own_limit (f.Options name) = option_limit name
 own_limit _ = None
 
 -- the limit that a piece breaks which could stand at its place: its own, or that of blocks

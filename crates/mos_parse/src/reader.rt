@@ -1,0 +1,51 @@
+//! The tree of a list of pieces.
+ghost use Rattle.std.specs.Prelude.{◌≡◌, [], ◌∷◌, reverse, MatchOption};
+ghost use Rattle.mos_parse.specs.Machine as spec;
+ghost use Rattle.mos_parse.specs.Sources.{limit};
+
+use crate::fault::PieceFault;
+use crate::form::PieceForm;
+use crate::machine::{finished, step};
+use mos_text::Kind;
+use mos_tree::Tree;
+use std::alloc::Global;
+
+/// Takes off the first of the pieces, which stand in turned order.
+fn next_piece(turned: &mut Vec<PieceForm>) -> Option<PieceForm>
+    ensures { MatchOption result ((reverse turned.old.items ≡ []) × (reverse turned.new.items ≡ [])) (λ piece. reverse turned.old.items ≡ piece ∷ reverse turned.new.items) }
+{
+    turned.pop()
+}
+
+/// Reads pieces that stand in turned order.
+fn read_turned(alloc: Global, turned: Vec<PieceForm>) -> Result<Tree, PieceFault>
+    ensures { spec.Answers (spec.run limit [] (reverse turned.items)) result }
+{
+    let mut turned = turned;
+    let mut stack = Vec::new(alloc);
+    loop {
+        let left = turned.len();
+        let Some(piece) = next_piece(&mut turned) else {
+            break;
+        };
+        if let Some(kind) = step(alloc, &mut stack, piece)? {
+            return Err(PieceFault::At { left, kind });
+        }
+    }
+    match finished(&mut stack) {
+        Some(tree) => Ok(tree),
+        None => Err(PieceFault::At {
+            left: 0,
+            kind: Kind::Syntax,
+        }),
+    }
+}
+
+/// The tree of the source that these pieces spell, or the faulty piece.
+pub fn source(alloc: Global, pieces: Vec<PieceForm>) -> Result<Tree, PieceFault>
+    ensures reads { spec.Answers (spec.run limit [] pieces.items) result }
+{
+    let mut pieces = pieces;
+    pieces.reverse();
+    read_turned(alloc, pieces)
+}
