@@ -8,6 +8,8 @@ use Rattle.mos_tree.specs.declared.statement.Alternative.{Alternative}
 use Rattle.mos_tree.specs.declared.statement.Direction.{Direction}
 use Rattle.mos_tree.specs.declared.statement.Label.{Label}
 use Rattle.mos_parse.specs.declared.form.Form.TheVariants as f
+use Rattle.mos_parse.specs.declared.form.Guard.TheVariants as guard
+use Rattle.mos_parse.specs.declared.form.Keyword.TheVariants as keyword
 use Rattle.mos_parse.specs.declared.form.Mould.TheVariants as m
 use Rattle.mos_parse.specs.declared.form.PieceForm.{PieceForm}
 use Rattle.mos_parse.specs.declared.frame.Frame.{Frame}
@@ -23,11 +25,11 @@ use Rattle.mos_parse.proofs.Steps.{Takes, role-of-statement, step-role, run-step
 
 -- ---- pieces inside a block that is open
 
-elif-step : (deep : ℕ) (k : Stack) (first : ℕ) (arms : List (Arm Statement)) (l : ℕ) (c : Expr) (body : List Statement) (line : ℕ) (next : Expr) → step deep (g.Arm first arms l c body ∷ k) (piece line (f.Elif next)) ≡ Ok (g.Arm first (arms ++ arm_of l c body ∷ []) line next [] ∷ k)
+elif-step : (deep : ℕ) (k : Stack) (first : ℕ) (arms : List (Arm Statement)) (l : ℕ) (c : Expr) (body : List Statement) (line : ℕ) (next : Expr) → step deep (g.Arm first arms l c body ∷ k) (piece line (f.Guarded guard.Elif next)) ≡ Ok (g.Arm first (arms ++ arm_of l c body ∷ []) line next [] ∷ k)
 unfolding step step_as role_at
 elif-step deep k first arms l c body line next = refl
 
-else-step : (deep : ℕ) (k : Stack) (first : ℕ) (arms : List (Arm Statement)) (l : ℕ) (c : Expr) (body : List Statement) (line : ℕ) → step deep (g.Arm first arms l c body ∷ k) (piece line f.Else) ≡ Ok (g.Otherwise first (arms ++ arm_of l c body ∷ []) [] ∷ k)
+else-step : (deep : ℕ) (k : Stack) (first : ℕ) (arms : List (Arm Statement)) (l : ℕ) (c : Expr) (body : List Statement) (line : ℕ) → step deep (g.Arm first arms l c body ∷ k) (piece line (f.Keyword keyword.Else)) ≡ Ok (g.Otherwise first (arms ++ arm_of l c body ∷ []) [] ∷ k)
 unfolding step step_as role_at
 else-step deep k first arms l c body line = refl
 
@@ -35,7 +37,7 @@ alternative-step : (deep : ℕ) (k : Stack) (l : ℕ) (v : Expr) (xs : List (Alt
 unfolding step step_as role_at
 alternative-step deep k l v xs line labels = refl
 
-case-else-step : (deep : ℕ) (k : Stack) (l : ℕ) (v : Expr) (xs : List (Alternative Statement)) (line : ℕ) → step deep (g.Choice l v xs ∷ k) (piece line f.Else) ≡ Ok (g.ChoiceOtherwise l v xs [] ∷ k)
+case-else-step : (deep : ℕ) (k : Stack) (l : ℕ) (v : Expr) (xs : List (Alternative Statement)) (line : ℕ) → step deep (g.Choice l v xs ∷ k) (piece line (f.Keyword keyword.Else)) ≡ Ok (g.ChoiceOtherwise l v xs [] ∷ k)
 unfolding step step_as role_at
 case-else-step deep k l v xs line = refl
 
@@ -89,36 +91,36 @@ mutual
   reads deep (bare line name) k next rest t h e =
       run-step deep k next (piece line (f.Bare name)) rest (step-role deep k (piece line (f.Bare name)) Stands next (role-of-statement (place_of k) m.Bare Stands t refl) refl refl e)
   reads deep (conditional arms line condition b last end) k next rest t h e =
-      ap (run deep k) (append_assoc (spell_arms arms) (piece line (arm_form arms condition) ∷ (spell_block b ++ (spell_last last ++ piece end f.EndIf ∷ []))) rest ∙ ap (λ zs. spell_arms arms ++ piece line (arm_form arms condition) ∷ zs) (two-end (spell_block b) (spell_last last) (piece end f.EndIf) rest))
-      ∙ reads-arms deep arms line condition k (spell_block b ++ (spell_last last ++ piece end f.EndIf ∷ rest)) t (omega (arith, h)) (omega (arith, h))
-      ∙ reads-block deep b k (λ xs. g.Arm (first_line arms line) (trees_of_arms arms) line condition xs) (filled-arm (first_line arms line) (trees_of_arms arms) line condition) (spell_last last ++ piece end f.EndIf ∷ rest) (omega (arith, h))
+      ap (run deep k) (append_assoc (spell_arms arms) (piece line (arm_form arms condition) ∷ (spell_block b ++ (spell_last last ++ piece end (f.Keyword keyword.EndIf) ∷ []))) rest ∙ ap (λ zs. spell_arms arms ++ piece line (arm_form arms condition) ∷ zs) (two-end (spell_block b) (spell_last last) (piece end (f.Keyword keyword.EndIf)) rest))
+      ∙ reads-arms deep arms line condition k (spell_block b ++ (spell_last last ++ piece end (f.Keyword keyword.EndIf) ∷ rest)) t (omega (arith, h)) (omega (arith, h))
+      ∙ reads-block deep b k (λ xs. g.Arm (first_line arms line) (trees_of_arms arms) line condition xs) (filled-arm (first_line arms line) (trees_of_arms arms) line condition) (spell_last last ++ piece end (f.Keyword keyword.EndIf) ∷ rest) (omega (arith, h))
       ∙ reads-last-arm deep last (first_line arms line) (trees_of_arms arms) line condition (trees b) end k next rest (omega (arith, h)) e
   reads deep (choice line value xs last end) k next rest t h e =
-      run-open deep k line (f.Case value) (g.Choice line value []) ((spell_alternatives xs ++ (spell_last last ++ piece end f.EndCase ∷ [])) ++ rest) (role-of-statement (place_of k) m.Case Opens t refl) refl refl (omega (arith, h))
-      ∙ ap (run deep (g.Choice line value [] ∷ k)) (two-end (spell_alternatives xs) (spell_last last) (piece end f.EndCase) rest)
-      ∙ reads-alternatives deep xs line value k (spell_last last ++ piece end f.EndCase ∷ rest) (omega (arith, h))
+      run-open deep k line (f.Guarded guard.Case value) (g.Choice line value []) ((spell_alternatives xs ++ (spell_last last ++ piece end (f.Keyword keyword.EndCase) ∷ [])) ++ rest) (role-of-statement (place_of k) m.Case Opens t refl) refl refl (omega (arith, h))
+      ∙ ap (run deep (g.Choice line value [] ∷ k)) (two-end (spell_alternatives xs) (spell_last last) (piece end (f.Keyword keyword.EndCase)) rest)
+      ∙ reads-alternatives deep xs line value k (spell_last last ++ piece end (f.Keyword keyword.EndCase) ∷ rest) (omega (arith, h))
       ∙ reads-last-choice deep last line value (trees_of_alternatives xs) end k next rest (omega (arith, h)) e
   reads deep (over line index body) k next rest t h e =
       run-open deep k line (f.Forall index) (g.Over line index) (spell body ++ rest) (role-of-statement (place_of k) m.Forall Opens t refl) refl refl (omega (arith, h))
       ∙ reads deep body (g.Over line index ∷ k) next rest refl (omega (arith, h)) e
   reads deep (as_long_as line condition body) k next rest t h e =
-      run-open deep k line (f.While condition) (g.AsLongAs line condition) (spell body ++ rest) (role-of-statement (place_of k) m.While Opens t refl) refl refl (omega (arith, h))
+      run-open deep k line (f.Guarded guard.While condition) (g.AsLongAs line condition) (spell body ++ rest) (role-of-statement (place_of k) m.While Opens t refl) refl refl (omega (arith, h))
       ∙ reads deep body (g.AsLongAs line condition ∷ k) next rest refl (omega (arith, h)) e
   reads deep (repeated line b until condition) k next rest t h e =
-      run-open deep k line f.Repeat (g.Repeated line []) ((spell_block b ++ piece until (f.Until condition) ∷ []) ++ rest) (role-of-statement (place_of k) m.Repeat Opens t refl) refl refl (omega (arith, h))
-      ∙ ap (run deep (g.Repeated line [] ∷ k)) (one-end (spell_block b) (piece until (f.Until condition)) rest)
-      ∙ reads-block deep b k (λ xs. g.Repeated line xs) (filled-repeated line) (piece until (f.Until condition) ∷ rest) (omega (arith, h))
-      ∙ run-step deep (g.Repeated line (trees b) ∷ k) next (piece until (f.Until condition)) rest (step-role deep (g.Repeated line (trees b) ∷ k) (piece until (f.Until condition)) Closes next ends-repeated refl refl e)
+      run-open deep k line (f.Keyword keyword.Repeat) (g.Repeated line []) ((spell_block b ++ piece until (f.Guarded guard.Until condition) ∷ []) ++ rest) (role-of-statement (place_of k) m.Repeat Opens t refl) refl refl (omega (arith, h))
+      ∙ ap (run deep (g.Repeated line [] ∷ k)) (one-end (spell_block b) (piece until (f.Guarded guard.Until condition)) rest)
+      ∙ reads-block deep b k (λ xs. g.Repeated line xs) (filled-repeated line) (piece until (f.Guarded guard.Until condition) ∷ rest) (omega (arith, h))
+      ∙ run-step deep (g.Repeated line (trees b) ∷ k) next (piece until (f.Guarded guard.Until condition)) rest (step-role deep (g.Repeated line (trees b) ∷ k) (piece until (f.Guarded guard.Until condition)) Closes next ends-repeated refl refl e)
   reads deep (grouped line b end) k next rest t h e =
-      run-open deep k line f.Do (g.Grouped line []) ((spell_block b ++ piece end f.EndDo ∷ []) ++ rest) (role-of-statement (place_of k) m.Do Opens t refl) refl refl (omega (arith, h))
-      ∙ ap (run deep (g.Grouped line [] ∷ k)) (one-end (spell_block b) (piece end f.EndDo) rest)
-      ∙ reads-block deep b k (λ xs. g.Grouped line xs) (filled-grouped line) (piece end f.EndDo ∷ rest) (omega (arith, h))
-      ∙ run-step deep (g.Grouped line (trees b) ∷ k) next (piece end f.EndDo) rest (step-role deep (g.Grouped line (trees b) ∷ k) (piece end f.EndDo) Closes next ends-grouped refl refl e)
+      run-open deep k line (f.Keyword keyword.Do) (g.Grouped line []) ((spell_block b ++ piece end (f.Keyword keyword.EndDo) ∷ []) ++ rest) (role-of-statement (place_of k) m.Do Opens t refl) refl refl (omega (arith, h))
+      ∙ ap (run deep (g.Grouped line [] ∷ k)) (one-end (spell_block b) (piece end (f.Keyword keyword.EndDo)) rest)
+      ∙ reads-block deep b k (λ xs. g.Grouped line xs) (filled-grouped line) (piece end (f.Keyword keyword.EndDo) ∷ rest) (omega (arith, h))
+      ∙ run-step deep (g.Grouped line (trees b) ∷ k) next (piece end (f.Keyword keyword.EndDo)) rest (step-role deep (g.Grouped line (trees b) ∷ k) (piece end (f.Keyword keyword.EndDo)) Closes next ends-grouped refl refl e)
   reads deep (data_block line direction name rows end) k next rest t h e =
-      run-open deep k line (f.Initializations direction name) (g.Labelled line direction name []) ((spell_rows rows ++ piece end f.EndInitializations ∷ []) ++ rest) (role-of-statement (place_of k) m.Initializations Opens t refl) refl refl (omega (arith, h))
-      ∙ ap (run deep (g.Labelled line direction name [] ∷ k)) (one-end (spell_rows rows) (piece end f.EndInitializations) rest)
-      ∙ reads-rows deep rows k line direction name (piece end f.EndInitializations ∷ rest)
-      ∙ run-step deep (g.Labelled line direction name (label_groups rows) ∷ k) next (piece end f.EndInitializations) rest (step-role deep (g.Labelled line direction name (label_groups rows) ∷ k) (piece end f.EndInitializations) Closes next ends-labelled refl refl e)
+      run-open deep k line (f.Initializations direction name) (g.Labelled line direction name []) ((spell_rows rows ++ piece end (f.Keyword keyword.EndInitializations) ∷ []) ++ rest) (role-of-statement (place_of k) m.Initializations Opens t refl) refl refl (omega (arith, h))
+      ∙ ap (run deep (g.Labelled line direction name [] ∷ k)) (one-end (spell_rows rows) (piece end (f.Keyword keyword.EndInitializations)) rest)
+      ∙ reads-rows deep rows k line direction name (piece end (f.Keyword keyword.EndInitializations) ∷ rest)
+      ∙ run-step deep (g.Labelled line direction name (label_groups rows) ∷ k) next (piece end (f.Keyword keyword.EndInitializations)) rest (step-role deep (g.Labelled line direction name (label_groups rows) ∷ k) (piece end (f.Keyword keyword.EndInitializations)) Closes next ends-labelled refl refl e)
 
   reads-block : (deep : ℕ) (b : Block) (k : Stack) (fill : List Statement → Frame) → IsFilled fill → (rest : List PieceForm) → depth_block b + length k ≤ deep → run deep (fill [] ∷ k) (spell_block b ++ rest) ≡ run deep (fill (trees b) ∷ k) rest
   reads-block deep nothing k fill is rest h = refl
@@ -130,21 +132,21 @@ mutual
   -- up to the piece that begins an arm behind these
   reads-arms : (deep : ℕ) (arms : Arms) (line : ℕ) (condition : Expr) (k : Stack) (rest : List PieceForm) → Takes k → depth_arms arms + length k ≤ deep → length k ≤ deep → run deep k (spell_arms arms ++ piece line (arm_form arms condition) ∷ rest) ≡ run deep (g.Arm (first_line arms line) (trees_of_arms arms) line condition [] ∷ k) rest
   reads-arms deep no_arm line condition k rest t h n =
-      run-open deep k line (f.If condition) (g.Arm line [] line condition []) rest (role-of-statement (place_of k) m.If Opens t refl) refl refl n
+      run-open deep k line (f.Guarded guard.If condition) (g.Arm line [] line condition []) rest (role-of-statement (place_of k) m.If Opens t refl) refl refl n
   reads-arms deep (arm before l c b) line condition k rest t h n =
-      ap (run deep k) (append_assoc (spell_arms before) (piece l (arm_form before c) ∷ spell_block b) (piece line (f.Elif condition) ∷ rest))
-      ∙ reads-arms deep before l c k (spell_block b ++ piece line (f.Elif condition) ∷ rest) t (omega (arith, h)) n
-      ∙ reads-block deep b k (λ xs. g.Arm (first_line before l) (trees_of_arms before) l c xs) (filled-arm (first_line before l) (trees_of_arms before) l c) (piece line (f.Elif condition) ∷ rest) (omega (arith, h))
-      ∙ run-step deep (g.Arm (first_line before l) (trees_of_arms before) l c (trees b) ∷ k) (g.Arm (first_line before l) (trees_of_arms before ++ arm_of l c (trees b) ∷ []) line condition [] ∷ k) (piece line (f.Elif condition)) rest (elif-step deep k (first_line before l) (trees_of_arms before) l c (trees b) line condition)
+      ap (run deep k) (append_assoc (spell_arms before) (piece l (arm_form before c) ∷ spell_block b) (piece line (f.Guarded guard.Elif condition) ∷ rest))
+      ∙ reads-arms deep before l c k (spell_block b ++ piece line (f.Guarded guard.Elif condition) ∷ rest) t (omega (arith, h)) n
+      ∙ reads-block deep b k (λ xs. g.Arm (first_line before l) (trees_of_arms before) l c xs) (filled-arm (first_line before l) (trees_of_arms before) l c) (piece line (f.Guarded guard.Elif condition) ∷ rest) (omega (arith, h))
+      ∙ run-step deep (g.Arm (first_line before l) (trees_of_arms before) l c (trees b) ∷ k) (g.Arm (first_line before l) (trees_of_arms before ++ arm_of l c (trees b) ∷ []) line condition [] ∷ k) (piece line (f.Guarded guard.Elif condition)) rest (elif-step deep k (first_line before l) (trees_of_arms before) l c (trees b) line condition)
 
   -- behind the last arm
-  reads-last-arm : (deep : ℕ) (last : Last) (first : ℕ) (arms : List (Arm Statement)) (l : ℕ) (c : Expr) (body : List Statement) (end : ℕ) (k next : Stack) (rest : List PieceForm) → depth_last last + length k ≤ deep → add_statement (s.If first (arms ++ arm_of l c body ∷ []) (trees_of_last last)) k ≡ Some next → run deep (g.Arm first arms l c body ∷ k) (spell_last last ++ piece end f.EndIf ∷ rest) ≡ run deep next rest
+  reads-last-arm : (deep : ℕ) (last : Last) (first : ℕ) (arms : List (Arm Statement)) (l : ℕ) (c : Expr) (body : List Statement) (end : ℕ) (k next : Stack) (rest : List PieceForm) → depth_last last + length k ≤ deep → add_statement (s.If first (arms ++ arm_of l c body ∷ []) (trees_of_last last)) k ≡ Some next → run deep (g.Arm first arms l c body ∷ k) (spell_last last ++ piece end (f.Keyword keyword.EndIf) ∷ rest) ≡ run deep next rest
   reads-last-arm deep without first arms l c body end k next rest h e =
-      run-step deep (g.Arm first arms l c body ∷ k) next (piece end f.EndIf) rest (step-role deep (g.Arm first arms l c body ∷ k) (piece end f.EndIf) Closes next ends-arm refl refl e)
+      run-step deep (g.Arm first arms l c body ∷ k) next (piece end (f.Keyword keyword.EndIf)) rest (step-role deep (g.Arm first arms l c body ∷ k) (piece end (f.Keyword keyword.EndIf)) Closes next ends-arm refl refl e)
   reads-last-arm deep (otherwise line b) first arms l c body end k next rest h e =
-      run-step deep (g.Arm first arms l c body ∷ k) (g.Otherwise first (arms ++ arm_of l c body ∷ []) [] ∷ k) (piece line f.Else) (spell_block b ++ piece end f.EndIf ∷ rest) (else-step deep k first arms l c body line)
-      ∙ reads-block deep b k (λ xs. g.Otherwise first (arms ++ arm_of l c body ∷ []) xs) (filled-otherwise first (arms ++ arm_of l c body ∷ [])) (piece end f.EndIf ∷ rest) h
-      ∙ run-step deep (g.Otherwise first (arms ++ arm_of l c body ∷ []) (trees b) ∷ k) next (piece end f.EndIf) rest (step-role deep (g.Otherwise first (arms ++ arm_of l c body ∷ []) (trees b) ∷ k) (piece end f.EndIf) Closes next ends-otherwise refl refl e)
+      run-step deep (g.Arm first arms l c body ∷ k) (g.Otherwise first (arms ++ arm_of l c body ∷ []) [] ∷ k) (piece line (f.Keyword keyword.Else)) (spell_block b ++ piece end (f.Keyword keyword.EndIf) ∷ rest) (else-step deep k first arms l c body line)
+      ∙ reads-block deep b k (λ xs. g.Otherwise first (arms ++ arm_of l c body ∷ []) xs) (filled-otherwise first (arms ++ arm_of l c body ∷ [])) (piece end (f.Keyword keyword.EndIf) ∷ rest) h
+      ∙ run-step deep (g.Otherwise first (arms ++ arm_of l c body ∷ []) (trees b) ∷ k) next (piece end (f.Keyword keyword.EndIf)) rest (step-role deep (g.Otherwise first (arms ++ arm_of l c body ∷ []) (trees b) ∷ k) (piece end (f.Keyword keyword.EndIf)) Closes next ends-otherwise refl refl e)
 
   reads-alternatives : (deep : ℕ) (xs : Alternatives) (line : ℕ) (value : Expr) (k : Stack) (rest : List PieceForm) → depth_alternatives xs + length k ≤ deep → run deep (g.Choice line value [] ∷ k) (spell_alternatives xs ++ rest) ≡ run deep (g.Choice line value (trees_of_alternatives xs) ∷ k) rest
   reads-alternatives deep no_alternative line value k rest h = refl
@@ -155,10 +157,10 @@ mutual
       ∙ reads deep w (g.Chosen line value (trees_of_alternatives before) l labels ∷ k) (g.Choice line value (trees_of_alternatives before ++ alternative_of l labels (tree w) ∷ []) ∷ k) rest refl (omega (arith, h)) refl
 
   -- behind the last alternative
-  reads-last-choice : (deep : ℕ) (last : Last) (line : ℕ) (value : Expr) (ys : List (Alternative Statement)) (end : ℕ) (k next : Stack) (rest : List PieceForm) → depth_last last + length k ≤ deep → add_statement (s.Case line value ys (trees_of_last last)) k ≡ Some next → run deep (g.Choice line value ys ∷ k) (spell_last last ++ piece end f.EndCase ∷ rest) ≡ run deep next rest
+  reads-last-choice : (deep : ℕ) (last : Last) (line : ℕ) (value : Expr) (ys : List (Alternative Statement)) (end : ℕ) (k next : Stack) (rest : List PieceForm) → depth_last last + length k ≤ deep → add_statement (s.Case line value ys (trees_of_last last)) k ≡ Some next → run deep (g.Choice line value ys ∷ k) (spell_last last ++ piece end (f.Keyword keyword.EndCase) ∷ rest) ≡ run deep next rest
   reads-last-choice deep without line value ys end k next rest h e =
-      run-step deep (g.Choice line value ys ∷ k) next (piece end f.EndCase) rest (step-role deep (g.Choice line value ys ∷ k) (piece end f.EndCase) Closes next ends-choice refl refl e)
+      run-step deep (g.Choice line value ys ∷ k) next (piece end (f.Keyword keyword.EndCase)) rest (step-role deep (g.Choice line value ys ∷ k) (piece end (f.Keyword keyword.EndCase)) Closes next ends-choice refl refl e)
   reads-last-choice deep (otherwise l b) line value ys end k next rest h e =
-      run-step deep (g.Choice line value ys ∷ k) (g.ChoiceOtherwise line value ys [] ∷ k) (piece l f.Else) (spell_block b ++ piece end f.EndCase ∷ rest) (case-else-step deep k line value ys l)
-      ∙ reads-block deep b k (λ xs. g.ChoiceOtherwise line value ys xs) (filled-choice-otherwise line value ys) (piece end f.EndCase ∷ rest) h
-      ∙ run-step deep (g.ChoiceOtherwise line value ys (trees b) ∷ k) next (piece end f.EndCase) rest (step-role deep (g.ChoiceOtherwise line value ys (trees b) ∷ k) (piece end f.EndCase) Closes next ends-choice-otherwise refl refl e)
+      run-step deep (g.Choice line value ys ∷ k) (g.ChoiceOtherwise line value ys [] ∷ k) (piece l (f.Keyword keyword.Else)) (spell_block b ++ piece end (f.Keyword keyword.EndCase) ∷ rest) (case-else-step deep k line value ys l)
+      ∙ reads-block deep b k (λ xs. g.ChoiceOtherwise line value ys xs) (filled-choice-otherwise line value ys) (piece end (f.Keyword keyword.EndCase) ∷ rest) h
+      ∙ run-step deep (g.ChoiceOtherwise line value ys (trees b) ∷ k) next (piece end (f.Keyword keyword.EndCase)) rest (step-role deep (g.ChoiceOtherwise line value ys (trees b) ∷ k) (piece end (f.Keyword keyword.EndCase)) Closes next ends-choice-otherwise refl refl e)

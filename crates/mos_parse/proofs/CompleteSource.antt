@@ -20,6 +20,7 @@ use Rattle.mos_tree.specs.declared.source.Top.{Top}
 use Rattle.mos_tree.specs.declared.source.Top.TheVariants as t
 use Rattle.mos_tree.specs.declared.statement.Statement.{Statement}
 use Rattle.mos_parse.specs.declared.form.Form.TheVariants as f
+use Rattle.mos_parse.specs.declared.form.Keyword.TheVariants as keyword
 use Rattle.mos_parse.specs.declared.form.Mould.TheVariants as m
 use Rattle.mos_parse.specs.declared.form.PieceForm.{PieceForm}
 use Rattle.mos_parse.specs.declared.frame.Frame.{Frame}
@@ -95,7 +96,7 @@ variables-step : (deep : ℕ) (k : Stack) (l : ℕ) (xs : List Item) (line : ℕ
 unfolding step step_as role_at
 variables-step deep k l xs line names typ = refl
 
-record-step : (deep : ℕ) (k : Stack) (l : ℕ) (xs : List Item) (line : ℕ) (name : List ℕ) (fields : List FieldGroup) (end : ℕ) → step deep (g.Record line name fields ∷ g.Declarations l xs ∷ k) (piece end f.EndRecord) ≡ Ok (g.Declarations l (xs ++ i.Record line name fields ∷ []) ∷ k)
+record-step : (deep : ℕ) (k : Stack) (l : ℕ) (xs : List Item) (line : ℕ) (name : List ℕ) (fields : List FieldGroup) (end : ℕ) → step deep (g.Record line name fields ∷ g.Declarations l xs ∷ k) (piece end (f.Keyword keyword.EndRecord)) ≡ Ok (g.Declarations l (xs ++ i.Record line name fields ∷ []) ∷ k)
 unfolding step step_as role_at
 record-step deep k l xs line name fields end = refl
 
@@ -114,19 +115,19 @@ items-read deep (variables xs line names typ) k l rest h =
     ∙ items-read deep xs k l (piece line (f.Typed names typ) ∷ rest) h
     ∙ run-step deep (g.Declarations l (items_of xs) ∷ k) (g.Declarations l (items_of xs ++ i.Variables line names typ ∷ []) ∷ k) (piece line (f.Typed names typ)) rest (variables-step deep k l (items_of xs) line names typ)
 items-read deep (record_type xs line name fields end) k l rest h =
-    ap (run deep (g.Declarations l [] ∷ k)) (append_assoc (spell_items xs) (piece line (f.RecordOf name) ∷ (map spell_field fields ++ piece end f.EndRecord ∷ [])) rest ∙ ap (λ zs. spell_items xs ++ piece line (f.RecordOf name) ∷ zs) (one-end (map spell_field fields) (piece end f.EndRecord) rest))
-    ∙ items-read deep xs k l (piece line (f.RecordOf name) ∷ (map spell_field fields ++ piece end f.EndRecord ∷ rest)) (omega (arith, h))
-    ∙ run-open deep (g.Declarations l (items_of xs) ∷ k) line (f.RecordOf name) (g.Record line name []) (map spell_field fields ++ piece end f.EndRecord ∷ rest) record-role refl refl (omega (arith, h))
-    ∙ fields-read deep (g.Declarations l (items_of xs) ∷ k) line name [] fields (piece end f.EndRecord ∷ rest)
-    ∙ run-step deep (g.Record line name fields ∷ g.Declarations l (items_of xs) ∷ k) (g.Declarations l (items_of xs ++ i.Record line name fields ∷ []) ∷ k) (piece end f.EndRecord) rest (record-step deep k l (items_of xs) line name fields end)
+    ap (run deep (g.Declarations l [] ∷ k)) (append_assoc (spell_items xs) (piece line (f.RecordOf name) ∷ (map spell_field fields ++ piece end (f.Keyword keyword.EndRecord) ∷ [])) rest ∙ ap (λ zs. spell_items xs ++ piece line (f.RecordOf name) ∷ zs) (one-end (map spell_field fields) (piece end (f.Keyword keyword.EndRecord)) rest))
+    ∙ items-read deep xs k l (piece line (f.RecordOf name) ∷ (map spell_field fields ++ piece end (f.Keyword keyword.EndRecord) ∷ rest)) (omega (arith, h))
+    ∙ run-open deep (g.Declarations l (items_of xs) ∷ k) line (f.RecordOf name) (g.Record line name []) (map spell_field fields ++ piece end (f.Keyword keyword.EndRecord) ∷ rest) record-role refl refl (omega (arith, h))
+    ∙ fields-read deep (g.Declarations l (items_of xs) ∷ k) line name [] fields (piece end (f.Keyword keyword.EndRecord) ∷ rest)
+    ∙ run-step deep (g.Record line name fields ∷ g.Declarations l (items_of xs) ∷ k) (g.Declarations l (items_of xs ++ i.Record line name fields ∷ []) ∷ k) (piece end (f.Keyword keyword.EndRecord)) rest (record-step deep k l (items_of xs) line name fields end)
 
 -- a block of `declarations`, where one may stand
 declarations-read : (deep : ℕ) (line : ℕ) (xs : Items) (end : ℕ) (k next : Stack) (rest : List PieceForm) → role_at (place_of k) m.Declarations ≡ Some Opens → 1 + depth_items xs + length k ≤ deep + 1 → add_other (part.Declared (declared line xs)) k ≡ Some next → run deep k (spell_declarations line xs end ++ rest) ≡ run deep next rest
 declarations-read deep line xs end k next rest role h e =
-    run-open deep k line f.Declarations (g.Declarations line []) ((spell_items xs ++ piece end f.EndDeclarations ∷ []) ++ rest) role refl refl (omega (arith, h))
-    ∙ ap (run deep (g.Declarations line [] ∷ k)) (one-end (spell_items xs) (piece end f.EndDeclarations) rest)
-    ∙ items-read deep xs k line (piece end f.EndDeclarations ∷ rest) (omega (arith, h))
-    ∙ run-step deep (g.Declarations line (items_of xs) ∷ k) next (piece end f.EndDeclarations) rest (step-role deep (g.Declarations line (items_of xs) ∷ k) (piece end f.EndDeclarations) Closes next ends-declarations refl refl e)
+    run-open deep k line (f.Keyword keyword.Declarations) (g.Declarations line []) ((spell_items xs ++ piece end (f.Keyword keyword.EndDeclarations) ∷ []) ++ rest) role refl refl (omega (arith, h))
+    ∙ ap (run deep (g.Declarations line [] ∷ k)) (one-end (spell_items xs) (piece end (f.Keyword keyword.EndDeclarations)) rest)
+    ∙ items-read deep xs k line (piece end (f.Keyword keyword.EndDeclarations) ∷ rest) (omega (arith, h))
+    ∙ run-step deep (g.Declarations line (items_of xs) ∷ k) next (piece end (f.Keyword keyword.EndDeclarations)) rest (step-role deep (g.Declarations line (items_of xs) ∷ k) (piece end (f.Keyword keyword.EndDeclarations)) Closes next ends-declarations refl refl e)
 
 -- ---- routines
 
@@ -209,11 +210,11 @@ tops-read deep no_top l name heads rest h = refl
 tops-read deep (sets xs line ps end) l name heads rest h =
     let k : Stack = model l name heads (tops_of xs) ∷ [] in
     let next : Stack = model l name heads (tops_of xs ++ t.Parameters line ps ∷ []) ∷ [] in
-    ap (run deep (g.Heads l name heads ∷ [])) (append_assoc (spell_tops xs) (piece line f.Parameters ∷ (map spell_parameter ps ++ piece end f.EndParameters ∷ [])) rest ∙ ap (λ zs. spell_tops xs ++ piece line f.Parameters ∷ zs) (one-end (map spell_parameter ps) (piece end f.EndParameters) rest))
-    ∙ tops-read deep xs l name heads (piece line f.Parameters ∷ (map spell_parameter ps ++ piece end f.EndParameters ∷ rest)) (omega (arith, h))
-    ∙ run-open deep k line f.Parameters (g.Parameters line []) (map spell_parameter ps ++ piece end f.EndParameters ∷ rest) (role-parameters l name heads (tops_of xs)) refl refl (omega (arith, h))
-    ∙ parameters-read deep k line [] ps (piece end f.EndParameters ∷ rest)
-    ∙ run-step deep (g.Parameters line ps ∷ k) next (piece end f.EndParameters) rest (step-role deep (g.Parameters line ps ∷ k) (piece end f.EndParameters) Closes next ends-parameters refl refl (model-others l name heads (tops_of xs) (t.Parameters line ps) []))
+    ap (run deep (g.Heads l name heads ∷ [])) (append_assoc (spell_tops xs) (piece line (f.Keyword keyword.Parameters) ∷ (map spell_parameter ps ++ piece end (f.Keyword keyword.EndParameters) ∷ [])) rest ∙ ap (λ zs. spell_tops xs ++ piece line (f.Keyword keyword.Parameters) ∷ zs) (one-end (map spell_parameter ps) (piece end (f.Keyword keyword.EndParameters)) rest))
+    ∙ tops-read deep xs l name heads (piece line (f.Keyword keyword.Parameters) ∷ (map spell_parameter ps ++ piece end (f.Keyword keyword.EndParameters) ∷ rest)) (omega (arith, h))
+    ∙ run-open deep k line (f.Keyword keyword.Parameters) (g.Parameters line []) (map spell_parameter ps ++ piece end (f.Keyword keyword.EndParameters) ∷ rest) (role-parameters l name heads (tops_of xs)) refl refl (omega (arith, h))
+    ∙ parameters-read deep k line [] ps (piece end (f.Keyword keyword.EndParameters) ∷ rest)
+    ∙ run-step deep (g.Parameters line ps ∷ k) next (piece end (f.Keyword keyword.EndParameters)) rest (step-role deep (g.Parameters line ps ∷ k) (piece end (f.Keyword keyword.EndParameters)) Closes next ends-parameters refl refl (model-others l name heads (tops_of xs) (t.Parameters line ps) []))
 tops-read deep (declares_top xs line items end) l name heads rest h =
     let k : Stack = model l name heads (tops_of xs) ∷ [] in
     ap (run deep (g.Heads l name heads ∷ [])) (append_assoc (spell_tops xs) (spell_declarations line items end) rest)
@@ -247,7 +248,7 @@ model-role : role_at p.Start m.Model ≡ Some Opens
 unfolding role_at
 model-role = refl
 
-end-read : (deep : ℕ) (l : ℕ) (name : ModelName) (heads : List Head) (xs : List Top) (end : ℕ) → run deep (model l name heads xs ∷ []) (piece end f.EndModel ∷ []) ≡ done (record { line = l; name = name; heads = heads; tops = xs })
+end-read : (deep : ℕ) (l : ℕ) (name : ModelName) (heads : List Head) (xs : List Top) (end : ℕ) → run deep (model l name heads xs ∷ []) (piece end (f.Keyword keyword.EndModel) ∷ []) ≡ done (record { line = l; name = name; heads = heads; tops = xs })
 unfolding step step_as role_at
 end-read deep l name heads [] end = refl
 end-read deep l name heads (x ∷ xs) end = refl
@@ -255,7 +256,7 @@ end-read deep l name heads (x ∷ xs) end = refl
 -- the pieces of a source within the limits give its tree
 pub source-read : (deep : ℕ) (x : Source) → AreAllowed x.heads → depth_tops x.tops ≤ deep → run deep [] (spell_source x) ≡ done (tree_of x)
 source-read deep x a h =
-    run-open deep [] x.line (f.Model x.name) (g.Heads x.line x.name []) (map spell_head x.heads ++ (spell_tops x.tops ++ piece x.end f.EndModel ∷ [])) model-role refl refl (omega arith)
-    ∙ heads-read deep [] x.line x.name [] x.heads (spell_tops x.tops ++ piece x.end f.EndModel ∷ []) a
-    ∙ tops-read deep x.tops x.line x.name x.heads (piece x.end f.EndModel ∷ []) h
+    run-open deep [] x.line (f.Model x.name) (g.Heads x.line x.name []) (map spell_head x.heads ++ (spell_tops x.tops ++ piece x.end (f.Keyword keyword.EndModel) ∷ [])) model-role refl refl (omega arith)
+    ∙ heads-read deep [] x.line x.name [] x.heads (spell_tops x.tops ++ piece x.end (f.Keyword keyword.EndModel) ∷ []) a
+    ∙ tops-read deep x.tops x.line x.name x.heads (piece x.end (f.Keyword keyword.EndModel) ∷ []) h
     ∙ end-read deep x.line x.name x.heads (tops_of x.tops) x.end

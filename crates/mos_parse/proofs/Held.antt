@@ -16,6 +16,8 @@ use Rattle.mos_tree.specs.declared.source.RoutinePart.{RoutinePart}
 use Rattle.mos_tree.specs.declared.source.Top.{Top}
 use Rattle.mos_tree.specs.declared.source.Tree.{Tree}
 use Rattle.mos_parse.specs.declared.form.Form.TheVariants as f
+use Rattle.mos_parse.specs.declared.form.Guard.TheVariants as guard
+use Rattle.mos_parse.specs.declared.form.Keyword.TheVariants as keyword
 use Rattle.mos_parse.specs.declared.form.PieceForm.{PieceForm}
 use Rattle.mos_parse.specs.declared.frame.Frame.{Frame}
 use Rattle.mos_parse.specs.declared.frame.Frame.TheVariants as g
@@ -49,14 +51,14 @@ is_declarations _ = false
 pub record HeldParameters (deep : ℕ) (k : Stack) (l : ℕ) (xs : List Parameter) (own : List PieceForm) : Type 0 where
   pub there : is_model (place_of k) ≡ true
   pub fits : length k ≤ deep
-  pub exact : own ≡ piece l f.Parameters ∷ map spell_parameter xs
+  pub exact : own ≡ piece l (f.Keyword keyword.Parameters) ∷ map spell_parameter xs
 
 pub record HeldDeclarations (deep : ℕ) (k : Stack) (l : ℕ) (xs : List Item) (own : List PieceForm) : Type 0 where
   pub there : takes_declarations (place_of k) ≡ true
   pub items : Items
   pub are : xs ≡ items_of items
   pub fits : depth_items items + length k ≤ deep
-  pub exact : own ≡ piece l f.Declarations ∷ spell_items items
+  pub exact : own ≡ piece l (f.Keyword keyword.Declarations) ∷ spell_items items
 
 pub record HeldRecord (deep : ℕ) (k : Stack) (l : ℕ) (name : List ℕ) (xs : List FieldGroup) (own : List PieceForm) : Type 0 where
   pub there : is_declarations (place_of k) ≡ true
@@ -95,21 +97,21 @@ pub record HeldOtherwise (deep : ℕ) (k : Stack) (first : ℕ) (arms : List (Ar
   pub fits : depth_arms before + length k ≤ deep
   pub fits_guarded : depth_block guarded + length k ≤ deep
   pub fits_body : depth_block block + length k ≤ deep
-  pub exact : own ≡ (spell_arms before ++ piece last (arm_form before condition) ∷ spell_block guarded) ++ piece at f.Else ∷ spell_block block
+  pub exact : own ≡ (spell_arms before ++ piece last (arm_form before condition) ∷ spell_block guarded) ++ piece at (f.Keyword keyword.Else) ∷ spell_block block
 
 pub record HeldChoice (deep : ℕ) (k : Stack) (l : ℕ) (v : Expr) (xs : List (Alternative Statement)) (own : List PieceForm) : Type 0 where
   pub there : takes_statements (place_of k) ≡ true
   pub chosen : Alternatives
   pub are : xs ≡ trees_of_alternatives chosen
   pub fits : depth_alternatives chosen + length k ≤ deep
-  pub exact : own ≡ piece l (f.Case v) ∷ spell_alternatives chosen
+  pub exact : own ≡ piece l (f.Guarded guard.Case v) ∷ spell_alternatives chosen
 
 pub record HeldChosen (deep : ℕ) (k : Stack) (l : ℕ) (v : Expr) (xs : List (Alternative Statement)) (at : ℕ) (labels : List Expr) (own : List PieceForm) : Type 0 where
   pub there : takes_statements (place_of k) ≡ true
   pub chosen : Alternatives
   pub are : xs ≡ trees_of_alternatives chosen
   pub fits : depth_alternatives chosen + length k ≤ deep
-  pub exact : own ≡ piece l (f.Case v) ∷ (spell_alternatives chosen ++ piece at (f.Alternative labels) ∷ [])
+  pub exact : own ≡ piece l (f.Guarded guard.Case v) ∷ (spell_alternatives chosen ++ piece at (f.Alternative labels) ∷ [])
 
 pub record HeldChoiceOtherwise (deep : ℕ) (k : Stack) (l : ℕ) (v : Expr) (xs : List (Alternative Statement)) (body : List Statement) (own : List PieceForm) : Type 0 where
   pub there : takes_statements (place_of k) ≡ true
@@ -120,7 +122,7 @@ pub record HeldChoiceOtherwise (deep : ℕ) (k : Stack) (l : ℕ) (v : Expr) (xs
   pub body_is : body ≡ trees block
   pub fits : depth_alternatives chosen + length k ≤ deep
   pub fits_body : depth_block block + length k ≤ deep
-  pub exact : own ≡ piece l (f.Case v) ∷ (spell_alternatives chosen ++ piece at f.Else ∷ spell_block block)
+  pub exact : own ≡ piece l (f.Guarded guard.Case v) ∷ (spell_alternatives chosen ++ piece at (f.Keyword keyword.Else) ∷ spell_block block)
 
 pub record HeldLoop (deep : ℕ) (k : Stack) (x : PieceForm) (own : List PieceForm) : Type 0 where
   pub there : takes_statements (place_of k) ≡ true
@@ -153,9 +155,9 @@ HeldOwn deep (g.Choice l v xs) k own = HeldChoice deep k l v xs own
 HeldOwn deep (g.Chosen l v xs at labels) k own = HeldChosen deep k l v xs at labels own
 HeldOwn deep (g.ChoiceOtherwise l v xs body) k own = HeldChoiceOtherwise deep k l v xs body own
 HeldOwn deep (g.Over l index) k own = HeldLoop deep k (piece l (f.Forall index)) own
-HeldOwn deep (g.AsLongAs l c) k own = HeldLoop deep k (piece l (f.While c)) own
-HeldOwn deep (g.Repeated l body) k own = HeldBlock deep k (piece l f.Repeat) body own
-HeldOwn deep (g.Grouped l body) k own = HeldBlock deep k (piece l f.Do) body own
+HeldOwn deep (g.AsLongAs l c) k own = HeldLoop deep k (piece l (f.Guarded guard.While c)) own
+HeldOwn deep (g.Repeated l body) k own = HeldBlock deep k (piece l (f.Keyword keyword.Repeat)) body own
+HeldOwn deep (g.Grouped l body) k own = HeldBlock deep k (piece l (f.Keyword keyword.Do)) body own
 HeldOwn deep (g.Labelled l d e rows) k own = HeldRows deep k (piece l (f.Initializations d e)) rows own
 HeldOwn deep _ k own = ⊥
 

@@ -1,8 +1,12 @@
 pub mod Complete
 pub mod CompleteSource
+pub mod Completing
 pub mod Ends
 pub mod Held
+pub mod Naming
+pub mod Progress
 pub mod Roles
 pub mod Sound
 pub mod SoundStep
 pub mod Steps
+pub mod Whole

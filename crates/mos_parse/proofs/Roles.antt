@@ -3,6 +3,8 @@ use Rattle.mos_tree.specs.declared.expr.Expr.{Expr}
 use Rattle.mos_tree.specs.declared.declaration.BaseType.{BaseType}
 use Rattle.mos_parse.specs.declared.form.Form.{Form}
 use Rattle.mos_parse.specs.declared.form.Form.TheVariants as f
+use Rattle.mos_parse.specs.declared.form.Guard.TheVariants as guard
+use Rattle.mos_parse.specs.declared.form.Keyword.TheVariants as keyword
 use Rattle.mos_parse.specs.declared.form.Mould.{Mould}
 use Rattle.mos_parse.specs.declared.form.Mould.TheVariants as m
 use Rattle.mos_parse.specs.declared.frame.Frame.{Frame}
@@ -103,107 +105,135 @@ routine-there place (Some t) r = function-there place r
 
 -- ---- what closes where
 
-closes-heads : (form : Form) → own_limit form ≡ None → role_at p.Heads (mould_of form) ≡ Some Closes → form ≡ f.EndModel
+closes-heads : (form : Form) → own_limit form ≡ None → role_at p.Heads (mould_of form) ≡ Some Closes → form ≡ (f.Keyword keyword.EndModel)
 unfolding role_at
-closes-heads f.EndModel o r = refl
+closes-heads (f.Keyword keyword.EndModel) o r = refl
 closes-heads (f.Routine n fs None) o r = let no : ⊥ = cc in absurd no
+closes-heads (f.Keyword keyword.Else) o r = let no : ⊥ = cc in absurd no
+closes-heads (f.Guarded guard.If x) o r = let no : ⊥ = cc in absurd no
 closes-heads (f.Routine n fs (Some t)) o r = let no : ⊥ = cc in absurd no
 closes-heads _ o r = let no : ⊥ = cc in absurd no
 
-closes-tops : (form : Form) → own_limit form ≡ None → role_at p.Tops (mould_of form) ≡ Some Closes → form ≡ f.EndModel
+closes-tops : (form : Form) → own_limit form ≡ None → role_at p.Tops (mould_of form) ≡ Some Closes → form ≡ (f.Keyword keyword.EndModel)
 unfolding role_at
-closes-tops f.EndModel o r = refl
+closes-tops (f.Keyword keyword.EndModel) o r = refl
 closes-tops (f.Routine n fs None) o r = let no : ⊥ = cc in absurd no
+closes-tops (f.Keyword keyword.Else) o r = let no : ⊥ = cc in absurd no
+closes-tops (f.Guarded guard.If x) o r = let no : ⊥ = cc in absurd no
 closes-tops (f.Routine n fs (Some t)) o r = let no : ⊥ = cc in absurd no
 closes-tops _ o r = let no : ⊥ = cc in absurd no
 
-pub closes-model : (place : Place) (form : Form) → is_model place ≡ true → own_limit form ≡ None → role_at place (mould_of form) ≡ Some Closes → form ≡ f.EndModel
+pub closes-model : (place : Place) (form : Form) → is_model place ≡ true → own_limit form ≡ None → role_at place (mould_of form) ≡ Some Closes → form ≡ (f.Keyword keyword.EndModel)
 unfolding role_at
 closes-model p.Heads form i o r = closes-heads form o r
 closes-model p.Tops form i o r = closes-tops form o r
 closes-model _ form i o r = let no : ⊥ = cc in absurd no
 
-pub closes-parameters : (form : Form) → own_limit form ≡ None → role_at p.Parameters (mould_of form) ≡ Some Closes → form ≡ f.EndParameters
+pub closes-parameters : (form : Form) → own_limit form ≡ None → role_at p.Parameters (mould_of form) ≡ Some Closes → form ≡ (f.Keyword keyword.EndParameters)
 unfolding role_at
-closes-parameters f.EndParameters o r = refl
+closes-parameters (f.Keyword keyword.EndParameters) o r = refl
 closes-parameters (f.Routine n fs None) o r = let no : ⊥ = cc in absurd no
+closes-parameters (f.Keyword keyword.Else) o r = let no : ⊥ = cc in absurd no
+closes-parameters (f.Guarded guard.If x) o r = let no : ⊥ = cc in absurd no
 closes-parameters (f.Routine n fs (Some t)) o r = let no : ⊥ = cc in absurd no
 closes-parameters _ o r = let no : ⊥ = cc in absurd no
 
-pub closes-declarations : (form : Form) → own_limit form ≡ None → role_at p.Declarations (mould_of form) ≡ Some Closes → form ≡ f.EndDeclarations
+pub closes-declarations : (form : Form) → own_limit form ≡ None → role_at p.Declarations (mould_of form) ≡ Some Closes → form ≡ (f.Keyword keyword.EndDeclarations)
 unfolding role_at
-closes-declarations f.EndDeclarations o r = refl
+closes-declarations (f.Keyword keyword.EndDeclarations) o r = refl
 closes-declarations (f.Routine n fs None) o r = let no : ⊥ = cc in absurd no
+closes-declarations (f.Keyword keyword.Else) o r = let no : ⊥ = cc in absurd no
+closes-declarations (f.Guarded guard.If x) o r = let no : ⊥ = cc in absurd no
 closes-declarations (f.Routine n fs (Some t)) o r = let no : ⊥ = cc in absurd no
 closes-declarations _ o r = let no : ⊥ = cc in absurd no
 
-pub closes-record : (form : Form) → own_limit form ≡ None → role_at p.Record (mould_of form) ≡ Some Closes → form ≡ f.EndRecord
+pub closes-record : (form : Form) → own_limit form ≡ None → role_at p.Record (mould_of form) ≡ Some Closes → form ≡ (f.Keyword keyword.EndRecord)
 unfolding role_at
-closes-record f.EndRecord o r = refl
+closes-record (f.Keyword keyword.EndRecord) o r = refl
 closes-record (f.Routine n fs None) o r = let no : ⊥ = cc in absurd no
+closes-record (f.Keyword keyword.Else) o r = let no : ⊥ = cc in absurd no
+closes-record (f.Guarded guard.If x) o r = let no : ⊥ = cc in absurd no
 closes-record (f.Routine n fs (Some t)) o r = let no : ⊥ = cc in absurd no
 closes-record _ o r = let no : ⊥ = cc in absurd no
 
-pub closes-procedure : (form : Form) → own_limit form ≡ None → role_at p.Procedure (mould_of form) ≡ Some Closes → form ≡ f.EndProcedure
+pub closes-procedure : (form : Form) → own_limit form ≡ None → role_at p.Procedure (mould_of form) ≡ Some Closes → form ≡ (f.Keyword keyword.EndProcedure)
 unfolding role_at
-closes-procedure f.EndProcedure o r = refl
+closes-procedure (f.Keyword keyword.EndProcedure) o r = refl
 closes-procedure (f.Routine n fs None) o r = let no : ⊥ = cc in absurd no
+closes-procedure (f.Keyword keyword.Else) o r = let no : ⊥ = cc in absurd no
+closes-procedure (f.Guarded guard.If x) o r = let no : ⊥ = cc in absurd no
 closes-procedure (f.Routine n fs (Some t)) o r = let no : ⊥ = cc in absurd no
 closes-procedure _ o r = let no : ⊥ = cc in absurd no
 
-pub closes-function : (form : Form) → own_limit form ≡ None → role_at p.Function (mould_of form) ≡ Some Closes → form ≡ f.EndFunction
+pub closes-function : (form : Form) → own_limit form ≡ None → role_at p.Function (mould_of form) ≡ Some Closes → form ≡ (f.Keyword keyword.EndFunction)
 unfolding role_at
-closes-function f.EndFunction o r = refl
+closes-function (f.Keyword keyword.EndFunction) o r = refl
 closes-function (f.Routine n fs None) o r = let no : ⊥ = cc in absurd no
+closes-function (f.Keyword keyword.Else) o r = let no : ⊥ = cc in absurd no
+closes-function (f.Guarded guard.If x) o r = let no : ⊥ = cc in absurd no
 closes-function (f.Routine n fs (Some t)) o r = let no : ⊥ = cc in absurd no
 closes-function _ o r = let no : ⊥ = cc in absurd no
 
-pub closes-arm : (form : Form) → own_limit form ≡ None → role_at p.Arm (mould_of form) ≡ Some Closes → form ≡ f.EndIf
+pub closes-arm : (form : Form) → own_limit form ≡ None → role_at p.Arm (mould_of form) ≡ Some Closes → form ≡ (f.Keyword keyword.EndIf)
 unfolding role_at
-closes-arm f.EndIf o r = refl
+closes-arm (f.Keyword keyword.EndIf) o r = refl
 closes-arm (f.Routine n fs None) o r = let no : ⊥ = cc in absurd no
+closes-arm (f.Keyword keyword.Else) o r = let no : ⊥ = cc in absurd no
+closes-arm (f.Guarded guard.If x) o r = let no : ⊥ = cc in absurd no
 closes-arm (f.Routine n fs (Some t)) o r = let no : ⊥ = cc in absurd no
 closes-arm _ o r = let no : ⊥ = cc in absurd no
 
-pub closes-otherwise : (form : Form) → own_limit form ≡ None → role_at p.Otherwise (mould_of form) ≡ Some Closes → form ≡ f.EndIf
+pub closes-otherwise : (form : Form) → own_limit form ≡ None → role_at p.Otherwise (mould_of form) ≡ Some Closes → form ≡ (f.Keyword keyword.EndIf)
 unfolding role_at
-closes-otherwise f.EndIf o r = refl
+closes-otherwise (f.Keyword keyword.EndIf) o r = refl
 closes-otherwise (f.Routine n fs None) o r = let no : ⊥ = cc in absurd no
+closes-otherwise (f.Keyword keyword.Else) o r = let no : ⊥ = cc in absurd no
+closes-otherwise (f.Guarded guard.If x) o r = let no : ⊥ = cc in absurd no
 closes-otherwise (f.Routine n fs (Some t)) o r = let no : ⊥ = cc in absurd no
 closes-otherwise _ o r = let no : ⊥ = cc in absurd no
 
-pub closes-choice : (form : Form) → own_limit form ≡ None → role_at p.Choice (mould_of form) ≡ Some Closes → form ≡ f.EndCase
+pub closes-choice : (form : Form) → own_limit form ≡ None → role_at p.Choice (mould_of form) ≡ Some Closes → form ≡ (f.Keyword keyword.EndCase)
 unfolding role_at
-closes-choice f.EndCase o r = refl
+closes-choice (f.Keyword keyword.EndCase) o r = refl
 closes-choice (f.Routine n fs None) o r = let no : ⊥ = cc in absurd no
+closes-choice (f.Keyword keyword.Else) o r = let no : ⊥ = cc in absurd no
+closes-choice (f.Guarded guard.If x) o r = let no : ⊥ = cc in absurd no
 closes-choice (f.Routine n fs (Some t)) o r = let no : ⊥ = cc in absurd no
 closes-choice _ o r = let no : ⊥ = cc in absurd no
 
-pub closes-choice-otherwise : (form : Form) → own_limit form ≡ None → role_at p.ChoiceOtherwise (mould_of form) ≡ Some Closes → form ≡ f.EndCase
+pub closes-choice-otherwise : (form : Form) → own_limit form ≡ None → role_at p.ChoiceOtherwise (mould_of form) ≡ Some Closes → form ≡ (f.Keyword keyword.EndCase)
 unfolding role_at
-closes-choice-otherwise f.EndCase o r = refl
+closes-choice-otherwise (f.Keyword keyword.EndCase) o r = refl
 closes-choice-otherwise (f.Routine n fs None) o r = let no : ⊥ = cc in absurd no
+closes-choice-otherwise (f.Keyword keyword.Else) o r = let no : ⊥ = cc in absurd no
+closes-choice-otherwise (f.Guarded guard.If x) o r = let no : ⊥ = cc in absurd no
 closes-choice-otherwise (f.Routine n fs (Some t)) o r = let no : ⊥ = cc in absurd no
 closes-choice-otherwise _ o r = let no : ⊥ = cc in absurd no
 
-pub closes-grouped : (form : Form) → own_limit form ≡ None → role_at p.Grouped (mould_of form) ≡ Some Closes → form ≡ f.EndDo
+pub closes-grouped : (form : Form) → own_limit form ≡ None → role_at p.Grouped (mould_of form) ≡ Some Closes → form ≡ (f.Keyword keyword.EndDo)
 unfolding role_at
-closes-grouped f.EndDo o r = refl
+closes-grouped (f.Keyword keyword.EndDo) o r = refl
 closes-grouped (f.Routine n fs None) o r = let no : ⊥ = cc in absurd no
+closes-grouped (f.Keyword keyword.Else) o r = let no : ⊥ = cc in absurd no
+closes-grouped (f.Guarded guard.If x) o r = let no : ⊥ = cc in absurd no
 closes-grouped (f.Routine n fs (Some t)) o r = let no : ⊥ = cc in absurd no
 closes-grouped _ o r = let no : ⊥ = cc in absurd no
 
-pub closes-labelled : (form : Form) → own_limit form ≡ None → role_at p.Labelled (mould_of form) ≡ Some Closes → form ≡ f.EndInitializations
+pub closes-labelled : (form : Form) → own_limit form ≡ None → role_at p.Labelled (mould_of form) ≡ Some Closes → form ≡ (f.Keyword keyword.EndInitializations)
 unfolding role_at
-closes-labelled f.EndInitializations o r = refl
+closes-labelled (f.Keyword keyword.EndInitializations) o r = refl
 closes-labelled (f.Routine n fs None) o r = let no : ⊥ = cc in absurd no
+closes-labelled (f.Keyword keyword.Else) o r = let no : ⊥ = cc in absurd no
+closes-labelled (f.Guarded guard.If x) o r = let no : ⊥ = cc in absurd no
 closes-labelled (f.Routine n fs (Some t)) o r = let no : ⊥ = cc in absurd no
 closes-labelled _ o r = let no : ⊥ = cc in absurd no
 
-pub closes-repeated : (form : Form) → own_limit form ≡ None → role_at p.Repeated (mould_of form) ≡ Some Closes → (c : Expr) × (form ≡ f.Until c)
+pub closes-repeated : (form : Form) → own_limit form ≡ None → role_at p.Repeated (mould_of form) ≡ Some Closes → (c : Expr) × (form ≡ f.Guarded guard.Until c)
 unfolding role_at
-closes-repeated (f.Until c) o r = (c, refl)
+closes-repeated (f.Guarded guard.Until c) o r = (c, refl)
 closes-repeated (f.Routine n fs None) o r = let no : ⊥ = cc in absurd no
+closes-repeated (f.Keyword keyword.Else) o r = let no : ⊥ = cc in absurd no
+closes-repeated (f.Guarded guard.If x) o r = let no : ⊥ = cc in absurd no
 closes-repeated (f.Routine n fs (Some t)) o r = let no : ⊥ = cc in absurd no
 closes-repeated _ o r = let no : ⊥ = cc in absurd no
 

@@ -10,6 +10,8 @@ use Rattle.mos_tree.specs.declared.source.Top.{Top}
 use Rattle.mos_tree.specs.declared.source.Top.TheVariants as t
 use Rattle.mos_tree.specs.declared.source.RoutinePart.TheVariants as r
 use Rattle.mos_parse.specs.declared.form.Form.TheVariants as f
+use Rattle.mos_parse.specs.declared.form.Guard.TheVariants as guard
+use Rattle.mos_parse.specs.declared.form.Keyword.TheVariants as keyword
 use Rattle.mos_parse.specs.declared.form.PieceForm.{PieceForm}
 use Rattle.mos_parse.specs.declared.frame.Frame.{Frame}
 use Rattle.mos_parse.specs.declared.frame.Frame.TheVariants as g
@@ -92,7 +94,7 @@ added deep (g.Otherwise first arms body ∷ k) next before w h d e =
       fits = h.4.fits;
       fits_guarded = h.4.fits_guarded;
       fits_body = omega (arith, d, h.4.fits_body);
-      exact = rw h.4.exact (append_assoc (spell_arms h.4.before ++ piece h.4.last (arm_form h.4.before h.4.condition) ∷ spell_block h.4.guarded) (piece h.4.at f.Else ∷ spell_block h.4.block) (spell w));
+      exact = rw h.4.exact (append_assoc (spell_arms h.4.before ++ piece h.4.last (arm_form h.4.before h.4.condition) ∷ spell_block h.4.guarded) (piece h.4.at (f.Keyword keyword.Else) ∷ spell_block h.4.block) (spell w));
     }))
 added deep (g.Chosen l v xs at labels ∷ k) next before w h d e =
     moved deep (g.Choice l v (xs ++ alternative_of at labels (tree w) ∷ []) ∷ k) next (before ++ spell w) e
@@ -102,7 +104,7 @@ added deep (g.Chosen l v xs at labels ∷ k) next before w h d e =
       chosen = alternative h.4.chosen at labels w;
       are = ap (λ z. z ++ alternative_of at labels (tree w) ∷ []) h.4.are;
       fits = omega (arith, d, h.4.fits);
-      exact = rw h.4.exact (ap (λ z. piece l (f.Case v) ∷ z) (one-end (spell_alternatives h.4.chosen) (piece at (f.Alternative labels)) (spell w)));
+      exact = rw h.4.exact (ap (λ z. piece l (f.Guarded guard.Case v) ∷ z) (one-end (spell_alternatives h.4.chosen) (piece at (f.Alternative labels)) (spell w)));
     }))
 added deep (g.ChoiceOtherwise l v xs body ∷ k) next before w h d e =
     moved deep (g.ChoiceOtherwise l v xs (body ++ tree w ∷ []) ∷ k) next (before ++ spell w) e
@@ -116,15 +118,15 @@ added deep (g.ChoiceOtherwise l v xs body ∷ k) next before w h d e =
       body_is = ap (λ z. z ++ tree w ∷ []) h.4.body_is;
       fits = h.4.fits;
       fits_body = omega (arith, d, h.4.fits_body);
-      exact = rw h.4.exact (ap (λ z. piece l (f.Case v) ∷ z) (append_assoc (spell_alternatives h.4.chosen) (piece h.4.at f.Else ∷ spell_block h.4.block) (spell w)));
+      exact = rw h.4.exact (ap (λ z. piece l (f.Guarded guard.Case v) ∷ z) (append_assoc (spell_alternatives h.4.chosen) (piece h.4.at (f.Keyword keyword.Else) ∷ spell_block h.4.block) (spell w)));
     }))
 added deep (g.Over l index ∷ k) next before w h d e =
     respelled deep next (h.0 ++ piece l (f.Forall index) ∷ spell w) (before ++ spell w)
     (sym (ap (λ z. z ++ spell w) (h.3 ∙ ap (λ o. h.0 ++ o) h.4.exact) ∙ one-end h.0 (piece l (f.Forall index)) (spell w)))
     (added deep k next h.0 (over l index w) h.2 (omega (arith, d)) e)
 added deep (g.AsLongAs l c ∷ k) next before w h d e =
-    respelled deep next (h.0 ++ piece l (f.While c) ∷ spell w) (before ++ spell w)
-    (sym (ap (λ z. z ++ spell w) (h.3 ∙ ap (λ o. h.0 ++ o) h.4.exact) ∙ one-end h.0 (piece l (f.While c)) (spell w)))
+    respelled deep next (h.0 ++ piece l (f.Guarded guard.While c) ∷ spell w) (before ++ spell w)
+    (sym (ap (λ z. z ++ spell w) (h.3 ∙ ap (λ o. h.0 ++ o) h.4.exact) ∙ one-end h.0 (piece l (f.Guarded guard.While c)) (spell w)))
     (added deep k next h.0 (as_long_as l c w) h.2 (omega (arith, d)) e)
 added deep (g.Repeated l body ∷ k) next before w h d e =
     moved deep (g.Repeated l (body ++ tree w ∷ []) ∷ k) next (before ++ spell w) e
@@ -187,10 +189,10 @@ added-declared deep (g.Routine heading xs ∷ k) next before line items end h d 
     (record { there = h.4.there; parts = declares h.4.parts line items end; are = ap (λ z. z ++ r.Declarations (declared line items) ∷ []) h.4.are; fits = omega (arith, d, h.4.fits); exact = rw h.4.exact refl }))
 added-declared deep (_ ∷ k) next before line items end h d e = let no : ⊥ = cc in absurd no
 
-pub added-record : (deep : ℕ) (k next : Stack) (before : List PieceForm) (line : ℕ) (name : List ℕ) (fields : List FieldGroup) (end : ℕ) → Holds deep k before → length k ≤ deep → add_other (part.Record (i.Record line name fields)) k ≡ some_stack next → Holds deep next (before ++ piece line (f.RecordOf name) ∷ (map spell_field fields ++ piece end f.EndRecord ∷ []))
+pub added-record : (deep : ℕ) (k next : Stack) (before : List PieceForm) (line : ℕ) (name : List ℕ) (fields : List FieldGroup) (end : ℕ) → Holds deep k before → length k ≤ deep → add_other (part.Record (i.Record line name fields)) k ≡ some_stack next → Holds deep next (before ++ piece line (f.RecordOf name) ∷ (map spell_field fields ++ piece end (f.Keyword keyword.EndRecord) ∷ []))
 added-record deep [] next before line name fields end h d e = let no : ⊥ = cc in absurd no
 added-record deep (g.Declarations l xs ∷ k) next before line name fields end h d e =
-    moved deep (g.Declarations l (xs ++ i.Record line name fields ∷ []) ∷ k) next (before ++ piece line (f.RecordOf name) ∷ (map spell_field fields ++ piece end f.EndRecord ∷ [])) e
-    (over-more deep (g.Declarations l xs) (g.Declarations l (xs ++ i.Record line name fields ∷ [])) k before (piece line (f.RecordOf name) ∷ (map spell_field fields ++ piece end f.EndRecord ∷ [])) h
+    moved deep (g.Declarations l (xs ++ i.Record line name fields ∷ []) ∷ k) next (before ++ piece line (f.RecordOf name) ∷ (map spell_field fields ++ piece end (f.Keyword keyword.EndRecord) ∷ [])) e
+    (over-more deep (g.Declarations l xs) (g.Declarations l (xs ++ i.Record line name fields ∷ [])) k before (piece line (f.RecordOf name) ∷ (map spell_field fields ++ piece end (f.Keyword keyword.EndRecord) ∷ [])) h
     (record { there = h.4.there; items = record_type h.4.items line name fields end; are = ap (λ z. z ++ i.Record line name fields ∷ []) h.4.are; fits = omega (arith, d, h.4.fits); exact = rw h.4.exact refl }))
 added-record deep (_ ∷ k) next before line name fields end h d e = let no : ⊥ = cc in absurd no

@@ -27,6 +27,8 @@ use Rattle.mos_tree.specs.declared.statement.LabelGroup.{LabelGroup}
 use Rattle.mos_tree.specs.declared.statement.Direction.{Direction}
 use Rattle.mos_parse.specs.declared.form.Form.{Form}
 use Rattle.mos_parse.specs.declared.form.Form.TheVariants as f
+use Rattle.mos_parse.specs.declared.form.Guard.TheVariants as guard
+use Rattle.mos_parse.specs.declared.form.Keyword.TheVariants as keyword
 use Rattle.mos_parse.specs.declared.form.Mould.TheVariants as m
 use Rattle.mos_parse.specs.declared.form.PieceForm.{PieceForm}
 use Rattle.mos_parse.specs.declared.frame.Frame.{Frame}
@@ -55,12 +57,12 @@ sound-opens deep k line (f.Model name) next ps h r d e =
     let empty : ps ≡ [] = subst (λ z. Holds deep z ps) none h in
     moved deep (g.Heads line name [] ∷ k) next (ps ++ piece line (f.Model name) ∷ []) e
     (record { alone = none; allowed = tt; exact = rw empty refl })
-sound-opens deep k line f.Parameters next ps h r d e =
-    moved deep (g.Parameters line [] ∷ k) next (ps ++ piece line f.Parameters ∷ []) e
-    (opens-over deep k (g.Parameters line []) ps (piece line f.Parameters) h (record { there = parameters-there (place_of k) r; fits = d; exact = refl }))
-sound-opens deep k line f.Declarations next ps h r d e =
-    moved deep (g.Declarations line [] ∷ k) next (ps ++ piece line f.Declarations ∷ []) e
-    (opens-over deep k (g.Declarations line []) ps (piece line f.Declarations) h (record { there = declarations-there (place_of k) r; items = no_item; are = refl; fits = omega (arith, d); exact = refl }))
+sound-opens deep k line (f.Keyword keyword.Parameters) next ps h r d e =
+    moved deep (g.Parameters line [] ∷ k) next (ps ++ piece line (f.Keyword keyword.Parameters) ∷ []) e
+    (opens-over deep k (g.Parameters line []) ps (piece line (f.Keyword keyword.Parameters)) h (record { there = parameters-there (place_of k) r; fits = d; exact = refl }))
+sound-opens deep k line (f.Keyword keyword.Declarations) next ps h r d e =
+    moved deep (g.Declarations line [] ∷ k) next (ps ++ piece line (f.Keyword keyword.Declarations) ∷ []) e
+    (opens-over deep k (g.Declarations line []) ps (piece line (f.Keyword keyword.Declarations)) h (record { there = declarations-there (place_of k) r; items = no_item; are = refl; fits = omega (arith, d); exact = refl }))
 sound-opens deep k line (f.RecordOf name) next ps h r d e =
     moved deep (g.Record line name [] ∷ k) next (ps ++ piece line (f.RecordOf name) ∷ []) e
     (opens-over deep k (g.Record line name []) ps (piece line (f.RecordOf name)) h (record { there = record-there (place_of k) r; fits = d; exact = refl }))
@@ -68,24 +70,24 @@ sound-opens deep k line (f.Routine name formals result) next ps h r d e =
     let heading : Heading = record { line = line; name = name; formals = formals; result = result } in
     moved deep (g.Routine heading [] ∷ k) next (ps ++ piece line (f.Routine name formals result) ∷ []) e
     (opens-over deep k (g.Routine heading []) ps (piece line (f.Routine name formals result)) h (record { there = routine-there (place_of k) result r; parts = no_part; are = refl; fits = omega (arith, d); exact = refl }))
-sound-opens deep k line (f.If c) next ps h r d e =
-    moved deep (g.Arm line [] line c [] ∷ k) next (ps ++ piece line (f.If c) ∷ []) e
-    (opens-over deep k (g.Arm line [] line c []) ps (piece line (f.If c)) h (record { there = begins-takes (place_of k) m.If refl r; before = no_arm; block = nothing; line = refl; are = refl; body_is = refl; fits = omega (arith, d); fits_body = omega (arith, d); exact = refl }))
-sound-opens deep k line (f.Case v) next ps h r d e =
-    moved deep (g.Choice line v [] ∷ k) next (ps ++ piece line (f.Case v) ∷ []) e
-    (opens-over deep k (g.Choice line v []) ps (piece line (f.Case v)) h (record { there = begins-takes (place_of k) m.Case refl r; chosen = no_alternative; are = refl; fits = omega (arith, d); exact = refl }))
+sound-opens deep k line (f.Guarded guard.If c) next ps h r d e =
+    moved deep (g.Arm line [] line c [] ∷ k) next (ps ++ piece line (f.Guarded guard.If c) ∷ []) e
+    (opens-over deep k (g.Arm line [] line c []) ps (piece line (f.Guarded guard.If c)) h (record { there = begins-takes (place_of k) m.If refl r; before = no_arm; block = nothing; line = refl; are = refl; body_is = refl; fits = omega (arith, d); fits_body = omega (arith, d); exact = refl }))
+sound-opens deep k line (f.Guarded guard.Case v) next ps h r d e =
+    moved deep (g.Choice line v [] ∷ k) next (ps ++ piece line (f.Guarded guard.Case v) ∷ []) e
+    (opens-over deep k (g.Choice line v []) ps (piece line (f.Guarded guard.Case v)) h (record { there = begins-takes (place_of k) m.Case refl r; chosen = no_alternative; are = refl; fits = omega (arith, d); exact = refl }))
 sound-opens deep k line (f.Forall index) next ps h r d e =
     moved deep (g.Over line index ∷ k) next (ps ++ piece line (f.Forall index) ∷ []) e
     (opens-over deep k (g.Over line index) ps (piece line (f.Forall index)) h (record { there = begins-takes (place_of k) m.Forall refl r; fits = d; exact = refl }))
-sound-opens deep k line (f.While c) next ps h r d e =
-    moved deep (g.AsLongAs line c ∷ k) next (ps ++ piece line (f.While c) ∷ []) e
-    (opens-over deep k (g.AsLongAs line c) ps (piece line (f.While c)) h (record { there = begins-takes (place_of k) m.While refl r; fits = d; exact = refl }))
-sound-opens deep k line f.Repeat next ps h r d e =
-    moved deep (g.Repeated line [] ∷ k) next (ps ++ piece line f.Repeat ∷ []) e
-    (opens-over deep k (g.Repeated line []) ps (piece line f.Repeat) h (record { there = begins-takes (place_of k) m.Repeat refl r; block = nothing; body_is = refl; fits = omega (arith, d); exact = refl }))
-sound-opens deep k line f.Do next ps h r d e =
-    moved deep (g.Grouped line [] ∷ k) next (ps ++ piece line f.Do ∷ []) e
-    (opens-over deep k (g.Grouped line []) ps (piece line f.Do) h (record { there = begins-takes (place_of k) m.Do refl r; block = nothing; body_is = refl; fits = omega (arith, d); exact = refl }))
+sound-opens deep k line (f.Guarded guard.While c) next ps h r d e =
+    moved deep (g.AsLongAs line c ∷ k) next (ps ++ piece line (f.Guarded guard.While c) ∷ []) e
+    (opens-over deep k (g.AsLongAs line c) ps (piece line (f.Guarded guard.While c)) h (record { there = begins-takes (place_of k) m.While refl r; fits = d; exact = refl }))
+sound-opens deep k line (f.Keyword keyword.Repeat) next ps h r d e =
+    moved deep (g.Repeated line [] ∷ k) next (ps ++ piece line (f.Keyword keyword.Repeat) ∷ []) e
+    (opens-over deep k (g.Repeated line []) ps (piece line (f.Keyword keyword.Repeat)) h (record { there = begins-takes (place_of k) m.Repeat refl r; block = nothing; body_is = refl; fits = omega (arith, d); exact = refl }))
+sound-opens deep k line (f.Keyword keyword.Do) next ps h r d e =
+    moved deep (g.Grouped line [] ∷ k) next (ps ++ piece line (f.Keyword keyword.Do) ∷ []) e
+    (opens-over deep k (g.Grouped line []) ps (piece line (f.Keyword keyword.Do)) h (record { there = begins-takes (place_of k) m.Do refl r; block = nothing; body_is = refl; fits = omega (arith, d); exact = refl }))
 sound-opens deep k line (f.Initializations direction name) next ps h r d e =
     moved deep (g.Labelled line direction name [] ∷ k) next (ps ++ piece line (f.Initializations direction name) ∷ []) e
     (opens-over deep k (g.Labelled line direction name []) ps (piece line (f.Initializations direction name)) h (record { there = begins-takes (place_of k) m.Initializations refl r; rows = no_row; are = refl; fits = d; exact = refl }))
@@ -137,7 +139,7 @@ goes-parameters deep l xs k line (f.Definition name value) next ps held e =
     let x : Parameter = record { line = line; name = name; default = value } in
     moved deep (g.Parameters l (xs ++ x ∷ []) ∷ k) next (ps ++ piece line (f.Definition name value) ∷ []) e
     (over-more deep (g.Parameters l xs) (g.Parameters l (xs ++ x ∷ [])) k ps (piece line (f.Definition name value) ∷ []) held
-    (record { there = held.4.there; fits = held.4.fits; exact = rw held.4.exact (ap (λ z. piece l f.Parameters ∷ z) (sym (map-append spell_parameter xs (x ∷ [])))) }))
+    (record { there = held.4.there; fits = held.4.fits; exact = rw held.4.exact (ap (λ z. piece l (f.Keyword keyword.Parameters) ∷ z) (sym (map-append spell_parameter xs (x ∷ [])))) }))
 goes-parameters deep l xs k line _ next ps held e = let no : ⊥ = cc in absurd no
 
 goes-declarations : (deep l : ℕ) (xs : List Item) (k : Stack) (line : ℕ) (form : Form) (next : Stack) (ps : List PieceForm) → Holds deep (g.Declarations l xs ∷ k) ps → go_on line form (g.Declarations l xs ∷ k) ≡ some_stack next → Holds deep next (ps ++ piece line form ∷ [])
@@ -162,9 +164,9 @@ goes-record deep l name xs k line (f.Typed names typ) next ps held e =
 goes-record deep l name xs k line _ next ps held e = let no : ⊥ = cc in absurd no
 
 goes-arm : (deep first : ℕ) (arms : List (Arm Statement)) (l : ℕ) (c : Expr) (body : List Statement) (k : Stack) (line : ℕ) (form : Form) (next : Stack) (ps : List PieceForm) → Holds deep (g.Arm first arms l c body ∷ k) ps → go_on line form (g.Arm first arms l c body ∷ k) ≡ some_stack next → Holds deep next (ps ++ piece line form ∷ [])
-goes-arm deep first arms l c body k line (f.Elif condition) next ps held e =
-    moved deep (g.Arm first (arms ++ arm_of l c body ∷ []) line condition [] ∷ k) next (ps ++ piece line (f.Elif condition) ∷ []) e
-    (over-more deep (g.Arm first arms l c body) (g.Arm first (arms ++ arm_of l c body ∷ []) line condition []) k ps (piece line (f.Elif condition) ∷ []) held
+goes-arm deep first arms l c body k line (f.Guarded guard.Elif condition) next ps held e =
+    moved deep (g.Arm first (arms ++ arm_of l c body ∷ []) line condition [] ∷ k) next (ps ++ piece line (f.Guarded guard.Elif condition) ∷ []) e
+    (over-more deep (g.Arm first arms l c body) (g.Arm first (arms ++ arm_of l c body ∷ []) line condition []) k ps (piece line (f.Guarded guard.Elif condition) ∷ []) held
     (record {
       there = held.4.there;
       before = arm held.4.before l c held.4.block;
@@ -176,9 +178,9 @@ goes-arm deep first arms l c body k line (f.Elif condition) next ps held e =
       fits_body = omega (arith, held.4.fits);
       exact = rw held.4.exact refl;
     }))
-goes-arm deep first arms l c body k line f.Else next ps held e =
-    moved deep (g.Otherwise first (arms ++ arm_of l c body ∷ []) [] ∷ k) next (ps ++ piece line f.Else ∷ []) e
-    (over-more deep (g.Arm first arms l c body) (g.Otherwise first (arms ++ arm_of l c body ∷ []) []) k ps (piece line f.Else ∷ []) held
+goes-arm deep first arms l c body k line (f.Keyword keyword.Else) next ps held e =
+    moved deep (g.Otherwise first (arms ++ arm_of l c body ∷ []) [] ∷ k) next (ps ++ piece line (f.Keyword keyword.Else) ∷ []) e
+    (over-more deep (g.Arm first arms l c body) (g.Otherwise first (arms ++ arm_of l c body ∷ []) []) k ps (piece line (f.Keyword keyword.Else) ∷ []) held
     (record {
       there = held.4.there;
       before = held.4.before;
@@ -202,9 +204,9 @@ goes-choice deep l v xs k line (f.Alternative labels) next ps held e =
     moved deep (g.Chosen l v xs line labels ∷ k) next (ps ++ piece line (f.Alternative labels) ∷ []) e
     (over-more deep (g.Choice l v xs) (g.Chosen l v xs line labels) k ps (piece line (f.Alternative labels) ∷ []) held
     (record { there = held.4.there; chosen = held.4.chosen; are = held.4.are; fits = held.4.fits; exact = rw held.4.exact refl }))
-goes-choice deep l v xs k line f.Else next ps held e =
-    moved deep (g.ChoiceOtherwise l v xs [] ∷ k) next (ps ++ piece line f.Else ∷ []) e
-    (over-more deep (g.Choice l v xs) (g.ChoiceOtherwise l v xs []) k ps (piece line f.Else ∷ []) held
+goes-choice deep l v xs k line (f.Keyword keyword.Else) next ps held e =
+    moved deep (g.ChoiceOtherwise l v xs [] ∷ k) next (ps ++ piece line (f.Keyword keyword.Else) ∷ []) e
+    (over-more deep (g.Choice l v xs) (g.ChoiceOtherwise l v xs []) k ps (piece line (f.Keyword keyword.Else) ∷ []) held
     (record { there = held.4.there; chosen = held.4.chosen; at = line; block = nothing; are = held.4.are; body_is = refl; fits = held.4.fits; fits_body = omega (arith, held.4.fits); exact = rw held.4.exact refl }))
 goes-choice deep l v xs k line _ next ps held e = let no : ⊥ = cc in absurd no
 
@@ -284,44 +286,44 @@ some-blocks : (k : Stack) → is_model (place_of k) ≡ true → 1 ≤ length k
 some-blocks [] e = let no : ⊥ = cc in absurd no
 some-blocks (x ∷ k) e = omega arith
 
-is-sets : (deep l : ℕ) (xs : List Parameter) (line : ℕ) → 1 ≤ deep → IsTop deep (λ zs. sets zs l xs line) (t.Parameters l xs) (piece l f.Parameters ∷ (map spell_parameter xs ++ piece line f.EndParameters ∷ []))
+is-sets : (deep l : ℕ) (xs : List Parameter) (line : ℕ) → 1 ≤ deep → IsTop deep (λ zs. sets zs l xs line) (t.Parameters l xs) (piece l (f.Keyword keyword.Parameters) ∷ (map spell_parameter xs ++ piece line (f.Keyword keyword.EndParameters) ∷ []))
 is-sets deep l xs line d = record { are = λ zs. refl; spelled = λ zs. refl; fits = λ zs h. omega (arith, h, d) }
 
 is-defined : (deep : ℕ) (heading : Heading) (parts : Parts) (line : ℕ) → 1 + depth_parts parts ≤ deep → IsTop deep (λ zs. defines zs heading parts line) (t.Routine (record { heading = heading; parts = parts_of parts })) (piece heading.line (heading_form heading) ∷ (spell_parts parts ++ piece line (end_form heading.result) ∷ []))
 is-defined deep heading parts line d = record { are = λ zs. refl; spelled = λ zs. refl; fits = λ zs h. omega (arith, h, d) }
 
-closes-source : (deep l : ℕ) (name : ModelName) (hs : List Head) (tops : Tops) (k : Stack) (line : ℕ) (next : Stack) (ps : List PieceForm) → k ≡ [] → AreAllowed hs → depth_tops tops ≤ deep → ps ≡ piece l (f.Model name) ∷ (map spell_head hs ++ spell_tops tops) → end (record { line = l; name = name; heads = hs; tops = tops_of tops }) k ≡ some_stack next → Holds deep next (ps ++ piece line f.EndModel ∷ [])
+closes-source : (deep l : ℕ) (name : ModelName) (hs : List Head) (tops : Tops) (k : Stack) (line : ℕ) (next : Stack) (ps : List PieceForm) → k ≡ [] → AreAllowed hs → depth_tops tops ≤ deep → ps ≡ piece l (f.Model name) ∷ (map spell_head hs ++ spell_tops tops) → end (record { line = l; name = name; heads = hs; tops = tops_of tops }) k ≡ some_stack next → Holds deep next (ps ++ piece line (f.Keyword keyword.EndModel) ∷ [])
 closes-source deep l name hs tops k line next ps none allowed fits exact e =
     let source : Source = record { line = l; name = name; heads = hs; tops = tops; end = line } in
     let ended : end (tree_of source) [] ≡ some_stack next = subst (λ z. end (tree_of source) z ≡ some_stack next) none e in
-    moved deep (g.End (tree_of source) ∷ []) next (ps ++ piece line f.EndModel ∷ []) ended
+    moved deep (g.End (tree_of source) ∷ []) next (ps ++ piece line (f.Keyword keyword.EndModel) ∷ []) ended
     (record {
       alone = refl;
       source = source;
       within = record { allowed = allowed; fits = fits };
-      exact = rw exact (ap (λ z. piece l (f.Model name) ∷ z) (append_assoc (map spell_head hs) (spell_tops tops) (piece line f.EndModel ∷ [])));
+      exact = rw exact (ap (λ z. piece l (f.Model name) ∷ z) (append_assoc (map spell_head hs) (spell_tops tops) (piece line (f.Keyword keyword.EndModel) ∷ [])));
       is = refl;
     })
 
 pub sound-closes : (deep : ℕ) (k : Stack) (line : ℕ) (form : Form) (next : Stack) (ps : List PieceForm) → Holds deep k ps → own_limit form ≡ None → role_at (place_of k) (mould_of form) ≡ Some Closes → close line form k ≡ some_stack next → Holds deep next (ps ++ piece line form ∷ [])
 sound-closes deep [] line form next ps held o r e = let no : ⊥ = cc in absurd no
 sound-closes deep (g.Heads l name hs ∷ k) line form next ps held o r e =
-    as-form deep next ps line form f.EndModel (closes-heads form o r)
+    as-form deep next ps line form (f.Keyword keyword.EndModel) (closes-heads form o r)
     (closes-source deep l name hs no_top k line next ps held.alone held.allowed (omega arith) (held.exact ∙ ap (λ z. piece l (f.Model name) ∷ z) (sym (append-nil (map spell_head hs)))) e)
 sound-closes deep (g.Tops l name hs xs ∷ k) line form next ps held o r e =
-    as-form deep next ps line form f.EndModel (closes-tops form o r)
+    as-form deep next ps line form (f.Keyword keyword.EndModel) (closes-tops form o r)
     (closes-source deep l name hs held.tops k line next ps held.alone held.allowed held.fits held.exact (subst (λ z. end (record { line = l; name = name; heads = hs; tops = z }) k ≡ some_stack next) held.are e))
 sound-closes deep (g.Parameters l xs ∷ k) line form next ps held o r e =
-    as-form deep next ps line form f.EndParameters (closes-parameters form o r)
-    (closing-is deep next ps held.0 held.1 (piece l f.Parameters ∷ map spell_parameter xs) (piece l f.Parameters ∷ (map spell_parameter xs ++ piece line f.EndParameters ∷ [])) (piece line f.EndParameters) held.3 held.4.exact refl
-    (added-top deep k next held.0 (λ zs. sets zs l xs line) (t.Parameters l xs) (piece l f.Parameters ∷ (map spell_parameter xs ++ piece line f.EndParameters ∷ [])) (is-sets deep l xs line (omega (arith, held.4.fits, some-blocks k held.4.there))) held.2 e))
+    as-form deep next ps line form (f.Keyword keyword.EndParameters) (closes-parameters form o r)
+    (closing-is deep next ps held.0 held.1 (piece l (f.Keyword keyword.Parameters) ∷ map spell_parameter xs) (piece l (f.Keyword keyword.Parameters) ∷ (map spell_parameter xs ++ piece line (f.Keyword keyword.EndParameters) ∷ [])) (piece line (f.Keyword keyword.EndParameters)) held.3 held.4.exact refl
+    (added-top deep k next held.0 (λ zs. sets zs l xs line) (t.Parameters l xs) (piece l (f.Keyword keyword.Parameters) ∷ (map spell_parameter xs ++ piece line (f.Keyword keyword.EndParameters) ∷ [])) (is-sets deep l xs line (omega (arith, held.4.fits, some-blocks k held.4.there))) held.2 e))
 sound-closes deep (g.Declarations l xs ∷ k) line form next ps held o r e =
-    as-form deep next ps line form f.EndDeclarations (closes-declarations form o r)
-    (closing-is deep next ps held.0 held.1 (piece l f.Declarations ∷ spell_items held.4.items) (spell_declarations l held.4.items line) (piece line f.EndDeclarations) held.3 held.4.exact refl
+    as-form deep next ps line form (f.Keyword keyword.EndDeclarations) (closes-declarations form o r)
+    (closing-is deep next ps held.0 held.1 (piece l (f.Keyword keyword.Declarations) ∷ spell_items held.4.items) (spell_declarations l held.4.items line) (piece line (f.Keyword keyword.EndDeclarations)) held.3 held.4.exact refl
     (added-declared deep k next held.0 l held.4.items line held.2 held.4.fits (subst (λ z. add_other (part.Declared (record { line = l; items = z })) k ≡ some_stack next) held.4.are e)))
 sound-closes deep (g.Record l name xs ∷ k) line form next ps held o r e =
-    as-form deep next ps line form f.EndRecord (closes-record form o r)
-    (closing-is deep next ps held.0 held.1 (piece l (f.RecordOf name) ∷ map spell_field xs) (piece l (f.RecordOf name) ∷ (map spell_field xs ++ piece line f.EndRecord ∷ [])) (piece line f.EndRecord) held.3 held.4.exact refl
+    as-form deep next ps line form (f.Keyword keyword.EndRecord) (closes-record form o r)
+    (closing-is deep next ps held.0 held.1 (piece l (f.RecordOf name) ∷ map spell_field xs) (piece l (f.RecordOf name) ∷ (map spell_field xs ++ piece line (f.Keyword keyword.EndRecord) ∷ [])) (piece line (f.Keyword keyword.EndRecord)) held.3 held.4.exact refl
     (added-record deep k next held.0 l name xs line held.2 held.4.fits e))
 sound-closes deep (g.Routine heading xs ∷ k) line form next ps held o r e =
     as-form deep next ps line form (end_form heading.result) (closes-routine heading.result form o r)
@@ -331,63 +333,63 @@ sound-closes deep (g.Routine heading xs ∷ k) line form next ps held o r e =
 sound-closes deep (g.Arm first arms l c body ∷ k) line form next ps held o r e =
     let w : Written = conditional held.4.before l c held.4.block without line in
     let is : s.If first (arms ++ arm_of l c body ∷ []) [] ≡ tree w = rw (held.4.line, held.4.are, held.4.body_is) refl in
-    as-form deep next ps line form f.EndIf (closes-arm form o r)
-    (closing-is deep next ps held.0 held.1 (spell_arms held.4.before ++ piece l (arm_form held.4.before c) ∷ spell_block held.4.block) (spell w) (piece line f.EndIf) held.3 held.4.exact (sym (append_assoc (spell_arms held.4.before) (piece l (arm_form held.4.before c) ∷ spell_block held.4.block) (piece line f.EndIf ∷ [])))
+    as-form deep next ps line form (f.Keyword keyword.EndIf) (closes-arm form o r)
+    (closing-is deep next ps held.0 held.1 (spell_arms held.4.before ++ piece l (arm_form held.4.before c) ∷ spell_block held.4.block) (spell w) (piece line (f.Keyword keyword.EndIf)) held.3 held.4.exact (sym (append_assoc (spell_arms held.4.before) (piece l (arm_form held.4.before c) ∷ spell_block held.4.block) (piece line (f.Keyword keyword.EndIf) ∷ [])))
     (added deep k next held.0 w held.2 (omega (arith, held.4.fits, held.4.fits_body)) (as-statement k next (s.If first (arms ++ arm_of l c body ∷ []) []) (tree w) is e)))
 sound-closes deep (g.Otherwise first arms body ∷ k) line form next ps held o r e =
     let w : Written = conditional held.4.before held.4.last held.4.condition held.4.guarded (otherwise held.4.at held.4.block) line in
     let is : s.If first arms body ≡ tree w = rw (held.4.line, held.4.are, held.4.body_is) refl in
-    as-form deep next ps line form f.EndIf (closes-otherwise form o r)
-    (closing-is deep next ps held.0 held.1 ((spell_arms held.4.before ++ piece held.4.last (arm_form held.4.before held.4.condition) ∷ spell_block held.4.guarded) ++ piece held.4.at f.Else ∷ spell_block held.4.block) (spell w) (piece line f.EndIf) held.3 held.4.exact
-    (sym (append_assoc (spell_arms held.4.before ++ piece held.4.last (arm_form held.4.before held.4.condition) ∷ spell_block held.4.guarded) (piece held.4.at f.Else ∷ spell_block held.4.block) (piece line f.EndIf ∷ [])
-    ∙ append_assoc (spell_arms held.4.before) (piece held.4.last (arm_form held.4.before held.4.condition) ∷ spell_block held.4.guarded) (piece held.4.at f.Else ∷ (spell_block held.4.block ++ piece line f.EndIf ∷ []))))
+    as-form deep next ps line form (f.Keyword keyword.EndIf) (closes-otherwise form o r)
+    (closing-is deep next ps held.0 held.1 ((spell_arms held.4.before ++ piece held.4.last (arm_form held.4.before held.4.condition) ∷ spell_block held.4.guarded) ++ piece held.4.at (f.Keyword keyword.Else) ∷ spell_block held.4.block) (spell w) (piece line (f.Keyword keyword.EndIf)) held.3 held.4.exact
+    (sym (append_assoc (spell_arms held.4.before ++ piece held.4.last (arm_form held.4.before held.4.condition) ∷ spell_block held.4.guarded) (piece held.4.at (f.Keyword keyword.Else) ∷ spell_block held.4.block) (piece line (f.Keyword keyword.EndIf) ∷ [])
+    ∙ append_assoc (spell_arms held.4.before) (piece held.4.last (arm_form held.4.before held.4.condition) ∷ spell_block held.4.guarded) (piece held.4.at (f.Keyword keyword.Else) ∷ (spell_block held.4.block ++ piece line (f.Keyword keyword.EndIf) ∷ []))))
     (added deep k next held.0 w held.2 (omega (arith, held.4.fits, held.4.fits_guarded, held.4.fits_body)) (as-statement k next (s.If first arms body) (tree w) is e)))
 sound-closes deep (g.Choice l v xs ∷ k) line form next ps held o r e =
     let w : Written = choice l v held.4.chosen without line in
     let is : s.Case l v xs [] ≡ tree w = rw held.4.are refl in
-    as-form deep next ps line form f.EndCase (closes-choice form o r)
-    (closing-is deep next ps held.0 held.1 (piece l (f.Case v) ∷ spell_alternatives held.4.chosen) (spell w) (piece line f.EndCase) held.3 held.4.exact refl
+    as-form deep next ps line form (f.Keyword keyword.EndCase) (closes-choice form o r)
+    (closing-is deep next ps held.0 held.1 (piece l (f.Guarded guard.Case v) ∷ spell_alternatives held.4.chosen) (spell w) (piece line (f.Keyword keyword.EndCase)) held.3 held.4.exact refl
     (added deep k next held.0 w held.2 (omega (arith, held.4.fits)) (as-statement k next (s.Case l v xs []) (tree w) is e)))
 sound-closes deep (g.ChoiceOtherwise l v xs body ∷ k) line form next ps held o r e =
     let w : Written = choice l v held.4.chosen (otherwise held.4.at held.4.block) line in
     let is : s.Case l v xs body ≡ tree w = rw (held.4.are, held.4.body_is) refl in
-    as-form deep next ps line form f.EndCase (closes-choice-otherwise form o r)
-    (closing-is deep next ps held.0 held.1 (piece l (f.Case v) ∷ (spell_alternatives held.4.chosen ++ piece held.4.at f.Else ∷ spell_block held.4.block)) (spell w) (piece line f.EndCase) held.3 held.4.exact
-    (ap (λ z. piece l (f.Case v) ∷ z) (sym (append_assoc (spell_alternatives held.4.chosen) (piece held.4.at f.Else ∷ spell_block held.4.block) (piece line f.EndCase ∷ []))))
+    as-form deep next ps line form (f.Keyword keyword.EndCase) (closes-choice-otherwise form o r)
+    (closing-is deep next ps held.0 held.1 (piece l (f.Guarded guard.Case v) ∷ (spell_alternatives held.4.chosen ++ piece held.4.at (f.Keyword keyword.Else) ∷ spell_block held.4.block)) (spell w) (piece line (f.Keyword keyword.EndCase)) held.3 held.4.exact
+    (ap (λ z. piece l (f.Guarded guard.Case v) ∷ z) (sym (append_assoc (spell_alternatives held.4.chosen) (piece held.4.at (f.Keyword keyword.Else) ∷ spell_block held.4.block) (piece line (f.Keyword keyword.EndCase) ∷ []))))
     (added deep k next held.0 w held.2 (omega (arith, held.4.fits, held.4.fits_body)) (as-statement k next (s.Case l v xs body) (tree w) is e)))
 sound-closes deep (g.Repeated l body ∷ k) line form next ps held o r e =
-    let until-is : (c : Expr) × (form ≡ f.Until c) = closes-repeated form o r in
+    let until-is : (c : Expr) × (form ≡ f.Guarded guard.Until c) = closes-repeated form o r in
     let w : Written = repeated l held.4.block line until-is.0 in
     let is : s.Repeat l body line until-is.0 ≡ tree w = rw held.4.body_is refl in
     let e2 : add_statement (s.Repeat l body line until-is.0) k ≡ some_stack next = subst (λ z. add (until line z l body) k ≡ some_stack next) until-is.1 e in
-    as-form deep next ps line form (f.Until until-is.0) until-is.1
-    (closing-is deep next ps held.0 held.1 (piece l f.Repeat ∷ spell_block held.4.block) (spell w) (piece line (f.Until until-is.0)) held.3 held.4.exact refl
+    as-form deep next ps line form (f.Guarded guard.Until until-is.0) until-is.1
+    (closing-is deep next ps held.0 held.1 (piece l (f.Keyword keyword.Repeat) ∷ spell_block held.4.block) (spell w) (piece line (f.Guarded guard.Until until-is.0)) held.3 held.4.exact refl
     (added deep k next held.0 w held.2 (omega (arith, held.4.fits)) (as-statement k next (s.Repeat l body line until-is.0) (tree w) is e2)))
 sound-closes deep (g.Grouped l body ∷ k) line form next ps held o r e =
     let w : Written = grouped l held.4.block line in
     let is : s.Do l body ≡ tree w = rw held.4.body_is refl in
-    as-form deep next ps line form f.EndDo (closes-grouped form o r)
-    (closing-is deep next ps held.0 held.1 (piece l f.Do ∷ spell_block held.4.block) (spell w) (piece line f.EndDo) held.3 held.4.exact refl
+    as-form deep next ps line form (f.Keyword keyword.EndDo) (closes-grouped form o r)
+    (closing-is deep next ps held.0 held.1 (piece l (f.Keyword keyword.Do) ∷ spell_block held.4.block) (spell w) (piece line (f.Keyword keyword.EndDo)) held.3 held.4.exact refl
     (added deep k next held.0 w held.2 (omega (arith, held.4.fits)) (as-statement k next (s.Do l body) (tree w) is e)))
 sound-closes deep (g.Labelled l d n xs ∷ k) line form next ps held o r e =
     let w : Written = data_block l d n held.4.rows line in
     let is : s.Initializations l d n xs ≡ tree w = rw held.4.are refl in
-    as-form deep next ps line form f.EndInitializations (closes-labelled form o r)
-    (closing-is deep next ps held.0 held.1 (piece l (f.Initializations d n) ∷ spell_rows held.4.rows) (spell w) (piece line f.EndInitializations) held.3 held.4.exact refl
+    as-form deep next ps line form (f.Keyword keyword.EndInitializations) (closes-labelled form o r)
+    (closing-is deep next ps held.0 held.1 (piece l (f.Initializations d n) ∷ spell_rows held.4.rows) (spell w) (piece line (f.Keyword keyword.EndInitializations)) held.3 held.4.exact refl
     (added deep k next held.0 w held.2 (omega (arith, held.4.fits)) (as-statement k next (s.Initializations l d n xs) (tree w) is e)))
 sound-closes deep (_ ∷ k) line form next ps held o r e = let no : ⊥ = cc in absurd no
 
 -- ---- any piece
 
-abbrev some_kind : Kind → Option Kind
+abbrev pub some_kind : Kind → Option Kind
 some_kind x = Some x
 
-goes-is : (kind : Option Kind) (next : Option Stack) (k : Stack) → unless kind next ≡ Ok k → (kind ≡ None) × (next ≡ some_stack k)
+pub goes-is : (kind : Option Kind) (next : Option Stack) (k : Stack) → unless kind next ≡ Ok k → (kind ≡ None) × (next ≡ some_stack k)
 goes-is None None k e = let no : ⊥ = cc in absurd no
 goes-is None (Some a) k e = let same : a ≡ k = cc in (refl, ap some_stack same)
 goes-is (Some x) next k e = let no : ⊥ = cc in absurd no
 
-no-limit : (a b : Option Kind) → or_block a b ≡ None → (a ≡ None) × (b ≡ None)
+pub no-limit : (a b : Option Kind) → or_block a b ≡ None → (a ≡ None) × (b ≡ None)
 no-limit None b e = (refl, e)
 no-limit (Some x) b e = let no : ⊥ = cc in absurd no
 
@@ -395,7 +397,7 @@ fits-test : (deep n : ℕ) (test : Bool) → nat_lt deep n ≡ test → cond tes
 fits-test deep n true t e = let no : ⊥ = cc in absurd no
 fits-test deep n false t e = ltb-false deep n t
 
-fits-is : (deep n : ℕ) → block_limit deep Opens n ≡ None → n ≤ deep
+pub fits-is : (deep n : ℕ) → block_limit deep Opens n ≡ None → n ≤ deep
 fits-is deep n e = fits-test deep n (nat_lt deep n) refl e
 
 sound-enter : (deep : ℕ) (role : Role) (k : Stack) (line : ℕ) (form : Form) (next : Stack) (ps : List PieceForm) → Holds deep k ps → role_at (place_of k) (mould_of form) ≡ Some role → own_limit form ≡ None → block_limit deep role (length k) ≡ None → enter role line form k ≡ some_stack next → Holds deep next (ps ++ piece line form ∷ [])

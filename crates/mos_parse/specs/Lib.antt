@@ -1,7 +1,9 @@
+pub mod Answers
 pub mod Faults
 pub mod Forms
 pub mod Limits
 pub mod Machine
+pub mod Phrases
 pub mod Places
 pub mod Sources
 pub mod Statements

@@ -2,7 +2,7 @@
 
 use Rattle.std.specs.Prelude.{◌≡◌, ℕ, Bool, true, false, if◌then◌else◌, nat_lt, List, [], ◌∷◌, ◌++◌, length, reverse, Option, Some, None, Result, Ok, Err}
 use Rattle.mos_text.specs.declared.kind.Kind.{Kind}
-use Rattle.mos_text.specs.declared.kind.Kind.TheVariants as k
+use Rattle.mos_text.specs.declared.kind.Kind.TheVariants as wrong
 use Rattle.mos_tree.specs.declared.expr.Expr.{Expr}
 use Rattle.mos_tree.specs.declared.declaration.BaseType.{BaseType}
 use Rattle.mos_tree.specs.declared.declaration.Parameter.{Parameter}
@@ -29,6 +29,10 @@ use Rattle.mos_tree.specs.declared.source.Top.TheVariants as t
 use Rattle.mos_tree.specs.declared.source.Tree.{Tree}
 use Rattle.mos_parse.specs.declared.form.Form.{Form}
 use Rattle.mos_parse.specs.declared.form.Form.TheVariants as f
+use Rattle.mos_parse.specs.declared.form.Guard.TheVariants as guard
+use Rattle.mos_parse.specs.declared.form.Keyword.TheVariants as keyword
+use Rattle.mos_parse.specs.declared.form.Keyword.{Keyword}
+use Rattle.mos_parse.specs.declared.form.Guard.{Guard}
 use Rattle.mos_parse.specs.declared.form.Simple.{Simple}
 use Rattle.mos_parse.specs.declared.form.PieceForm.{PieceForm}
 use Rattle.mos_parse.specs.declared.frame.Frame.{Frame}
@@ -91,23 +95,28 @@ place_of (frame ∷ k) = frame_place frame
 
 -- ---- pieces that open
 
-abbrev pub opened_statement : ℕ → Form → Option Frame
-opened_statement line (f.If condition) = Some (g.Arm line [] line condition [])
-opened_statement line (f.Case value) = Some (g.Choice line value [])
-opened_statement line (f.Forall index) = Some (g.Over line index)
-opened_statement line (f.While condition) = Some (g.AsLongAs line condition)
-opened_statement line f.Repeat = Some (g.Repeated line [])
-opened_statement line f.Do = Some (g.Grouped line [])
-opened_statement line (f.Initializations direction name) = Some (g.Labelled line direction name [])
-opened_statement line _ = None
+abbrev pub opened_by_guard : ℕ → Guard → Expr → Option Frame
+opened_by_guard line guard.If x = Some (g.Arm line [] line x [])
+opened_by_guard line guard.Case x = Some (g.Choice line x [])
+opened_by_guard line guard.While x = Some (g.AsLongAs line x)
+opened_by_guard line _ x = None
+
+abbrev pub opened_by_word : ℕ → Keyword → Option Frame
+opened_by_word line keyword.Parameters = Some (g.Parameters line [])
+opened_by_word line keyword.Declarations = Some (g.Declarations line [])
+opened_by_word line keyword.Repeat = Some (g.Repeated line [])
+opened_by_word line keyword.Do = Some (g.Grouped line [])
+opened_by_word line _ = None
 
 abbrev pub opened : ℕ → Form → Option Frame
+opened line (f.Keyword word) = opened_by_word line word
 opened line (f.Model name) = Some (g.Heads line name [])
-opened line f.Parameters = Some (g.Parameters line [])
-opened line f.Declarations = Some (g.Declarations line [])
 opened line (f.RecordOf name) = Some (g.Record line name [])
 opened line (f.Routine name formals result) = Some (g.Routine (record { line = line; name = name; formals = formals; result = result }) [])
-opened line form = opened_statement line form
+opened line (f.Guarded word x) = opened_by_guard line word x
+opened line (f.Forall index) = Some (g.Over line index)
+opened line (f.Initializations direction name) = Some (g.Labelled line direction name [])
+opened line _ = None
 
 -- ---- pieces that stand alone
 
@@ -168,14 +177,23 @@ abbrev pub with_row : ℕ → Direction → Expr → List LabelGroup → Option 
 with_row line direction name xs None = None
 with_row line direction name xs (Some x) = Some (g.Labelled line direction name (xs ++ x ∷ []))
 
+-- what parts an `if` or a `case`
+abbrev pub is_else : Keyword → Bool
+is_else keyword.Else = true
+is_else _ = false
+
+abbrev pub is_elif : Guard → Bool
+is_elif guard.Elif = true
+is_elif _ = false
+
 abbrev pub next_arm : ℕ → Form → ℕ → List (Arm Statement) → Arm Statement → Option Frame
-next_arm line (f.Elif condition) first arms last = Some (g.Arm first (arms ++ last ∷ []) line condition [])
-next_arm line f.Else first arms last = Some (g.Otherwise first (arms ++ last ∷ []) [])
+next_arm line (f.Guarded word condition) first arms last = if is_elif word then Some (g.Arm first (arms ++ last ∷ []) line condition []) else None
+next_arm line (f.Keyword word) first arms last = if is_else word then Some (g.Otherwise first (arms ++ last ∷ []) []) else None
 next_arm line _ first arms last = None
 
 abbrev pub next_alternative : ℕ → Form → ℕ → Expr → List (Alternative Statement) → Option Frame
 next_alternative at (f.Alternative labels) line value xs = Some (g.Chosen line value xs at labels)
-next_alternative at f.Else line value xs = Some (g.ChoiceOtherwise line value xs [])
+next_alternative at (f.Keyword word) line value xs = if is_else word then Some (g.ChoiceOtherwise line value xs []) else None
 next_alternative at _ line value xs = None
 
 abbrev pub gone_on : ℕ → Form → Frame → Option Frame
@@ -194,8 +212,12 @@ go_on line form (frame ∷ k) = put (gone_on line form frame) k
 
 -- ---- the block that is closed
 
+abbrev pub is_until : Guard → Bool
+is_until guard.Until = true
+is_until _ = false
+
 abbrev pub until : ℕ → Form → ℕ → List Statement → Option Part
-until line (f.Until condition) at body = Some (part.Statement (s.Repeat at body line condition))
+until line (f.Guarded word condition) at body = if is_until word then Some (part.Statement (s.Repeat at body line condition)) else None
 until line _ at body = None
 
 abbrev pub whole_if : ℕ → List (Arm Statement) → Arm Statement → Part
@@ -324,7 +346,7 @@ enter Closes line form k = close line form k
 
 -- one block more, where so many and the model are open
 abbrev pub block_limit : ℕ → Role → ℕ → Option Kind
-block_limit deep Opens blocks = if nat_lt deep blocks then Some k.Deep else None
+block_limit deep Opens blocks = if nat_lt deep blocks then Some wrong.Deep else None
 block_limit deep _ blocks = None
 
 abbrev pub or_block : Option Kind → Option Kind → Option Kind
@@ -339,7 +361,7 @@ outcome None k = Ok k
 outcome (Some kind) k = Err kind
 
 abbrev pub or_syntax : Option Stack → Result Stack Kind
-or_syntax None = Err k.Syntax
+or_syntax None = Err wrong.Syntax
 or_syntax (Some k) = Ok k
 
 abbrev pub unless : Option Kind → Option Stack → Result Stack Kind
@@ -350,7 +372,7 @@ unfoldable pub step_as : ℕ → Role → ℕ → Form → Stack → Result Stac
 step_as deep role line form k = unless (broken_limit deep role (length k) form) (enter role line form k)
 
 abbrev pub step_in : ℕ → Option Role → ℕ → Form → Stack → Result Stack Kind
-step_in deep None line form k = Err k.Syntax
+step_in deep None line form k = Err wrong.Syntax
 step_in deep (Some role) line form k = step_as deep role line form k
 
 -- the blocks that are open behind the piece, or what is wrong with it
@@ -370,12 +392,16 @@ finished (g.End tree ∷ k) = Some tree
 finished (_ ∷ k) = None
 
 abbrev pub at_end : Option Tree → Outcome
-at_end None = stopped k.Syntax []
+at_end None = stopped wrong.Syntax []
 at_end (Some tree) = done tree
+
+abbrev pub behind : Result Stack Kind → (Stack → Outcome) → List PieceForm → Outcome
+behind (Ok next) go left = go next
+behind (Err kind) go left = stopped kind left
 
 abbrev pub run : ℕ → Stack → List PieceForm → Outcome
 run deep k [] = at_end (finished k)
-run deep k (x ∷ xs) = elim (step deep k x) [ Ok next ↦ run deep next xs | Err kind ↦ stopped kind (x ∷ xs) ]
+run deep k (x ∷ xs) = behind (step deep k x) (λ next. run deep next xs) (x ∷ xs)
 
 -- the call answers so
 abbrev pub Answers : Outcome → Result Tree PieceFault → Type 0

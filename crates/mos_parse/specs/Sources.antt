@@ -22,6 +22,7 @@ use Rattle.mos_tree.specs.declared.source.Top.TheVariants as t
 use Rattle.mos_tree.specs.declared.source.Tree.{Tree}
 use Rattle.mos_parse.specs.declared.form.Form.{Form}
 use Rattle.mos_parse.specs.declared.form.Form.TheVariants as f
+use Rattle.mos_parse.specs.declared.form.Keyword.TheVariants as keyword
 use Rattle.mos_parse.specs.declared.form.PieceForm.{PieceForm}
 use Rattle.mos_parse.specs.Forms.{piece}
 use Rattle.mos_parse.specs.Statements.{Written, spell, depth, tree}
@@ -68,10 +69,10 @@ abbrev pub spell_items : Items → List PieceForm
 spell_items no_item = []
 spell_items (constant xs line name value) = spell_items xs ++ piece line (f.Definition name value) ∷ []
 spell_items (variables xs line names typ) = spell_items xs ++ piece line (f.Typed names typ) ∷ []
-spell_items (record_type xs line name fields end) = spell_items xs ++ piece line (f.RecordOf name) ∷ (map spell_field fields ++ piece end f.EndRecord ∷ [])
+spell_items (record_type xs line name fields end) = spell_items xs ++ piece line (f.RecordOf name) ∷ (map spell_field fields ++ piece end (f.Keyword keyword.EndRecord) ∷ [])
 
 abbrev pub spell_declarations : ℕ → Items → ℕ → List PieceForm
-spell_declarations line items end = piece line f.Declarations ∷ (spell_items items ++ piece end f.EndDeclarations ∷ [])
+spell_declarations line items end = piece line (f.Keyword keyword.Declarations) ∷ (spell_items items ++ piece end (f.Keyword keyword.EndDeclarations) ∷ [])
 
 abbrev pub spell_parts : Parts → List PieceForm
 spell_parts no_part = []
@@ -82,12 +83,12 @@ abbrev pub heading_form : Heading → Form
 heading_form x = f.Routine x.name x.formals x.result
 
 abbrev pub end_form : Option BaseType → Form
-end_form None = f.EndProcedure
-end_form (Some typ) = f.EndFunction
+end_form None = (f.Keyword keyword.EndProcedure)
+end_form (Some typ) = (f.Keyword keyword.EndFunction)
 
 abbrev pub spell_tops : Tops → List PieceForm
 spell_tops no_top = []
-spell_tops (sets xs line parameters end) = spell_tops xs ++ piece line f.Parameters ∷ (map spell_parameter parameters ++ piece end f.EndParameters ∷ [])
+spell_tops (sets xs line parameters end) = spell_tops xs ++ piece line (f.Keyword keyword.Parameters) ∷ (map spell_parameter parameters ++ piece end (f.Keyword keyword.EndParameters) ∷ [])
 spell_tops (declares_top xs line items end) = spell_tops xs ++ spell_declarations line items end
 spell_tops (defines xs heading parts end) = spell_tops xs ++ piece heading.line (heading_form heading) ∷ (spell_parts parts ++ piece end (end_form heading.result) ∷ [])
 spell_tops (announces xs heading) = spell_tops xs ++ piece heading.line (f.Forward heading.name heading.formals heading.result) ∷ []
@@ -106,7 +107,7 @@ spell_head (h.Uses line modules) = piece line (f.Uses modules)
 spell_head (h.NoImplicit line) = piece line (f.Options no_implicit)
 
 abbrev pub spell_source : Source → List PieceForm
-spell_source x = piece x.line (f.Model x.name) ∷ (map spell_head x.heads ++ (spell_tops x.tops ++ piece x.end f.EndModel ∷ []))
+spell_source x = piece x.line (f.Model x.name) ∷ (map spell_head x.heads ++ (spell_tops x.tops ++ piece x.end (f.Keyword keyword.EndModel) ∷ []))
 
 -- ---- limits
 

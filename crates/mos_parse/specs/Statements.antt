@@ -12,6 +12,8 @@ use Rattle.mos_tree.specs.declared.statement.Label.{Label}
 use Rattle.mos_tree.specs.declared.statement.LabelGroup.{LabelGroup}
 use Rattle.mos_tree.specs.declared.statement.Direction.{Direction}
 use Rattle.mos_parse.specs.declared.form.Form.TheVariants as f
+use Rattle.mos_parse.specs.declared.form.Guard.TheVariants as guard
+use Rattle.mos_parse.specs.declared.form.Keyword.TheVariants as keyword
 use Rattle.mos_parse.specs.declared.form.Form.{Form}
 use Rattle.mos_parse.specs.declared.form.Simple.{Simple}
 use Rattle.mos_parse.specs.declared.form.Simple.TheVariants as simple
@@ -61,8 +63,8 @@ mutual
 
 -- the piece that begins an arm behind these arms
 abbrev pub arm_form : Arms → Expr → Form
-arm_form no_arm condition = f.If condition
-arm_form (arm before line c b) condition = f.Elif condition
+arm_form no_arm condition = f.Guarded guard.If condition
+arm_form (arm before line c b) condition = f.Guarded guard.Elif condition
 
 abbrev pub spell_rows : Rows → List PieceForm
 spell_rows no_row = []
@@ -74,13 +76,13 @@ abbrev mutual
   pub spell : Written → List PieceForm
   spell (single line x) = piece line (f.Simple x) ∷ []
   spell (bare line name) = piece line (f.Bare name) ∷ []
-  spell (conditional arms line condition b last end) = spell_arms arms ++ piece line (arm_form arms condition) ∷ (spell_block b ++ (spell_last last ++ piece end f.EndIf ∷ []))
-  spell (choice line value xs last end) = piece line (f.Case value) ∷ (spell_alternatives xs ++ (spell_last last ++ piece end f.EndCase ∷ []))
+  spell (conditional arms line condition b last end) = spell_arms arms ++ piece line (arm_form arms condition) ∷ (spell_block b ++ (spell_last last ++ piece end (f.Keyword keyword.EndIf) ∷ []))
+  spell (choice line value xs last end) = piece line (f.Guarded guard.Case value) ∷ (spell_alternatives xs ++ (spell_last last ++ piece end (f.Keyword keyword.EndCase) ∷ []))
   spell (over line index body) = piece line (f.Forall index) ∷ spell body
-  spell (as_long_as line condition body) = piece line (f.While condition) ∷ spell body
-  spell (repeated line b until condition) = piece line f.Repeat ∷ (spell_block b ++ piece until (f.Until condition) ∷ [])
-  spell (grouped line b end) = piece line f.Do ∷ (spell_block b ++ piece end f.EndDo ∷ [])
-  spell (data_block line direction name rows end) = piece line (f.Initializations direction name) ∷ (spell_rows rows ++ piece end f.EndInitializations ∷ [])
+  spell (as_long_as line condition body) = piece line (f.Guarded guard.While condition) ∷ spell body
+  spell (repeated line b until condition) = piece line (f.Keyword keyword.Repeat) ∷ (spell_block b ++ piece until (f.Guarded guard.Until condition) ∷ [])
+  spell (grouped line b end) = piece line (f.Keyword keyword.Do) ∷ (spell_block b ++ piece end (f.Keyword keyword.EndDo) ∷ [])
+  spell (data_block line direction name rows end) = piece line (f.Initializations direction name) ∷ (spell_rows rows ++ piece end (f.Keyword keyword.EndInitializations) ∷ [])
 
   pub spell_block : Block → List PieceForm
   spell_block nothing = []
@@ -92,7 +94,7 @@ abbrev mutual
 
   pub spell_last : Last → List PieceForm
   spell_last without = []
-  spell_last (otherwise line b) = piece line f.Else ∷ spell_block b
+  spell_last (otherwise line b) = piece line (f.Keyword keyword.Else) ∷ spell_block b
 
   pub spell_alternatives : Alternatives → List PieceForm
   spell_alternatives no_alternative = []

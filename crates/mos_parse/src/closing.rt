@@ -2,7 +2,8 @@
 ghost use Rattle.std.specs.Prelude.{◌≡◌, IfOk};
 ghost use Rattle.mos_parse.specs.Machine as spec;
 
-use crate::form::Form;
+use crate::discard::refuse;
+use crate::form::{Form, Guard};
 use crate::frame::{Frame, Part};
 use mos_text::NoMemory;
 use mos_tree::{
@@ -12,23 +13,31 @@ use mos_tree::{
 use sqlite_items::{Boxed, Items};
 use std::alloc::Global;
 
-fn refuse(_form: Form) {}
-
-fn refuse_frame(_frame: Frame) {}
-
-fn refuse_part(_part: Part) {}
+fn is_until(word: Guard) -> bool
+    ensures { result ≡ spec.is_until word }
+{
+    match word {
+        Guard::Until => true,
+        _ => false,
+    }
+}
 
 /// `repeat` with its `until`.
 fn until(line: u32, form: Form, at: u32, body: Items<Statement>) -> Option<Part>
     ensures { result ≡ spec.until line form at body }
 {
     match form {
-        Form::Until(condition) => Some(Part::Statement(Statement::Repeat {
-            line: at,
-            body,
-            until_line: line,
-            condition,
-        })),
+        Form::Guarded(word, condition) => {
+            if !is_until(word) {
+                return None;
+            }
+            Some(Part::Statement(Statement::Repeat {
+                line: at,
+                body,
+                until_line: line,
+                condition,
+            }))
+        }
         other => {
             refuse(other);
             None
@@ -120,7 +129,7 @@ fn closed_statement(
             labels: rows,
         }))),
         other => {
-            refuse_frame(other);
+            refuse(other);
             Ok(None)
         }
     }
@@ -236,14 +245,6 @@ fn next_part(
     Ok(Frame::Routine { heading, parts })
 }
 
-fn refuse_top(_top: Top) {}
-
-fn refuse_declared(_declared: Declared) {}
-
-fn refuse_item(_item: Item) {}
-
-fn refuse_statement(_statement: Statement) {}
-
 /// A model with one part more.
 fn with_top(alloc: Global, frame: Frame, top: Top) -> Result<Option<Frame>, NoMemory>
     ensures { IfOk result (λ next. next ≡ spec.with_top top frame) }
@@ -257,8 +258,8 @@ fn with_top(alloc: Global, frame: Frame, top: Top) -> Result<Option<Frame>, NoMe
             tops,
         } => Ok(Some(next_top(line, name, heads, tops, top)?)),
         other => {
-            refuse_frame(other);
-            refuse_top(top);
+            refuse(other);
+            refuse(top);
             Ok(None)
         }
     }
@@ -293,8 +294,8 @@ fn with_record(frame: Frame, item: Item) -> Result<Option<Frame>, NoMemory>
             Ok(Some(Frame::Declarations { line, items }))
         }
         other => {
-            refuse_frame(other);
-            refuse_item(item);
+            refuse(other);
+            refuse(item);
             Ok(None)
         }
     }
@@ -425,8 +426,8 @@ pub(crate) fn looped(
             body: Boxed::new(alloc, body)?,
         })),
         other => {
-            refuse_frame(other);
-            refuse_statement(body);
+            refuse(other);
+            refuse(body);
             Ok(None)
         }
     }
@@ -441,8 +442,8 @@ pub(crate) fn with_part(alloc: Global, frame: Frame, part: Part) -> Result<Optio
         Part::Top(top) => with_top(alloc, frame, top),
         Part::Record(item) => with_record(frame, item),
         other => {
-            refuse_frame(frame);
-            refuse_part(other);
+            refuse(frame);
+            refuse(other);
             Ok(None)
         }
     }

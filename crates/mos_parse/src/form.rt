@@ -73,6 +73,41 @@ pub enum Mould {
     EndInitializations,
 }
 
+/// A piece that is one reserved word.
+#[derive(Clone, Copy, Debug, PartialEq, Eq)]
+pub enum Keyword {
+    EndModel,
+    Parameters,
+    EndParameters,
+    Declarations,
+    EndDeclarations,
+    EndRecord,
+    EndProcedure,
+    EndFunction,
+    Else,
+    EndIf,
+    EndCase,
+    Repeat,
+    Do,
+    EndDo,
+    EndInitializations,
+}
+
+/// The word of a piece that is one expression beside its words.
+#[derive(Clone, Copy, Debug, PartialEq, Eq)]
+pub enum Guard {
+    /// `if e then`
+    If,
+    /// `elif e then`
+    Elif,
+    /// `case e of`
+    Case,
+    /// `while (e)`
+    While,
+    /// `until e`
+    Until,
+}
+
 /// What one piece is, with the expressions in it.
 #[derive(Debug, Drop)]
 pub enum Form {
@@ -80,17 +115,13 @@ pub enum Form {
     Unknown,
     /// A form of this mould with an expression that is too high.
     TooHigh(Mould),
+    Keyword(Keyword),
     /// `model` and a name
     Model(ModelName),
     /// `uses` and names of modules
     Uses(Items<Text>),
     /// `options` and a name
     Options(Text),
-    EndModel,
-    Parameters,
-    EndParameters,
-    Declarations,
-    EndDeclarations,
     /// `name = e`
     Definition {
         name: Text,
@@ -103,15 +134,12 @@ pub enum Form {
     },
     /// `name = record`
     RecordOf(Text),
-    EndRecord,
     /// The heading of a procedure, or, with the type of its result, of a function.
     Routine {
         name: Text,
         formals: Items<FormalGroup>,
         result: Option<BaseType>,
     },
-    EndProcedure,
-    EndFunction,
     /// `forward` and a heading
     Forward {
         name: Text,
@@ -121,26 +149,11 @@ pub enum Form {
     Simple(Simple),
     /// A name alone: a call, or a label of `initializations`.
     Bare(Text),
-    /// `if e then`
-    If(Expr),
-    /// `elif e then`
-    Elif(Expr),
-    Else,
-    EndIf,
-    /// `case e of`
-    Case(Expr),
+    Guarded(Guard, Expr),
     /// `a, b:`
     Alternative(Items<Expr>),
-    EndCase,
     /// `forall (..)`
     Forall(Index<Expr>),
-    /// `while (e)`
-    While(Expr),
-    Repeat,
-    /// `until e`
-    Until(Expr),
-    Do,
-    EndDo,
     /// `initializations from e` or `initializations to e`
     Initializations {
         direction: Direction,
@@ -148,7 +161,6 @@ pub enum Form {
     },
     /// `a, b as "c"`: labels of `initializations`, other than a name alone
     Labels(Items<Label>),
-    EndInitializations,
 }
 
 /// A piece: the line of its first token, from 1, and what it is.
@@ -167,6 +179,40 @@ fn routine_mould(typ: &Option<BaseType>) -> Mould
     }
 }
 
+fn keyword_mould(word: Keyword) -> Mould
+    ensures { result ≡ spec.keyword_mould word }
+{
+    match word {
+        Keyword::EndModel => Mould::EndModel,
+        Keyword::Parameters => Mould::Parameters,
+        Keyword::EndParameters => Mould::EndParameters,
+        Keyword::Declarations => Mould::Declarations,
+        Keyword::EndDeclarations => Mould::EndDeclarations,
+        Keyword::EndRecord => Mould::EndRecord,
+        Keyword::EndProcedure => Mould::EndProcedure,
+        Keyword::EndFunction => Mould::EndFunction,
+        Keyword::Else => Mould::Else,
+        Keyword::EndIf => Mould::EndIf,
+        Keyword::EndCase => Mould::EndCase,
+        Keyword::Repeat => Mould::Repeat,
+        Keyword::Do => Mould::Do,
+        Keyword::EndDo => Mould::EndDo,
+        Keyword::EndInitializations => Mould::EndInitializations,
+    }
+}
+
+fn guard_mould(word: Guard) -> Mould
+    ensures { result ≡ spec.guard_mould word }
+{
+    match word {
+        Guard::If => Mould::If,
+        Guard::Elif => Mould::Elif,
+        Guard::Case => Mould::Case,
+        Guard::While => Mould::While,
+        Guard::Until => Mould::Until,
+    }
+}
+
 /// What the grammar sees of the piece.
 pub(crate) fn mould_of(form: &Form) -> Mould
     ensures { result ≡ spec.mould_of form.now }
@@ -174,39 +220,21 @@ pub(crate) fn mould_of(form: &Form) -> Mould
     match form {
         Form::Unknown => Mould::Unknown,
         Form::TooHigh(mould) => *mould,
+        Form::Keyword(word) => keyword_mould(*word),
         Form::Model(_) => Mould::Model,
         Form::Uses(_) => Mould::Uses,
         Form::Options(_) => Mould::Options,
-        Form::EndModel => Mould::EndModel,
-        Form::Parameters => Mould::Parameters,
-        Form::EndParameters => Mould::EndParameters,
-        Form::Declarations => Mould::Declarations,
-        Form::EndDeclarations => Mould::EndDeclarations,
         Form::Definition { .. } => Mould::Definition,
         Form::Typed { .. } => Mould::Typed,
         Form::RecordOf(_) => Mould::RecordOf,
-        Form::EndRecord => Mould::EndRecord,
         Form::Routine { result: typ, .. } => routine_mould(typ),
-        Form::EndProcedure => Mould::EndProcedure,
-        Form::EndFunction => Mould::EndFunction,
         Form::Forward { .. } => Mould::Forward,
         Form::Simple(_) => Mould::Simple,
         Form::Bare(_) => Mould::Bare,
-        Form::If(_) => Mould::If,
-        Form::Elif(_) => Mould::Elif,
-        Form::Else => Mould::Else,
-        Form::EndIf => Mould::EndIf,
-        Form::Case(_) => Mould::Case,
+        Form::Guarded(word, _) => guard_mould(*word),
         Form::Alternative(_) => Mould::Alternative,
-        Form::EndCase => Mould::EndCase,
         Form::Forall(_) => Mould::Forall,
-        Form::While(_) => Mould::While,
-        Form::Repeat => Mould::Repeat,
-        Form::Until(_) => Mould::Until,
-        Form::Do => Mould::Do,
-        Form::EndDo => Mould::EndDo,
         Form::Initializations { .. } => Mould::Initializations,
         Form::Labels(_) => Mould::Labels,
-        Form::EndInitializations => Mould::EndInitializations,
     }
 }

@@ -2,14 +2,15 @@
 ghost use Rattle.std.specs.Prelude.{◌≡◌, IfOk};
 ghost use Rattle.mos_parse.specs.Machine as spec;
 
-use crate::form::{Form, Simple};
+use crate::discard::refuse;
+use crate::form::{Form, Guard, Keyword, Simple};
 use crate::place::Place;
 use mos_text::{NoMemory, Text};
 use mos_tree::{
     Alternative, Arm, Declared, Direction, Expr, FieldGroup, Head, Heading, Index, Item, Label,
-    LabelGroup, ModelName, Parameter, Routine, RoutinePart, Statement, Top, Tree,
+    LabelGroup, ModelName, Parameter, RoutinePart, Statement, Top, Tree,
 };
-use sqlite_items::{Boxed, Items};
+use sqlite_items::Items;
 use std::alloc::Global;
 
 /// A block that is open, with what is read of it.
@@ -160,29 +161,65 @@ pub(crate) fn place_of(stack: &[Frame]) -> Place
     }
 }
 
-fn refuse(_form: Form) {}
-
-fn refuse_frame(_frame: Frame) {}
-
 // ---- a piece that opens a block, and one that stands alone
+
+/// The block that a piece with an expression opens.
+fn opened_by_guard(alloc: Global, line: u32, word: Guard, x: Expr) -> Option<Frame>
+    ensures { result ≡ spec.opened_by_guard line word x }
+{
+    match word {
+        Guard::If => Some(Frame::Arm {
+            first: line,
+            arms: Items::new(alloc),
+            line,
+            condition: x,
+            body: Items::new(alloc),
+        }),
+        Guard::Case => Some(Frame::Choice {
+            line,
+            value: x,
+            alternatives: Items::new(alloc),
+        }),
+        Guard::While => Some(Frame::AsLongAs { line, condition: x }),
+        _ => None,
+    }
+}
+
+/// The block that a word opens.
+fn opened_by_word(alloc: Global, line: u32, word: Keyword) -> Option<Frame>
+    ensures { result ≡ spec.opened_by_word line word }
+{
+    match word {
+        Keyword::Parameters => Some(Frame::Parameters {
+            line,
+            parameters: Items::new(alloc),
+        }),
+        Keyword::Declarations => Some(Frame::Declarations {
+            line,
+            items: Items::new(alloc),
+        }),
+        Keyword::Repeat => Some(Frame::Repeated {
+            line,
+            body: Items::new(alloc),
+        }),
+        Keyword::Do => Some(Frame::Grouped {
+            line,
+            body: Items::new(alloc),
+        }),
+        _ => None,
+    }
+}
 
 /// The block that the piece opens.
 pub(crate) fn opened(alloc: Global, line: u32, form: Form) -> Option<Frame>
     ensures { result ≡ spec.opened line form }
 {
     match form {
+        Form::Keyword(word) => opened_by_word(alloc, line, word),
         Form::Model(name) => Some(Frame::Heads {
             line,
             name,
             heads: Items::new(alloc),
-        }),
-        Form::Parameters => Some(Frame::Parameters {
-            line,
-            parameters: Items::new(alloc),
-        }),
-        Form::Declarations => Some(Frame::Declarations {
-            line,
-            items: Items::new(alloc),
         }),
         Form::RecordOf(name) => Some(Frame::Record {
             line,
@@ -202,37 +239,8 @@ pub(crate) fn opened(alloc: Global, line: u32, form: Form) -> Option<Frame>
             },
             parts: Items::new(alloc),
         }),
-        other => opened_statement(alloc, line, other),
-    }
-}
-
-/// The statement that the piece opens.
-fn opened_statement(alloc: Global, line: u32, form: Form) -> Option<Frame>
-    ensures { result ≡ spec.opened_statement line form }
-{
-    match form {
-        Form::If(condition) => Some(Frame::Arm {
-            first: line,
-            arms: Items::new(alloc),
-            line,
-            condition,
-            body: Items::new(alloc),
-        }),
-        Form::Case(value) => Some(Frame::Choice {
-            line,
-            value,
-            alternatives: Items::new(alloc),
-        }),
+        Form::Guarded(word, x) => opened_by_guard(alloc, line, word, x),
         Form::Forall(index) => Some(Frame::Over { line, index }),
-        Form::While(condition) => Some(Frame::AsLongAs { line, condition }),
-        Form::Repeat => Some(Frame::Repeated {
-            line,
-            body: Items::new(alloc),
-        }),
-        Form::Do => Some(Frame::Grouped {
-            line,
-            body: Items::new(alloc),
-        }),
         Form::Initializations { direction, name } => Some(Frame::Labelled {
             line,
             direction,
@@ -307,7 +315,7 @@ fn head_of(line: u32, form: Form) -> Option<Head>
     match form {
         Form::Uses(modules) => Some(Head::Uses { line, modules }),
         Form::Options(name) => {
-            refuse(Form::Options(name));
+            refuse(name);
             Some(Head::NoImplicit { line })
         }
         other => {
@@ -472,6 +480,24 @@ fn with_row(
     }
 }
 
+fn is_else(word: Keyword) -> bool
+    ensures { result ≡ spec.is_else word }
+{
+    match word {
+        Keyword::Else => true,
+        _ => false,
+    }
+}
+
+fn is_elif(word: Guard) -> bool
+    ensures { result ≡ spec.is_elif word }
+{
+    match word {
+        Guard::Elif => true,
+        _ => false,
+    }
+}
+
 /// Behind the arm that is read: another arm, or `else`.
 fn next_arm(
     alloc: Global,
@@ -486,18 +512,28 @@ fn next_arm(
     let mut arms = arms;
     arms.push(last)?;
     match form {
-        Form::Elif(condition) => Ok(Some(Frame::Arm {
-            first,
-            arms,
-            line,
-            condition,
-            body: Items::new(alloc),
-        })),
-        Form::Else => Ok(Some(Frame::Otherwise {
-            first,
-            arms,
-            body: Items::new(alloc),
-        })),
+        Form::Guarded(word, condition) => {
+            if !is_elif(word) {
+                return Ok(None);
+            }
+            Ok(Some(Frame::Arm {
+                first,
+                arms,
+                line,
+                condition,
+                body: Items::new(alloc),
+            }))
+        }
+        Form::Keyword(word) => {
+            if !is_else(word) {
+                return Ok(None);
+            }
+            Ok(Some(Frame::Otherwise {
+                first,
+                arms,
+                body: Items::new(alloc),
+            }))
+        }
         other => {
             refuse(other);
             Ok(None)
@@ -524,12 +560,17 @@ fn next_alternative(
             at,
             labels,
         }),
-        Form::Else => Some(Frame::ChoiceOtherwise {
-            line,
-            value,
-            alternatives,
-            body: Items::new(alloc),
-        }),
+        Form::Keyword(word) => {
+            if !is_else(word) {
+                return None;
+            }
+            Some(Frame::ChoiceOtherwise {
+                line,
+                value,
+                alternatives,
+                body: Items::new(alloc),
+            })
+        }
         other => {
             refuse(other);
             None
@@ -589,7 +630,7 @@ pub(crate) fn gone_on(
         } => with_row(at, direction, name, rows, row_of(alloc, line, form)?),
         other => {
             refuse(form);
-            refuse_frame(other);
+            refuse(other);
             Ok(None)
         }
     }

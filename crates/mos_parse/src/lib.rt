@@ -6,6 +6,7 @@
 #![tactic(auto)]
 
 mod closing;
+mod discard;
 mod fault;
 mod form;
 mod frame;
@@ -14,5 +15,8 @@ mod place;
 mod reader;
 
 pub use fault::PieceFault;
-pub use form::{Form, Mould, PieceForm, Simple};
+pub use form::{Form, Guard, Keyword, Mould, PieceForm, Simple};
 pub use reader::source;
+
+#[cfg(test)]
+mod tests;

@@ -5,6 +5,7 @@ ghost use Rattle.mos_parse.specs.Limits as limits;
 ghost use Rattle.mos_parse.specs.Sources.{limit, jobs_module, no_implicit};
 
 use crate::closing::{closed, looped, loops, with_part, with_statement};
+use crate::discard::refuse;
 use crate::form::{Form, PieceForm, mould_of};
 use crate::frame::{Frame, Part, alone, gone_on, opened, place_of};
 use crate::place::{Role, role_at};
@@ -40,12 +41,6 @@ fn put(stack: &mut Vec<Frame>, frame: Option<Frame>) -> Result<bool, NoMemory>
     }
 }
 
-fn refuse_statement(_statement: Statement) {}
-
-fn refuse_part(_part: Part) {}
-
-fn refuse(_form: Form) {}
-
 fn top_loops(stack: &[Frame]) -> bool
     ensures { result ≡ spec.top_loops (spec.stack_of stack.now) }
 {
@@ -69,7 +64,7 @@ fn give_statement(
             put(stack, next)
         }
         None => {
-            refuse_statement(statement);
+            refuse(statement);
             Ok(false)
         }
     }
@@ -106,14 +101,12 @@ fn end(stack: &mut Vec<Frame>, tree: Tree) -> Result<bool, NoMemory>
             Ok(true)
         }
         Some(frame) => {
-            refuse_part(Part::Source(tree));
-            refuse_frame(frame);
+            refuse(tree);
+            refuse(frame);
             Ok(false)
         }
     }
 }
-
-fn refuse_frame(_frame: Frame) {}
 
 /// Gives a part that is no statement to the innermost block.
 fn add_other(alloc: Global, stack: &mut Vec<Frame>, part: Part) -> Result<bool, NoMemory>
@@ -125,7 +118,7 @@ fn add_other(alloc: Global, stack: &mut Vec<Frame>, part: Part) -> Result<bool, 
             put(stack, next)
         }
         None => {
-            refuse_part(part);
+            refuse(part);
             Ok(false)
         }
     }
@@ -320,7 +313,7 @@ pub(crate) fn finished(stack: &mut Vec<Frame>) -> Option<Tree>
     match pop(stack) {
         Some(Frame::End(tree)) => Some(tree),
         Some(other) => {
-            refuse_frame(other);
+            refuse(other);
             None
         }
         None => None,

@@ -1,7 +1,8 @@
 //! The tree of a list of pieces.
-ghost use Rattle.std.specs.Prelude.{◌≡◌, [], ◌∷◌, reverse, MatchOption};
+ghost use Rattle.std.specs.Prelude.{◌≡◌, [], ◌∷◌, reverse, MatchOption, IfOk, IfErr};
 ghost use Rattle.mos_parse.specs.Machine as spec;
-ghost use Rattle.mos_parse.specs.Sources.{limit};
+ghost use Rattle.mos_parse.specs.Sources.{limit, Source, IsSource, tree_of};
+ghost use Rattle.mos_parse.specs.Answers.{IsTree, Gives, IsFaultOf};
 
 use crate::fault::PieceFault;
 use crate::form::PieceForm;
@@ -41,11 +42,21 @@ fn read_turned(alloc: Global, turned: Vec<PieceForm>) -> Result<Tree, PieceFault
     }
 }
 
-/// The tree of the source that these pieces spell, or the faulty piece.
-pub fn source(alloc: Global, pieces: Vec<PieceForm>) -> Result<Tree, PieceFault>
-    ensures reads { spec.Answers (spec.run limit [] pieces.items) result }
+/// Reads the pieces.
+fn read(alloc: Global, pieces: Vec<PieceForm>) -> Result<Tree, PieceFault>
+    ensures { spec.Answers (spec.run limit [] pieces.items) result }
 {
     let mut pieces = pieces;
     pieces.reverse();
     read_turned(alloc, pieces)
+}
+
+/// The tree of the source that these pieces spell; or the faulty piece, behind the longest run of
+/// pieces with which some source begins, and the kind of its fault.
+pub fn source(alloc: Global, pieces: Vec<PieceForm>) -> Result<Tree, PieceFault>
+    ensures found { IfOk result (λ tree. IsTree pieces.items tree) }
+    ensures only { (x : Source) → IsSource pieces.items x → Gives result (tree_of x) }
+    ensures faulty { IfErr result (λ fault. IsFaultOf pieces.items fault) }
+{
+    read(alloc, pieces)
 }
