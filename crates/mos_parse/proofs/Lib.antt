@@ -5,6 +5,7 @@ pub mod Ends
 pub mod Held
 pub mod Naming
 pub mod Progress
+pub mod Reading
 pub mod Roles
 pub mod Sound
 pub mod SoundStep

@@ -1,6 +1,7 @@
 pub mod Answers
 pub mod Faults
 pub mod Forms
+pub mod Laws
 pub mod Limits
 pub mod Machine
 pub mod Phrases

@@ -10,12 +10,14 @@ mod discard;
 mod fault;
 mod form;
 mod frame;
+mod laws;
 mod machine;
 mod place;
 mod reader;
 
 pub use fault::PieceFault;
 pub use form::{Form, Guard, Keyword, Mould, PieceForm, Simple};
+pub use laws::pieces_are_read_one_way;
 pub use reader::source;
 
 #[cfg(test)]

@@ -268,7 +268,45 @@ fn broken(
     }
 }
 
+/// Takes the piece in this role, which breaks no limit.
+fn take(
+    alloc: Global,
+    stack: &mut Vec<Frame>,
+    role: Role,
+    line: u32,
+    form: Form,
+) -> Result<Option<Kind>, NoMemory>
+    ensures { IfOk result (λ wrong. spec.or_syntax (spec.enter role line form (spec.stack_of stack.old.items)) ≡ spec.outcome wrong (spec.stack_of stack.new.items)) }
+{
+    if enter(alloc, stack, role, line, form)? {
+        Ok(None)
+    } else {
+        Ok(Some(Kind::Syntax))
+    }
+}
+
+/// Takes the piece in this role, unless it breaks this limit.
+fn take_unless(
+    alloc: Global,
+    stack: &mut Vec<Frame>,
+    found: Option<Kind>,
+    role: Role,
+    line: u32,
+    form: Form,
+) -> Result<Option<Kind>, NoMemory>
+    ensures { IfOk result (λ wrong. spec.unless found (spec.enter role line form (spec.stack_of stack.old.items)) ≡ spec.outcome wrong (spec.stack_of stack.new.items)) }
+{
+    match found {
+        Some(kind) => {
+            refuse(form);
+            Ok(Some(kind))
+        }
+        None => take(alloc, stack, role, line, form),
+    }
+}
+
 /// Takes the piece in this role, or says what is wrong.
+#[tactic(auto, unfolding(crate::specs::Machine::step_as))]
 fn step_as(
     alloc: Global,
     stack: &mut Vec<Frame>,
@@ -278,17 +316,17 @@ fn step_as(
 ) -> Result<Option<Kind>, NoMemory>
     ensures { IfOk result (λ wrong. spec.step_as limit role line form (spec.stack_of stack.old.items) ≡ spec.outcome wrong (spec.stack_of stack.new.items)) }
 {
-    if let Some(kind) = broken(alloc, role, stack.len(), &form)? {
-        return Ok(Some(kind));
-    }
-    if enter(alloc, stack, role, line, form)? {
-        Ok(None)
-    } else {
-        Ok(Some(Kind::Syntax))
+    match broken(alloc, role, stack.len(), &form) {
+        Ok(kind) => take_unless(alloc, stack, kind, role, line, form),
+        Err(refused) => {
+            refuse(form);
+            Err(refused)
+        }
     }
 }
 
 /// Takes the piece, or says what is wrong.
+#[tactic(auto, unfolding(crate::specs::Machine::step))]
 pub(crate) fn step(
     alloc: Global,
     stack: &mut Vec<Frame>,
