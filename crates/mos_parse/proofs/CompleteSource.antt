@@ -63,9 +63,7 @@ modules-allowed (x ∷ xs) a =
     rw same (modules-allowed xs a.1)
 
 pub option-allowed : own_limit (f.Options no_implicit) ≡ None
-option-allowed =
-    let same : is_no_implicit no_implicit ≡ true = (bytes_eq-Decides no_implicit no_implicit).1 refl in
-    rw same refl
+option-allowed = refl
 
 heads-role : role_at p.Heads m.Uses ≡ Some GoesOn
 unfolding role_at

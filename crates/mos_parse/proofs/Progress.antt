@@ -148,6 +148,9 @@ unfolding role_at
 stands-only place m.Simple r = refl
 stands-only place m.Bare r = refl
 stands-only place m.Forward r = refl
+stands-only p.Start _ r = let no : ⊥ = cc in absurd no
+stands-only p.Heads _ r = let no : ⊥ = cc in absurd no
+stands-only p.Tops _ r = let no : ⊥ = cc in absurd no
 stands-only _ _ r = let no : ⊥ = cc in absurd no
 
 no-routine : (typ : Option BaseType) → is_standing (routine_mould typ) ≡ true → ⊥
@@ -253,16 +256,74 @@ goes-labelled at d n xs line (f.Guarded guard.If x) l r = let no : ⊥ = cc in a
 goes-labelled at d n xs line (f.Routine x y (Some z)) l r = let no : ⊥ = cc in absurd no
 goes-labelled at d n xs line _ l r = let no : ⊥ = cc in absurd no
 
-goes-not : (place : Place) → goes_on_there place ≡ false → (mould : Mould) → role_at place mould ≡ Some GoesOn → ⊥
+no-row-start : (mould : Mould) → role_at p.Start mould ≡ Some GoesOn → ⊥
 unfolding role_at
-goes-not p.Heads o mould r = let no : ⊥ = cc in no
-goes-not p.Parameters o mould r = let no : ⊥ = cc in no
-goes-not p.Declarations o mould r = let no : ⊥ = cc in no
-goes-not p.Record o mould r = let no : ⊥ = cc in no
-goes-not p.Arm o mould r = let no : ⊥ = cc in no
-goes-not p.Choice o mould r = let no : ⊥ = cc in no
-goes-not p.Labelled o mould r = let no : ⊥ = cc in no
-goes-not _ o _ r = cc
+no-row-start m.Unknown r = cc
+no-row-start _ r = cc
+
+no-row-tops : (mould : Mould) → role_at p.Tops mould ≡ Some GoesOn → ⊥
+unfolding role_at
+no-row-tops m.Unknown r = cc
+no-row-tops _ r = cc
+
+no-row-procedure : (mould : Mould) → role_at p.Procedure mould ≡ Some GoesOn → ⊥
+unfolding role_at
+no-row-procedure m.Unknown r = cc
+no-row-procedure _ r = cc
+
+no-row-function : (mould : Mould) → role_at p.Function mould ≡ Some GoesOn → ⊥
+unfolding role_at
+no-row-function m.Unknown r = cc
+no-row-function _ r = cc
+
+no-row-otherwise : (mould : Mould) → role_at p.Otherwise mould ≡ Some GoesOn → ⊥
+unfolding role_at
+no-row-otherwise m.Unknown r = cc
+no-row-otherwise _ r = cc
+
+no-row-chosen : (mould : Mould) → role_at p.Chosen mould ≡ Some GoesOn → ⊥
+unfolding role_at
+no-row-chosen m.Unknown r = cc
+no-row-chosen _ r = cc
+
+no-row-choice-otherwise : (mould : Mould) → role_at p.ChoiceOtherwise mould ≡ Some GoesOn → ⊥
+unfolding role_at
+no-row-choice-otherwise m.Unknown r = cc
+no-row-choice-otherwise _ r = cc
+
+no-row-looped : (mould : Mould) → role_at p.Looped mould ≡ Some GoesOn → ⊥
+unfolding role_at
+no-row-looped m.Unknown r = cc
+no-row-looped _ r = cc
+
+no-row-repeated : (mould : Mould) → role_at p.Repeated mould ≡ Some GoesOn → ⊥
+unfolding role_at
+no-row-repeated m.Unknown r = cc
+no-row-repeated _ r = cc
+
+no-row-grouped : (mould : Mould) → role_at p.Grouped mould ≡ Some GoesOn → ⊥
+unfolding role_at
+no-row-grouped m.Unknown r = cc
+no-row-grouped _ r = cc
+
+no-row-end : (mould : Mould) → role_at p.End mould ≡ Some GoesOn → ⊥
+unfolding role_at
+no-row-end m.Unknown r = cc
+no-row-end _ r = cc
+
+goes-not : (place : Place) → goes_on_there place ≡ false → (mould : Mould) → role_at place mould ≡ Some GoesOn → ⊥
+goes-not p.Start o mould r = no-row-start mould r
+goes-not p.Tops o mould r = no-row-tops mould r
+goes-not p.Procedure o mould r = no-row-procedure mould r
+goes-not p.Function o mould r = no-row-function mould r
+goes-not p.Otherwise o mould r = no-row-otherwise mould r
+goes-not p.Chosen o mould r = no-row-chosen mould r
+goes-not p.ChoiceOtherwise o mould r = no-row-choice-otherwise mould r
+goes-not p.Looped o mould r = no-row-looped mould r
+goes-not p.Repeated o mould r = no-row-repeated mould r
+goes-not p.Grouped o mould r = no-row-grouped mould r
+goes-not p.End o mould r = no-row-end mould r
+goes-not _ o mould r = cc
 
 routine-goes : (typ : Option BaseType) → goes_on_there (routine_place typ) ≡ false
 routine-goes None = refl
@@ -300,12 +361,31 @@ closes_there p.Looped = false
 closes_there p.End = false
 closes_there _ = true
 
-closes-not : (place : Place) → closes_there place ≡ false → (mould : Mould) → role_at place mould ≡ Some Closes → ⊥
+no-end-start : (mould : Mould) → role_at p.Start mould ≡ Some Closes → ⊥
 unfolding role_at
-closes-not p.Start o _ r = cc
-closes-not p.Chosen o _ r = cc
-closes-not p.Looped o _ r = cc
-closes-not p.End o _ r = cc
+no-end-start m.Unknown r = cc
+no-end-start _ r = cc
+
+no-end-chosen : (mould : Mould) → role_at p.Chosen mould ≡ Some Closes → ⊥
+unfolding role_at
+no-end-chosen m.Unknown r = cc
+no-end-chosen _ r = cc
+
+no-end-looped : (mould : Mould) → role_at p.Looped mould ≡ Some Closes → ⊥
+unfolding role_at
+no-end-looped m.Unknown r = cc
+no-end-looped _ r = cc
+
+no-end-end : (mould : Mould) → role_at p.End mould ≡ Some Closes → ⊥
+unfolding role_at
+no-end-end m.Unknown r = cc
+no-end-end _ r = cc
+
+closes-not : (place : Place) → closes_there place ≡ false → (mould : Mould) → role_at place mould ≡ Some Closes → ⊥
+closes-not p.Start o mould r = no-end-start mould r
+closes-not p.Chosen o mould r = no-end-chosen mould r
+closes-not p.Looped o mould r = no-end-looped mould r
+closes-not p.End o mould r = no-end-end mould r
 closes-not _ o mould r = cc
 
 closes-takes : (deep : ℕ) (k : Stack) (ps : List PieceForm) (line : ℕ) (form : Form) → Holds deep k ps → own_limit form ≡ None → role_at (place_of k) (mould_of form) ≡ Some Closes → Takes k (close line form k)

@@ -36,12 +36,15 @@ declarations-begins m.RecordOf b r = cc
 declarations-begins _ b r = cc
 
 record-begins : (x : Mould) → begins x ≡ Some Opens → record_role x ≡ Some Opens → ⊥
+record-begins m.Typed b r = cc
 record-begins _ b r = cc
 
 choice-begins : (x : Mould) → begins x ≡ Some Opens → choice_role x ≡ Some Opens → ⊥
+choice-begins m.Alternative b r = cc
 choice-begins _ b r = cc
 
 labelled-begins : (x : Mould) → begins x ≡ Some Opens → labelled_role x ≡ Some Opens → ⊥
+labelled-begins m.Bare b r = cc
 labelled-begins _ b r = cc
 
 -- where a statement opens, statements begin
@@ -105,7 +108,7 @@ routine-there place (Some t) r = function-there place r
 
 -- ---- what closes where
 
-closes-heads : (form : Form) → own_limit form ≡ None → role_at p.Heads (mould_of form) ≡ Some Closes → form ≡ (f.Keyword keyword.EndModel)
+pub closes-heads : (form : Form) → own_limit form ≡ None → role_at p.Heads (mould_of form) ≡ Some Closes → form ≡ (f.Keyword keyword.EndModel)
 unfolding role_at
 closes-heads (f.Keyword keyword.EndModel) o r = refl
 closes-heads (f.Routine n fs None) o r = let no : ⊥ = cc in absurd no
@@ -114,7 +117,7 @@ closes-heads (f.Guarded guard.If x) o r = let no : ⊥ = cc in absurd no
 closes-heads (f.Routine n fs (Some t)) o r = let no : ⊥ = cc in absurd no
 closes-heads _ o r = let no : ⊥ = cc in absurd no
 
-closes-tops : (form : Form) → own_limit form ≡ None → role_at p.Tops (mould_of form) ≡ Some Closes → form ≡ (f.Keyword keyword.EndModel)
+pub closes-tops : (form : Form) → own_limit form ≡ None → role_at p.Tops (mould_of form) ≡ Some Closes → form ≡ (f.Keyword keyword.EndModel)
 unfolding role_at
 closes-tops (f.Keyword keyword.EndModel) o r = refl
 closes-tops (f.Routine n fs None) o r = let no : ⊥ = cc in absurd no

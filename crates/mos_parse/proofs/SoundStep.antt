@@ -261,8 +261,8 @@ is-forward : (deep : ℕ) (heading : Heading) → IsTop deep (λ xs. announces x
 is-forward deep heading = record { are = λ xs. refl; spelled = λ xs. refl; fits = λ xs d. d }
 
 pub sound-stands : (deep : ℕ) (k : Stack) (line : ℕ) (form : Form) (next : Stack) (ps : List PieceForm) → Holds deep k ps → add (alone line form) k ≡ some_stack next → Holds deep next (ps ++ piece line form ∷ [])
-sound-stands deep k line (f.Simple x) next ps held e = added deep k next ps (single line x) held (held-length deep k ps held) e
-sound-stands deep k line (f.Bare name) next ps held e = added deep k next ps (bare line name) held (held-length deep k ps held) e
+sound-stands deep k line (f.Simple x) next ps held e = added deep k next ps (single line x) held (omega (arith, held-length deep k ps held)) e
+sound-stands deep k line (f.Bare name) next ps held e = added deep k next ps (bare line name) held (omega (arith, held-length deep k ps held)) e
 sound-stands deep k line (f.Forward name formals result) next ps held e =
     let heading : Heading = record { line = line; name = name; formals = formals; result = result } in
     added-top deep k next ps (λ xs. announces xs heading) (t.Forward heading) (piece line (f.Forward name formals result) ∷ []) (is-forward deep heading) held e

@@ -309,6 +309,10 @@ abbrev pub add_statement : Statement → Stack → Option Stack
 add_statement x [] = None
 add_statement x (frame ∷ k) = if loops frame then and_then (looped x frame) (λ outer. add_statement outer k) else put (with_statement x frame) k
 
+-- the loop that a statement ended goes on as a statement
+abbrev pub add_next : Option Statement → Stack → Option Stack
+add_next outer k = and_then outer (λ x. add_statement x k)
+
 abbrev pub with_part : Part → Frame → Option Frame
 with_part (part.Declared x) frame = with_declared x frame
 with_part (part.Top x) frame = with_top x frame

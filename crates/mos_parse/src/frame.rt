@@ -1,5 +1,5 @@
 //! What is open at a place, and how it goes on.
-ghost use Rattle.std.specs.Prelude.{◌≡◌, IfOk};
+ghost use Rattle.std.specs.Prelude.{◌≡◌, [], ◌∷◌, ◌++◌, IfOk};
 ghost use Rattle.mos_parse.specs.Machine as spec;
 
 use crate::discard::refuse;
@@ -498,6 +498,64 @@ fn is_elif(word: Guard) -> bool
     }
 }
 
+/// Another arm behind the arm that is read.
+fn another_arm(
+    alloc: Global,
+    line: u32,
+    word: Guard,
+    condition: Expr,
+    first: u32,
+    arms: Items<Arm<Statement>>,
+    last: Arm<Statement>,
+) -> Result<Option<Frame>, NoMemory>
+    ensures { IfOk result (λ frame. frame ≡ spec.next_arm line (Form.Guarded word condition) first arms last) }
+{
+    if !is_elif(word) {
+        return Ok(None);
+    }
+    let arms = one_arm_more(arms, last)?;
+    Ok(Some(Frame::Arm {
+        first,
+        arms,
+        line,
+        condition,
+        body: Items::new(alloc),
+    }))
+}
+
+fn one_arm_more(
+    arms: Items<Arm<Statement>>,
+    last: Arm<Statement>,
+) -> Result<Items<Arm<Statement>>, NoMemory>
+    ensures { IfOk result (λ all. all ≡ arms ++ last ∷ []) }
+{
+    let mut arms = arms;
+    arms.push(last)?;
+    Ok(arms)
+}
+
+/// `else` behind the arm that is read.
+fn else_arm(
+    alloc: Global,
+    line: u32,
+    word: Keyword,
+    first: u32,
+    arms: Items<Arm<Statement>>,
+    last: Arm<Statement>,
+) -> Result<Option<Frame>, NoMemory>
+    ensures { IfOk result (λ frame. frame ≡ spec.next_arm line (Form.Keyword word) first arms last) }
+{
+    if !is_else(word) {
+        return Ok(None);
+    }
+    let arms = one_arm_more(arms, last)?;
+    Ok(Some(Frame::Otherwise {
+        first,
+        arms,
+        body: Items::new(alloc),
+    }))
+}
+
 /// Behind the arm that is read: another arm, or `else`.
 fn next_arm(
     alloc: Global,
@@ -509,33 +567,15 @@ fn next_arm(
 ) -> Result<Option<Frame>, NoMemory>
     ensures { IfOk result (λ frame. frame ≡ spec.next_arm line form first arms last) }
 {
-    let mut arms = arms;
-    arms.push(last)?;
     match form {
         Form::Guarded(word, condition) => {
-            if !is_elif(word) {
-                return Ok(None);
-            }
-            Ok(Some(Frame::Arm {
-                first,
-                arms,
-                line,
-                condition,
-                body: Items::new(alloc),
-            }))
+            another_arm(alloc, line, word, condition, first, arms, last)
         }
-        Form::Keyword(word) => {
-            if !is_else(word) {
-                return Ok(None);
-            }
-            Ok(Some(Frame::Otherwise {
-                first,
-                arms,
-                body: Items::new(alloc),
-            }))
-        }
+        Form::Keyword(word) => else_arm(alloc, line, word, first, arms, last),
         other => {
             refuse(other);
+            refuse(arms);
+            refuse(last);
             Ok(None)
         }
     }

@@ -1,5 +1,5 @@
 //! The reader of pieces: a stack of the blocks that are open.
-ghost use Rattle.std.specs.Prelude.{◌≡◌, [], ◌∷◌, ◌<◌, ◌≤◌, length, reverse, IfOk, OnOk, MatchOption, Some, None};
+ghost use Rattle.std.specs.Prelude.{◌≡◌, [], ◌∷◌, ◌<◌, ◌≤◌, length, reverse, true, IfOk, OnOk, MatchOption, Some, None};
 ghost use Rattle.mos_parse.specs.Machine as spec;
 ghost use Rattle.mos_parse.specs.Limits as limits;
 ghost use Rattle.mos_parse.specs.Sources.{limit, jobs_module, no_implicit};
@@ -70,6 +70,25 @@ fn give_statement(
     }
 }
 
+/// The loop that the statement ends, which is the innermost block.
+fn end_loop(
+    alloc: Global,
+    stack: &mut Vec<Frame>,
+    statement: Statement,
+) -> Result<Option<Statement>, NoMemory>
+    requires { spec.top_loops (spec.stack_of stack.old.items) ≡ true }
+    ensures value { IfOk result (λ outer. spec.add_statement statement (spec.stack_of stack.old.items) ≡ spec.add_next outer (spec.stack_of stack.new.items)) }
+    ensures lower { length (spec.stack_of stack.new.items) < length (spec.stack_of stack.old.items) }
+{
+    match pop(stack) {
+        Some(frame) => looped(alloc, frame, statement),
+        None => {
+            refuse(statement);
+            Ok(None)
+        }
+    }
+}
+
 /// Gives the statement to the innermost block, with all loops that it ends.
 fn add_statement(
     alloc: Global,
@@ -80,10 +99,7 @@ fn add_statement(
 {
     let mut statement = statement;
     while top_loops(stack) {
-        let Some(frame) = pop(stack) else {
-            return Ok(false);
-        };
-        match looped(alloc, frame, statement)? {
+        match end_loop(alloc, stack, statement)? {
             None => return Ok(false),
             Some(outer) => statement = outer,
         }

@@ -1,5 +1,5 @@
 //! The tree of a list of pieces.
-ghost use Rattle.std.specs.Prelude.{◌≡◌, [], ◌∷◌, reverse, MatchOption, IfOk, IfErr};
+ghost use Rattle.std.specs.Prelude.{◌≡◌, [], ◌∷◌, length, reverse, MatchOption, IfOk, IfErr};
 ghost use Rattle.mos_parse.specs.Machine as spec;
 ghost use Rattle.mos_parse.specs.Sources.{limit, Source, IsSource, tree_of};
 ghost use Rattle.mos_parse.specs.Answers.{IsTree, Gives, IsFaultOf};
@@ -18,6 +18,13 @@ fn next_piece(turned: &mut Vec<PieceForm>) -> Option<PieceForm>
     turned.pop()
 }
 
+/// How many pieces are left.
+fn left_of(turned: &[PieceForm]) -> usize
+    ensures { result ≡ length (reverse turned.now) }
+{
+    turned.len()
+}
+
 /// Reads pieces that stand in turned order.
 fn read_turned(alloc: Global, turned: Vec<PieceForm>) -> Result<Tree, PieceFault>
     ensures { spec.Answers (spec.run limit [] (reverse turned.items)) result }
@@ -25,7 +32,7 @@ fn read_turned(alloc: Global, turned: Vec<PieceForm>) -> Result<Tree, PieceFault
     let mut turned = turned;
     let mut stack = Vec::new(alloc);
     loop {
-        let left = turned.len();
+        let left = left_of(turned.as_slice());
         let Some(piece) = next_piece(&mut turned) else {
             break;
         };
