@@ -1,4 +1,4 @@
-use Rattle.std.proofs.Common.{◌≡◌, ℕ, ◌+◌, ◌≤◌, max, true, false, List, [], ◌∷◌, ◌++◌, length, Option, Some, None, Ok, refl, sym, ◌∙◌, ap, arith}
+use Rattle.std.proofs.Common.{◌≡◌, ℕ, ◌+◌, ◌≤◌, true, List, [], ◌∷◌, ◌++◌, length, Some, Ok, refl, ◌∙◌, ap, arith}
 use Rattle.std.proofs.lemmas.List.{append_assoc}
 use Rattle.mos_tree.specs.declared.expr.Expr.{Expr}
 use Rattle.mos_tree.specs.declared.statement.Statement.{Statement}
@@ -14,11 +14,10 @@ use Rattle.mos_parse.specs.declared.form.Mould.TheVariants as m
 use Rattle.mos_parse.specs.declared.form.PieceForm.{PieceForm}
 use Rattle.mos_parse.specs.declared.frame.Frame.{Frame}
 use Rattle.mos_parse.specs.declared.frame.Frame.TheVariants as g
-use Rattle.mos_parse.specs.declared.place.Place.TheVariants as p
-use Rattle.mos_parse.specs.declared.place.Role.TheVariants.{Opens, GoesOn, Stands, Closes}
+use Rattle.mos_parse.specs.declared.place.Role.TheVariants.{Opens, Stands, Closes}
 use Rattle.mos_parse.specs.Forms.{piece}
 use Rattle.mos_parse.specs.Places.{takes_statements, role_at}
-use Rattle.mos_parse.specs.Statements.{Rows, no_row, named, labelled, Written, single, bare, conditional, choice, over, as_long_as, repeated, grouped, data_block, Block, nothing, then_one, Arms, no_arm, arm, Last, without, otherwise, Alternatives, no_alternative, alternative, arm_form, spell_rows, spell, spell_block, spell_arms, spell_last, spell_alternatives, depth, depth_block, depth_arms, depth_last, depth_alternatives, label_groups, first_line, arm_of, alternative_of, tree, trees, trees_of_arms, trees_of_last, trees_of_alternatives, statement_of, label_of}
+use Rattle.mos_parse.specs.Statements.{Rows, no_row, named, labelled, Written, single, bare, conditional, choice, over, as_long_as, repeated, grouped, data_block, Block, nothing, then_one, Arms, no_arm, arm, Last, without, otherwise, Alternatives, no_alternative, alternative, arm_form, spell_rows, spell, spell_block, spell_arms, spell_last, spell_alternatives, depth, depth_block, depth_arms, depth_last, depth_alternatives, label_groups, first_line, arm_of, alternative_of, tree, trees, trees_of_arms, trees_of_last, trees_of_alternatives}
 use Rattle.mos_parse.specs.Machine.{Stack, frame_place, place_of, add_statement, step, step_as, run}
 use Rattle.mos_parse.proofs.Ends.{ends-arm, ends-otherwise, ends-choice, ends-choice-otherwise, ends-repeated, ends-grouped, ends-labelled}
 use Rattle.mos_parse.proofs.Steps.{Takes, role-of-statement, step-role, run-step, run-open, one-end, two-end}

@@ -1,4 +1,4 @@
-use Rattle.std.proofs.Common.{◌≡◌, ℕ, ◌+◌, ◌≤◌, max, true, false, List, [], ◌∷◌, ◌++◌, length, Option, Some, None, Ok, refl, sym, ◌∙◌, ap, arith, map}
+use Rattle.std.proofs.Common.{◌≡◌, ℕ, ◌+◌, ◌≤◌, true, List, [], ◌∷◌, ◌++◌, length, Option, Some, None, Ok, refl, sym, ◌∙◌, ap, arith, map}
 use Rattle.std.proofs.lemmas.List.{append_assoc, append-nil}
 use Rattle.std.proofs.lemmas.Slice.Eq.{bytes_eq-Decides}
 use Rattle.mos_tree.specs.declared.expr.Expr.{Expr}
@@ -13,7 +13,6 @@ use Rattle.mos_tree.specs.declared.declaration.BaseType.{BaseType}
 use Rattle.mos_tree.specs.declared.source.ModelName.{ModelName}
 use Rattle.mos_tree.specs.declared.source.Head.{Head}
 use Rattle.mos_tree.specs.declared.source.Head.TheVariants as h
-use Rattle.mos_tree.specs.declared.source.RoutinePart.{RoutinePart}
 use Rattle.mos_tree.specs.declared.source.RoutinePart.TheVariants as r
 use Rattle.mos_tree.specs.declared.source.Routine.{Routine}
 use Rattle.mos_tree.specs.declared.source.Top.{Top}
@@ -29,13 +28,13 @@ use Rattle.mos_parse.specs.declared.frame.Part.TheVariants as part
 use Rattle.mos_parse.specs.declared.place.Place.TheVariants as p
 use Rattle.mos_parse.specs.declared.place.Role.TheVariants.{Opens, GoesOn, Stands, Closes}
 use Rattle.mos_parse.specs.Forms.{piece, routine_mould}
-use Rattle.mos_parse.specs.Limits.{module_limit, own_limit, is_jobs, is_no_implicit}
+use Rattle.mos_parse.specs.Limits.{module_limit, own_limit, is_jobs}
 use Rattle.mos_parse.specs.Places.{takes_statements, role_at}
-use Rattle.mos_parse.specs.Statements.{Written, spell, depth, tree}
+use Rattle.mos_parse.specs.Statements.{spell, tree}
 use Rattle.mos_parse.specs.Sources.{Items, no_item, constant, variables, record_type, Parts, no_part, declares, states, Tops, no_top, sets, declares_top, defines, announces, states_top, Source, spell_parameter, spell_field, spell_items, spell_declarations, spell_parts, heading_form, end_form, spell_tops, no_implicit, jobs_module, spell_head, spell_source, depth_items, depth_parts, depth_tops, AreModules, IsAllowed, AreAllowed, items_of, declared, parts_of, tops_of, tree_of}
 use Rattle.mos_parse.specs.Machine.{Stack, frame_place, routine_place, place_of, with_top, add_statement, add_other, step, step_as, run, done}
 use Rattle.mos_parse.proofs.Ends.{ends-declarations, ends-parameters, ends-routine, end-limit}
-use Rattle.mos_parse.proofs.Steps.{Takes, role-of-statement, step-role, run-step, run-open, one-end, two-end}
+use Rattle.mos_parse.proofs.Steps.{step-role, run-step, run-open, one-end}
 use Rattle.mos_parse.proofs.Complete.{reads}
 
 -- ---- rows of one piece each

@@ -1,4 +1,4 @@
-use Rattle.std.proofs.Common.{◌≡◌, ℕ, zero, suc, ◌+◌, ◌≤◌, true, false, List, [], ◌∷◌, ◌++◌, length, Option, Some, None, Ok, refl, sym, ◌∙◌, ap, subst, arith}
+use Rattle.std.proofs.Common.{◌≡◌, ℕ, zero, suc, ◌≤◌, true, List, [], ◌∷◌, ◌++◌, length, Option, Some, None, Ok, refl, sym, arith}
 use Rattle.mos_tree.specs.declared.declaration.BaseType.{BaseType}
 use Rattle.mos_tree.specs.declared.declaration.Item.{Item}
 use Rattle.mos_tree.specs.declared.declaration.Item.TheVariants as i
@@ -9,32 +9,29 @@ use Rattle.mos_tree.specs.declared.source.Head.{Head}
 use Rattle.mos_tree.specs.declared.source.ModelName.{ModelName}
 use Rattle.mos_tree.specs.declared.source.ModelName.TheVariants as called
 use Rattle.mos_tree.specs.declared.source.RoutinePart.TheVariants as r
-use Rattle.mos_tree.specs.declared.source.Routine.{Routine}
 use Rattle.mos_tree.specs.declared.source.Top.{Top}
 use Rattle.mos_tree.specs.declared.source.Top.TheVariants as t
 use Rattle.mos_tree.specs.declared.source.Tree.{Tree}
 use Rattle.mos_tree.specs.declared.statement.Alternative.{Alternative}
 use Rattle.mos_tree.specs.declared.statement.Statement.{Statement}
 use Rattle.mos_tree.specs.declared.statement.Statement.TheVariants as s
-use Rattle.mos_parse.specs.declared.form.Form.{Form}
 use Rattle.mos_parse.specs.declared.form.Form.TheVariants as f
 use Rattle.mos_parse.specs.declared.form.Guard.TheVariants as guard
 use Rattle.mos_parse.specs.declared.form.Keyword.TheVariants as keyword
 use Rattle.mos_parse.specs.declared.form.Simple.TheVariants as simple
 use Rattle.mos_parse.specs.declared.form.Mould.TheVariants as m
 use Rattle.mos_parse.specs.declared.form.PieceForm.{PieceForm}
-use Rattle.mos_parse.specs.declared.frame.Frame.{Frame}
 use Rattle.mos_parse.specs.declared.frame.Frame.TheVariants as g
 use Rattle.mos_parse.specs.declared.frame.Part.TheVariants as part
 use Rattle.mos_parse.specs.declared.place.Place.TheVariants as p
-use Rattle.mos_parse.specs.declared.place.Role.TheVariants.{Opens, GoesOn, Stands, Closes}
+use Rattle.mos_parse.specs.declared.place.Role.TheVariants.{Opens, Stands, Closes}
 use Rattle.mos_parse.specs.Forms.{piece}
 use Rattle.mos_parse.specs.Places.{takes_statements, role_at}
 use Rattle.mos_parse.specs.Statements.{arm_of, alternative_of}
 use Rattle.mos_parse.specs.Sources.{end_form}
 use Rattle.mos_parse.specs.Machine.{Stack, routine_place, place_of, add_statement, add_other, step, step_as}
 use Rattle.mos_parse.proofs.Steps.{role-of-statement, block-fits, step-role, one-end}
-use Rattle.mos_parse.proofs.Ends.{ends-parameters, ends-declarations, ends-record, ends-arm, ends-otherwise, ends-choice, ends-choice-otherwise, ends-repeated, ends-grouped, ends-labelled, ends-heads, ends-tops, ends-routine, end-limit}
+use Rattle.mos_parse.proofs.Ends.{ends-parameters, ends-declarations, ends-record, ends-arm, ends-otherwise, ends-choice, ends-choice-otherwise, ends-repeated, ends-grouped, ends-labelled, ends-routine, end-limit}
 use Rattle.mos_parse.proofs.Held.{is_model, takes_declarations, is_declarations, Holds}
 use Rattle.mos_parse.proofs.Sound.{some_stack, respelled}
 use Rattle.mos_parse.proofs.SoundStep.{sound}

@@ -1,6 +1,5 @@
-use Rattle.std.proofs.Common.{◌≡◌, ℕ, ◌+◌, ◌≤◌, Bool, true, false, List, [], ◌∷◌, ◌++◌, length, map, Option, Some, None}
+use Rattle.std.proofs.Common.{◌≡◌, ℕ, ◌+◌, ◌≤◌, Bool, true, false, List, [], ◌∷◌, ◌++◌, length, map}
 use Rattle.mos_tree.specs.declared.expr.Expr.{Expr}
-use Rattle.mos_tree.specs.declared.expr.Index.{Index}
 use Rattle.mos_tree.specs.declared.declaration.Parameter.{Parameter}
 use Rattle.mos_tree.specs.declared.declaration.FieldGroup.{FieldGroup}
 use Rattle.mos_tree.specs.declared.declaration.Item.{Item}
@@ -9,7 +8,6 @@ use Rattle.mos_tree.specs.declared.statement.Statement.{Statement}
 use Rattle.mos_tree.specs.declared.statement.Arm.{Arm}
 use Rattle.mos_tree.specs.declared.statement.Alternative.{Alternative}
 use Rattle.mos_tree.specs.declared.statement.LabelGroup.{LabelGroup}
-use Rattle.mos_tree.specs.declared.statement.Direction.{Direction}
 use Rattle.mos_tree.specs.declared.source.ModelName.{ModelName}
 use Rattle.mos_tree.specs.declared.source.Head.{Head}
 use Rattle.mos_tree.specs.declared.source.RoutinePart.{RoutinePart}
@@ -25,7 +23,7 @@ use Rattle.mos_parse.specs.declared.place.Place.{Place}
 use Rattle.mos_parse.specs.declared.place.Place.TheVariants as p
 use Rattle.mos_parse.specs.Forms.{piece}
 use Rattle.mos_parse.specs.Places.{takes_statements}
-use Rattle.mos_parse.specs.Statements.{Rows, Written, Block, Arms, Alternatives, arm_form, spell_rows, spell, spell_block, spell_arms, spell_alternatives, depth, depth_block, depth_arms, depth_alternatives, label_groups, first_line, arm_of, tree, trees, trees_of_arms, trees_of_alternatives}
+use Rattle.mos_parse.specs.Statements.{Rows, Block, Arms, Alternatives, arm_form, spell_rows, spell_block, spell_arms, spell_alternatives, depth_block, depth_arms, depth_alternatives, label_groups, first_line, arm_of, trees, trees_of_arms, trees_of_alternatives}
 use Rattle.mos_parse.specs.Sources.{Items, Parts, Tops, Source, spell_parameter, spell_field, spell_items, spell_parts, heading_form, spell_tops, spell_head, spell_source, depth_items, depth_parts, depth_tops, AreAllowed, IsWithin, items_of, parts_of, tops_of, tree_of}
 use Rattle.mos_parse.specs.Machine.{Stack, place_of}
 

@@ -1,19 +1,17 @@
-use Rattle.std.proofs.Common.{◌≡◌, ℕ, ◌+◌, ◌≤◌, max, Bool, true, false, cond, ◌⊎◌, inl, inr, List, [], ◌∷◌, ◌++◌, length, Option, Some, None, Ok, Err, refl, sym, ◌∙◌, ap, subst, arith}
+use Rattle.std.proofs.Common.{◌≡◌, ℕ, ◌+◌, ◌≤◌, Bool, true, false, cond, ◌⊎◌, inl, inr, List, [], ◌∷◌, ◌++◌, length, Option, Some, None, Ok, Err, refl, sym, ◌∙◌, ap, subst, arith}
 use Rattle.std.specs.Prelude.{nat_lt, unwrap_or}
 use Rattle.mos_text.specs.declared.kind.Kind.{Kind}
 use Rattle.mos_text.specs.declared.kind.Kind.TheVariants as kind
-use Rattle.mos_parse.specs.declared.form.Form.{Form}
 use Rattle.mos_parse.specs.declared.form.Mould.{Mould}
 use Rattle.mos_parse.specs.declared.form.PieceForm.{PieceForm}
-use Rattle.mos_parse.specs.declared.frame.Frame.{Frame}
 use Rattle.mos_parse.specs.declared.place.Role.{Role}
 use Rattle.mos_parse.specs.declared.place.Role.TheVariants.{Opens, GoesOn, Stands, Closes}
 use Rattle.mos_parse.specs.Forms.{piece, mould_of}
-use Rattle.mos_parse.specs.Limits.{own_limit, broken}
+use Rattle.mos_parse.specs.Limits.{own_limit}
 use Rattle.mos_parse.specs.Places.{role_at}
-use Rattle.mos_parse.specs.Sources.{Source, spell_source, depth_tops, tree_of, limit, IsWithin}
-use Rattle.mos_parse.specs.Faults.{CouldStand, IsKind, too_early, beyond, misplaced}
-use Rattle.mos_parse.specs.Machine.{Stack, place_of, enter, block_limit, or_block, broken_limit, or_syntax, unless, step_as, step_in, step, done, stopped, finished, run}
+use Rattle.mos_parse.specs.Sources.{depth_tops, tree_of, limit}
+use Rattle.mos_parse.specs.Faults.{CouldStand, IsKind, beyond, misplaced}
+use Rattle.mos_parse.specs.Machine.{Stack, place_of, enter, block_limit, or_block, broken_limit, unless, step_as, step_in, step, done, stopped, run}
 use Rattle.mos_parse.proofs.Steps.{block-fits, step-role, one-end}
 use Rattle.mos_parse.proofs.CompleteSource.{source-read}
 use Rattle.mos_parse.proofs.Held.{Holds}
@@ -98,11 +96,11 @@ named-role before top x after wrong None held goes r e =
     subst (λ z. IsKind before (x ∷ after) z) same (misplaced x after (could-not before top (mould_of x.form) goes r))
 named-role before top x after wrong (Some role) held goes r e =
     elim (unless-is (broken_limit limit role (length top) x.form) (enter role x.line x.form top) wrong e) [
-      inl found ↦ subst (λ z. IsKind before (x ∷ after) z) (sym (broken-own (own_limit x.form) (block_limit limit role (length top)) wrong (block-is limit role (length top) wrong) found)) (beyond x after (could-stand before top (mould_of x.form) role held r))
-    | inr none ↦
-      (let limits : (own_limit x.form ≡ None) × (block_limit limit role (length top) ≡ None) = no-limit (own_limit x.form) (block_limit limit role (length top)) none.0 in
-      let takes : (next : Stack) × (enter role x.line x.form top ≡ some_stack next) = progress limit top before x.line x.form role (held limit (omega arith)) r limits.0 in
-      absurd (some-next (enter role x.line x.form top) takes.0 none.1 takes.1))
+      | inl found ↦ subst (λ z. IsKind before (x ∷ after) z) (sym (broken-own (own_limit x.form) (block_limit limit role (length top)) wrong (block-is limit role (length top) wrong) found)) (beyond x after (could-stand before top (mould_of x.form) role held r))
+      | inr none ↦
+          (let limits : (own_limit x.form ≡ None) × (block_limit limit role (length top) ≡ None) = no-limit (own_limit x.form) (block_limit limit role (length top)) none.0 in
+          let takes : (next : Stack) × (enter role x.line x.form top ≡ some_stack next) = progress limit top before x.line x.form role (held limit (omega arith)) r limits.0 in
+          absurd (some-next (enter role x.line x.form top) takes.0 none.1 takes.1))
     ]
 
 pub named-step : (before : List PieceForm) (top : Stack) (x : PieceForm) (after : List PieceForm) (wrong : Kind) → ((deeper : ℕ) → limit ≤ deeper → Holds deeper top before) → ((deeper : ℕ) → limit ≤ deeper → (ys : List PieceForm) → run deeper [] (before ++ ys) ≡ run deeper top ys) → step limit top x ≡ Err wrong → IsKind before (x ∷ after) wrong

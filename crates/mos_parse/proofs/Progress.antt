@@ -1,4 +1,4 @@
-use Rattle.std.proofs.Common.{◌≡◌, ℕ, ◌+◌, ◌≤◌, Bool, true, false, List, [], ◌∷◌, ◌++◌, length, Option, Some, None, refl, sym, ◌∙◌, ap, subst, arith}
+use Rattle.std.proofs.Common.{◌≡◌, ℕ, Bool, true, false, List, [], ◌∷◌, ◌++◌, Option, Some, None, refl, ◌∙◌, ap}
 use Rattle.mos_tree.specs.declared.expr.Expr.{Expr}
 use Rattle.mos_tree.specs.declared.expr.Expr.TheVariants as e
 use Rattle.mos_tree.specs.declared.declaration.BaseType.{BaseType}
@@ -41,12 +41,12 @@ use Rattle.mos_parse.specs.Forms.{mould_of, routine_mould}
 use Rattle.mos_parse.specs.Limits.{own_limit}
 use Rattle.mos_parse.specs.Places.{role_at, takes_statements}
 use Rattle.mos_parse.specs.Statements.{arm_of, statement_of}
-use Rattle.mos_parse.specs.Sources.{end_form, no_implicit}
-use Rattle.mos_parse.specs.Machine.{Stack, place_of, frame_place, routine_place, put, opened, alone, add, add_statement, add_other, end, gone_on, go_on, close, enter}
+use Rattle.mos_parse.specs.Sources.{no_implicit}
+use Rattle.mos_parse.specs.Machine.{Stack, place_of, routine_place, put, opened, alone, add, add_statement, add_other, end, gone_on, go_on, close, enter}
 use Rattle.mos_parse.proofs.CompleteSource.{option-allowed}
 use Rattle.mos_parse.proofs.Held.{is_model, Holds}
 use Rattle.mos_parse.proofs.Sound.{some_stack}
-use Rattle.mos_parse.proofs.Roles.{closes-heads, closes-tops, closes-parameters, closes-declarations, closes-record, closes-routine, closes-arm, closes-otherwise, closes-choice, closes-choice-otherwise, closes-repeated, closes-grouped, closes-labelled}
+use Rattle.mos_parse.proofs.Roles.{closes-repeated}
 use Rattle.mos_parse.proofs.Completing.{Adds, statement-adds, top-adds, declared-adds, record-adds}
 
 -- A piece that may stand at its place and breaks no limit of its own is taken.

@@ -1,9 +1,7 @@
-use Rattle.std.proofs.Common.{◌≡◌, ◌⊎◌, inl, inr, ℕ, ◌≤◌, List, [], ◌∷◌, ◌++◌, length, refl, sym, ◌∙◌, ap, subst, arith}
+use Rattle.std.proofs.Common.{◌≡◌, ◌⊎◌, inl, inr, List, [], ◌∷◌, ◌++◌, length, refl, sym, ◌∙◌, ap, subst}
 use Rattle.std.proofs.lemmas.List.{append_assoc, append-nil}
-use Rattle.mos_text.specs.declared.kind.Kind.{Kind}
-use Rattle.mos_tree.specs.declared.source.Tree.{Tree}
 use Rattle.mos_parse.specs.declared.form.PieceForm.{PieceForm}
-use Rattle.mos_parse.specs.Sources.{Source, spell_source, tree_of, limit, IsWithin, IsSource}
+use Rattle.mos_parse.specs.Sources.{Source, tree_of, limit, IsSource}
 use Rattle.mos_parse.specs.Faults.{Begins, IsStuck, IsFaulty, FaultyAt}
 use Rattle.mos_parse.specs.Laws.{HaveOneTree, HaveOneFault, HaveNotBoth, HasFault, HaveOneOfBoth}
 use Rattle.mos_parse.specs.Machine.{Outcome, done, stopped, run}

@@ -1,4 +1,4 @@
-use Rattle.std.proofs.Common.{◌≡◌, ℕ, true, false, List, [], ◌∷◌, Option, Some, None, refl, sym, ◌∙◌, ap, subst}
+use Rattle.std.proofs.Common.{◌≡◌, true, [], ◌∷◌, Option, Some, None, refl}
 use Rattle.mos_tree.specs.declared.expr.Expr.{Expr}
 use Rattle.mos_tree.specs.declared.declaration.BaseType.{BaseType}
 use Rattle.mos_parse.specs.declared.form.Form.{Form}
@@ -7,17 +7,15 @@ use Rattle.mos_parse.specs.declared.form.Guard.TheVariants as guard
 use Rattle.mos_parse.specs.declared.form.Keyword.TheVariants as keyword
 use Rattle.mos_parse.specs.declared.form.Mould.{Mould}
 use Rattle.mos_parse.specs.declared.form.Mould.TheVariants as m
-use Rattle.mos_parse.specs.declared.frame.Frame.{Frame}
 use Rattle.mos_parse.specs.declared.frame.Frame.TheVariants as g
 use Rattle.mos_parse.specs.declared.place.Place.{Place}
 use Rattle.mos_parse.specs.declared.place.Place.TheVariants as p
-use Rattle.mos_parse.specs.declared.place.Role.{Role}
-use Rattle.mos_parse.specs.declared.place.Role.TheVariants.{Opens, GoesOn, Stands, Closes}
+use Rattle.mos_parse.specs.declared.place.Role.TheVariants.{Opens, Closes}
 use Rattle.mos_parse.specs.Forms.{mould_of, routine_mould}
 use Rattle.mos_parse.specs.Limits.{own_limit}
 use Rattle.mos_parse.specs.Places.{takes_statements, begins, role_at, start_role, parameters_role, declarations_role, record_role, choice_role, labelled_role}
 use Rattle.mos_parse.specs.Sources.{end_form}
-use Rattle.mos_parse.specs.Machine.{Stack, routine_place, frame_place, place_of}
+use Rattle.mos_parse.specs.Machine.{Stack, routine_place, place_of}
 use Rattle.mos_parse.proofs.Held.{is_model, takes_declarations, is_declarations}
 
 -- ---- what opens where

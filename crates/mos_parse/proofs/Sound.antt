@@ -1,7 +1,5 @@
-use Rattle.std.proofs.Common.{◌≡◌, ℕ, ◌+◌, ◌≤◌, true, false, List, [], ◌∷◌, ◌++◌, length, map, Option, Some, None, refl, sym, ◌∙◌, ap, subst, arith}
-use Rattle.std.proofs.lemmas.List.{append_assoc, map-append}
-use Rattle.mos_tree.specs.declared.statement.Statement.{Statement}
-use Rattle.mos_tree.specs.declared.statement.Statement.TheVariants as s
+use Rattle.std.proofs.Common.{◌≡◌, ℕ, ◌+◌, ◌≤◌, List, [], ◌∷◌, ◌++◌, length, map, Option, Some, refl, sym, ◌∙◌, ap, subst, arith}
+use Rattle.std.proofs.lemmas.List.{append_assoc}
 use Rattle.mos_tree.specs.declared.declaration.Item.TheVariants as i
 use Rattle.mos_tree.specs.declared.declaration.FieldGroup.{FieldGroup}
 use Rattle.mos_tree.specs.declared.source.ModelName.{ModelName}
@@ -18,7 +16,7 @@ use Rattle.mos_parse.specs.declared.frame.Frame.TheVariants as g
 use Rattle.mos_parse.specs.declared.frame.Part.TheVariants as part
 use Rattle.mos_parse.specs.Forms.{piece}
 use Rattle.mos_parse.specs.Statements.{Written, over, as_long_as, then_one, alternative, arm_form, spell, spell_block, spell_arms, spell_alternatives, depth, alternative_of, tree}
-use Rattle.mos_parse.specs.Sources.{Items, record_type, Parts, declares, states, Tops, no_top, declares_top, states_top, spell_field, spell_items, spell_declarations, spell_parts, spell_tops, spell_head, depth_items, depth_tops, declared, tops_of}
+use Rattle.mos_parse.specs.Sources.{Items, record_type, declares, states, Tops, no_top, declares_top, states_top, spell_field, spell_declarations, spell_tops, spell_head, depth_items, depth_tops, declared, tops_of}
 use Rattle.mos_parse.specs.Machine.{Stack, add_statement, add_other}
 use Rattle.mos_parse.proofs.Steps.{one-end}
 use Rattle.mos_parse.proofs.Held.{HeldOwn, Holds}

@@ -1,4 +1,4 @@
-use Rattle.std.proofs.Common.{◌≡◌, ℕ, ◌+◌, ◌≤◌, Bool, true, false, cond, List, [], ◌∷◌, ◌++◌, length, map, Option, Some, None, Result, Ok, Err, refl, sym, ◌∙◌, ap, subst, arith}
+use Rattle.std.proofs.Common.{◌≡◌, ℕ, ◌+◌, ◌≤◌, Bool, true, false, cond, List, [], ◌∷◌, ◌++◌, length, map, Option, Some, None, Ok, refl, sym, ◌∙◌, ap, subst, arith}
 use Rattle.std.specs.Prelude.{nat_lt}
 use Rattle.std.proofs.lemmas.Bool.{ltb-false}
 use Rattle.std.proofs.lemmas.List.{append_assoc, append-nil, map-append}
@@ -6,7 +6,6 @@ use Rattle.std.proofs.lemmas.Slice.Eq.{bytes_eq-Decides}
 use Rattle.mos_text.specs.declared.kind.Kind.{Kind}
 use Rattle.mos_text.specs.declared.kind.Kind.TheVariants as kind
 use Rattle.mos_tree.specs.declared.expr.Expr.{Expr}
-use Rattle.mos_tree.specs.declared.declaration.BaseType.{BaseType}
 use Rattle.mos_tree.specs.declared.declaration.Parameter.{Parameter}
 use Rattle.mos_tree.specs.declared.declaration.FieldGroup.{FieldGroup}
 use Rattle.mos_tree.specs.declared.declaration.Item.{Item}
@@ -15,10 +14,7 @@ use Rattle.mos_tree.specs.declared.declaration.Heading.{Heading}
 use Rattle.mos_tree.specs.declared.source.ModelName.{ModelName}
 use Rattle.mos_tree.specs.declared.source.Head.{Head}
 use Rattle.mos_tree.specs.declared.source.Head.TheVariants as h
-use Rattle.mos_tree.specs.declared.source.Routine.{Routine}
-use Rattle.mos_tree.specs.declared.source.Top.{Top}
 use Rattle.mos_tree.specs.declared.source.Top.TheVariants as t
-use Rattle.mos_tree.specs.declared.source.Tree.{Tree}
 use Rattle.mos_tree.specs.declared.statement.Statement.{Statement}
 use Rattle.mos_tree.specs.declared.statement.Statement.TheVariants as s
 use Rattle.mos_tree.specs.declared.statement.Arm.{Arm}
@@ -36,12 +32,12 @@ use Rattle.mos_parse.specs.declared.frame.Frame.TheVariants as g
 use Rattle.mos_parse.specs.declared.frame.Part.TheVariants as part
 use Rattle.mos_parse.specs.declared.place.Role.{Role}
 use Rattle.mos_parse.specs.declared.place.Role.TheVariants.{Opens, GoesOn, Stands, Closes}
-use Rattle.mos_parse.specs.Forms.{piece, mould_of, routine_mould}
+use Rattle.mos_parse.specs.Forms.{piece, mould_of}
 use Rattle.mos_parse.specs.Limits.{own_limit, module_limit, is_jobs, is_no_implicit}
-use Rattle.mos_parse.specs.Places.{role_at, takes_statements}
-use Rattle.mos_parse.specs.Statements.{no_row, named, labelled, Written, single, bare, conditional, choice, over, as_long_as, repeated, grouped, data_block, Block, nothing, then_one, Arms, no_arm, arm, without, otherwise, no_alternative, alternative, arm_form, spell_rows, spell, spell_block, spell_arms, spell_alternatives, depth, trees, trees_of_arms, trees_of_alternatives, arm_of, first_line, label_groups, tree, statement_of}
-use Rattle.mos_parse.specs.Sources.{no_item, constant, variables, record_type, Parts, no_part, Tops, no_top, sets, defines, announces, Source, spell_parameter, spell_field, spell_items, spell_declarations, spell_parts, heading_form, end_form, spell_tops, spell_head, spell_source, no_implicit, jobs_module, depth_parts, depth_tops, AreModules, IsAllowed, AreAllowed, declared, items_of, parts_of, tops_of, tree_of}
-use Rattle.mos_parse.specs.Machine.{Stack, place_of, put, opened, alone, gone_on, go_on, until, closed, add, add_statement, add_other, end, close, enter, block_limit, or_block, broken_limit, or_syntax, unless, step_as, step_in, step}
+use Rattle.mos_parse.specs.Places.{role_at}
+use Rattle.mos_parse.specs.Statements.{no_row, named, labelled, Written, single, bare, conditional, choice, repeated, grouped, data_block, nothing, no_arm, arm, without, otherwise, no_alternative, arm_form, spell_rows, spell, spell_block, spell_arms, spell_alternatives, arm_of, tree}
+use Rattle.mos_parse.specs.Sources.{no_item, constant, variables, Parts, no_part, Tops, no_top, sets, defines, announces, Source, spell_parameter, spell_field, spell_items, spell_declarations, spell_parts, heading_form, end_form, spell_tops, spell_head, no_implicit, jobs_module, depth_parts, depth_tops, AreModules, IsAllowed, AreAllowed, parts_of, tops_of, tree_of}
+use Rattle.mos_parse.specs.Machine.{Stack, place_of, put, opened, alone, go_on, until, add, add_statement, add_other, end, close, enter, block_limit, or_block, broken_limit, unless, step_as, step_in, step}
 use Rattle.mos_parse.proofs.Held.{is_model, HeldOwn, Holds}
 use Rattle.mos_parse.proofs.Roles.{begins-takes, starts, parameters-there, declarations-there, record-there, routine-there, closes-heads, closes-tops, closes-parameters, closes-declarations, closes-record, closes-routine, closes-arm, closes-otherwise, closes-choice, closes-choice-otherwise, closes-repeated, closes-grouped, closes-labelled}
 use Rattle.mos_parse.proofs.Sound.{some_stack, moved, respelled, HeldOver, over-more, added, IsTop, added-top, added-declared, added-record}

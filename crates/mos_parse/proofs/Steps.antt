@@ -1,22 +1,18 @@
-use Rattle.std.proofs.Common.{◌≡◌, ℕ, ◌+◌, ◌≤◌, true, false, List, [], ◌∷◌, ◌++◌, length, Option, Some, None, Result, Ok, Err, refl, sym, ◌∙◌, ap, subst, arith, map}
-use Rattle.std.specs.Prelude.{nat_lt, cond}
+use Rattle.std.proofs.Common.{◌≡◌, ℕ, ◌≤◌, true, false, List, [], ◌∷◌, ◌++◌, length, Some, None, Ok, refl, ◌∙◌, ap}
+use Rattle.std.specs.Prelude.{nat_lt}
 use Rattle.std.proofs.lemmas.Bool.{le-ltb}
 use Rattle.std.proofs.lemmas.List.{append_assoc}
-use Rattle.mos_text.specs.declared.kind.Kind.{Kind}
-use Rattle.mos_text.specs.declared.kind.Kind.TheVariants as k
 use Rattle.mos_parse.specs.declared.form.Form.{Form}
-use Rattle.mos_parse.specs.declared.form.Form.TheVariants as f
 use Rattle.mos_parse.specs.declared.form.Mould.{Mould}
-use Rattle.mos_parse.specs.declared.form.Mould.TheVariants as m
 use Rattle.mos_parse.specs.declared.form.PieceForm.{PieceForm}
 use Rattle.mos_parse.specs.declared.frame.Frame.{Frame}
 use Rattle.mos_parse.specs.declared.place.Place.{Place}
 use Rattle.mos_parse.specs.declared.place.Role.{Role}
-use Rattle.mos_parse.specs.declared.place.Role.TheVariants.{Opens, GoesOn, Stands, Closes}
+use Rattle.mos_parse.specs.declared.place.Role.TheVariants.{Opens}
 use Rattle.mos_parse.specs.Forms.{mould_of, piece}
 use Rattle.mos_parse.specs.Limits.{own_limit}
 use Rattle.mos_parse.specs.Places.{takes_statements, begins, role_at}
-use Rattle.mos_parse.specs.Machine.{Stack, place_of, put, opened, enter, block_limit, or_block, broken_limit, unless, step_as, step_in, step, Outcome, done, stopped, run}
+use Rattle.mos_parse.specs.Machine.{Stack, place_of, put, opened, enter, block_limit, step_as, step, run}
 
 -- a statement may begin here
 abbrev pub Takes : Stack → Type 0

@@ -1,7 +1,6 @@
-use Rattle.std.proofs.Common.{◌≡◌, ℕ, ◌+◌, ◌≤◌, max, Bool, true, false, cond, List, [], ◌∷◌, ◌++◌, length, Option, Some, None, Result, Ok, Err, refl, sym, ◌∙◌, ap, subst, arith}
-use Rattle.std.specs.Prelude.{nat_lt, IfOk, IfErr}
-use Rattle.std.proofs.lemmas.Bool.{ltb-false, le-ltb}
-use Rattle.std.proofs.lemmas.List.{append_assoc, append-nil}
+use Rattle.std.proofs.Common.{◌≡◌, ℕ, ◌≤◌, List, [], ◌∷◌, ◌++◌, length, Option, Some, None, Result, Ok, Err, refl, sym, ◌∙◌, ap, subst, arith}
+use Rattle.std.specs.Prelude.{IfOk, IfErr}
+use Rattle.std.proofs.lemmas.List.{append-nil}
 use Rattle.mos_text.specs.declared.kind.Kind.{Kind}
 use Rattle.mos_text.specs.declared.kind.Kind.TheVariants as kind
 use Rattle.mos_tree.specs.declared.source.Tree.{Tree}
@@ -9,17 +8,16 @@ use Rattle.mos_parse.specs.declared.fault.PieceFault.{PieceFault}
 use Rattle.mos_parse.specs.declared.fault.PieceFault.TheVariants as fault
 use Rattle.mos_parse.specs.declared.form.Form.{Form}
 use Rattle.mos_parse.specs.declared.form.PieceForm.{PieceForm}
-use Rattle.mos_parse.specs.declared.frame.Frame.{Frame}
 use Rattle.mos_parse.specs.declared.frame.Frame.TheVariants as g
 use Rattle.mos_parse.specs.declared.place.Role.{Role}
 use Rattle.mos_parse.specs.declared.place.Role.TheVariants.{Opens, GoesOn, Stands, Closes}
-use Rattle.mos_parse.specs.Sources.{Source, spell_source, depth_tops, tree_of, limit, IsWithin, IsSource}
-use Rattle.mos_parse.specs.Faults.{Begins, IsStuck, IsFaulty, IsKind, too_early, FaultyAt}
+use Rattle.mos_parse.specs.Sources.{Source, spell_source, tree_of, limit, IsWithin, IsSource}
+use Rattle.mos_parse.specs.Faults.{Begins, IsStuck, IsKind, too_early, FaultyAt}
 use Rattle.mos_parse.specs.Forms.{mould_of}
 use Rattle.mos_parse.specs.Limits.{own_limit}
 use Rattle.mos_parse.specs.Places.{role_at}
 use Rattle.mos_parse.specs.Answers.{IsTree, Gives, IsFaultOf}
-use Rattle.mos_parse.specs.Machine.{Stack, place_of, enter, block_limit, or_block, or_syntax, unless, step_as, step_in, step, Outcome, done, stopped, finished, at_end, behind, run, Answers}
+use Rattle.mos_parse.specs.Machine.{Stack, place_of, enter, block_limit, or_block, step_as, step_in, step, Outcome, done, stopped, finished, at_end, behind, run, Answers}
 use Rattle.mos_parse.proofs.Steps.{block-fits, run-step, one-end}
 use Rattle.mos_parse.proofs.CompleteSource.{source-read}
 use Rattle.mos_parse.proofs.Held.{Holds}

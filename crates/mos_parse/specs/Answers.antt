@@ -1,6 +1,6 @@
 -- What the reader of pieces answers.
 
-use Rattle.std.specs.Prelude.{◌≡◌, ℕ, List, Result, Ok, Err}
+use Rattle.std.specs.Prelude.{◌≡◌, List, Result, Ok, Err}
 use Rattle.mos_tree.specs.declared.source.Tree.{Tree}
 use Rattle.mos_parse.specs.declared.fault.PieceFault.{PieceFault}
 use Rattle.mos_parse.specs.declared.fault.PieceFault.TheVariants.{At, NoMemory}

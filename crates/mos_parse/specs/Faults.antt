@@ -1,11 +1,8 @@
 -- The faulty piece: behind the longest run of pieces with which some source begins. And its kind.
 
 use Rattle.std.specs.Prelude.{◌≡◌, ℕ, List, [], ◌∷◌, ◌++◌, length}
-use Rattle.std.specs.Str.{bytes_eq}
 use Rattle.mos_text.specs.declared.kind.Kind.{Kind}
 use Rattle.mos_text.specs.declared.kind.Kind.TheVariants as k
-use Rattle.mos_parse.specs.declared.form.Form.{Form}
-use Rattle.mos_parse.specs.declared.form.Form.TheVariants as f
 use Rattle.mos_parse.specs.declared.form.Mould.{Mould}
 use Rattle.mos_parse.specs.declared.form.PieceForm.{PieceForm}
 use Rattle.mos_parse.specs.Forms.{mould_of}

@@ -23,7 +23,6 @@ use Rattle.mos_tree.specs.declared.source.Head.TheVariants as h
 use Rattle.mos_tree.specs.declared.source.Declared.{Declared}
 use Rattle.mos_tree.specs.declared.source.RoutinePart.{RoutinePart}
 use Rattle.mos_tree.specs.declared.source.RoutinePart.TheVariants as r
-use Rattle.mos_tree.specs.declared.source.Routine.{Routine}
 use Rattle.mos_tree.specs.declared.source.Top.{Top}
 use Rattle.mos_tree.specs.declared.source.Top.TheVariants as t
 use Rattle.mos_tree.specs.declared.source.Tree.{Tree}

@@ -16,7 +16,6 @@ use Rattle.mos_tree.specs.declared.source.Head.TheVariants as h
 use Rattle.mos_tree.specs.declared.source.Declared.{Declared}
 use Rattle.mos_tree.specs.declared.source.RoutinePart.{RoutinePart}
 use Rattle.mos_tree.specs.declared.source.RoutinePart.TheVariants as r
-use Rattle.mos_tree.specs.declared.source.Routine.{Routine}
 use Rattle.mos_tree.specs.declared.source.Top.{Top}
 use Rattle.mos_tree.specs.declared.source.Top.TheVariants as t
 use Rattle.mos_tree.specs.declared.source.Tree.{Tree}
@@ -32,21 +31,21 @@ pub data Items : Type 0 where
   no_item : Items
   constant : Items → ℕ → List ℕ → Expr → Items
   variables : Items → ℕ → List (List ℕ) → TypeForm → Items
-  record_type : Items → ℕ → List ℕ → List FieldGroup → ℕ → Items     -- with the line of `end-record`
+  record_type : Items → ℕ → List ℕ → List FieldGroup → ℕ → Items  -- with the line of `end-record`
 
 -- what stands in a routine, the last one last
 pub data Parts : Type 0 where
   no_part : Parts
-  declares : Parts → ℕ → Items → ℕ → Parts          -- `declarations`, with the line of its end
+  declares : Parts → ℕ → Items → ℕ → Parts  -- `declarations`, with the line of its end
   states : Parts → Written → Parts
 
 -- what stands in a model behind its heads, the last one last
 pub data Tops : Type 0 where
   no_top : Tops
-  sets : Tops → ℕ → List Parameter → ℕ → Tops       -- `parameters`, with the line of its end
+  sets : Tops → ℕ → List Parameter → ℕ → Tops  -- `parameters`, with the line of its end
   declares_top : Tops → ℕ → Items → ℕ → Tops
-  defines : Tops → Heading → Parts → ℕ → Tops       -- a routine, with the line of its end
-  announces : Tops → Heading → Tops                 -- `forward`
+  defines : Tops → Heading → Parts → ℕ → Tops  -- a routine, with the line of its end
+  announces : Tops → Heading → Tops  -- `forward`
   states_top : Tops → Written → Tops
 
 -- a source: `model` and its name, heads, and what stands behind them, with the line of `end-model`

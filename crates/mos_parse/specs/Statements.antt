@@ -1,7 +1,7 @@
 -- Statements as they are written: their pieces, how deep their blocks go, and their trees. A number
 -- that stands first is the line of the first piece, one that stands last that of the last piece.
 
-use Rattle.std.specs.Prelude.{ℕ, ◌+◌, max, List, [], ◌∷◌, ◌++◌, Option, Some, None}
+use Rattle.std.specs.Prelude.{ℕ, ◌+◌, max, List, [], ◌∷◌, ◌++◌, None}
 use Rattle.mos_tree.specs.declared.expr.Expr.{Expr}
 use Rattle.mos_tree.specs.declared.expr.Index.{Index}
 use Rattle.mos_tree.specs.declared.statement.Statement.{Statement}
@@ -29,15 +29,15 @@ pub data Rows : Type 0 where
 mutual
   -- a statement as it is written
   pub data Written : Type 0 where
-    single : ℕ → Simple → Written                                  -- a statement of one piece
-    bare : ℕ → List ℕ → Written                                    -- a call by a name alone
-    conditional : Arms → ℕ → Expr → Block → Last → ℕ → Written     -- the arms, of which the last stands apart, and `else`
-    choice : ℕ → Expr → Alternatives → Last → ℕ → Written          -- `case`
-    over : ℕ → Index Expr → Written → Written                      -- `forall`
-    as_long_as : ℕ → Expr → Written → Written                      -- `while`
-    repeated : ℕ → Block → ℕ → Expr → Written                      -- `repeat`, the line of `until` and its condition
-    grouped : ℕ → Block → ℕ → Written                              -- `do`
-    data_block : ℕ → Direction → Expr → Rows → ℕ → Written         -- `initializations`
+    single : ℕ → Simple → Written  -- a statement of one piece
+    bare : ℕ → List ℕ → Written  -- a call by a name alone
+    conditional : Arms → ℕ → Expr → Block → Last → ℕ → Written  -- the arms, of which the last stands apart, and `else`
+    choice : ℕ → Expr → Alternatives → Last → ℕ → Written  -- `case`
+    over : ℕ → Index Expr → Written → Written  -- `forall`
+    as_long_as : ℕ → Expr → Written → Written  -- `while`
+    repeated : ℕ → Block → ℕ → Expr → Written  -- `repeat`, the line of `until` and its condition
+    grouped : ℕ → Block → ℕ → Written  -- `do`
+    data_block : ℕ → Direction → Expr → Rows → ℕ → Written  -- `initializations`
 
   -- statements one after the other, the last one last
   pub data Block : Type 0 where

@@ -266,11 +266,7 @@ fn with_top(alloc: Global, frame: Frame, top: Top) -> Result<Option<Frame>, NoMe
 }
 
 /// A model or a routine with one block of `declarations` more.
-fn with_declared(
-    alloc: Global,
-    frame: Frame,
-    declared: Declared,
-) -> Result<Option<Frame>, NoMemory>
+fn with_declared(alloc: Global, frame: Frame, declared: Declared) -> Result<Option<Frame>, NoMemory>
     ensures { IfOk result (λ next. next ≡ spec.with_declared declared frame) }
 {
     match frame {
@@ -448,4 +444,3 @@ pub(crate) fn with_part(alloc: Global, frame: Frame, part: Part) -> Result<Optio
         }
     }
 }
-

@@ -7,5 +7,4 @@ pub fn pieces_are_read_one_way()
     ensures one_fault { HaveOneFault }
     ensures not_both { HaveNotBoth }
     ensures one_of_both { HaveOneOfBoth }
-{
-}
+{}

@@ -258,24 +258,13 @@ fn block_limit(role: Role, blocks: usize) -> Option<Kind>
     ensures { result ≡ spec.block_limit limit role blocks }
 {
     match role {
-        Role::Opens => {
-            if 100 < blocks {
-                Some(Kind::Deep)
-            } else {
-                None
-            }
-        }
+        Role::Opens => { if 100 < blocks { Some(Kind::Deep) } else { None } }
         _ => None,
     }
 }
 
 /// The limit that the piece breaks.
-fn broken(
-    alloc: Global,
-    role: Role,
-    blocks: usize,
-    form: &Form,
-) -> Result<Option<Kind>, NoMemory>
+fn broken(alloc: Global, role: Role, blocks: usize, form: &Form) -> Result<Option<Kind>, NoMemory>
     ensures { IfOk result (λ kind. kind ≡ spec.broken_limit limit role blocks form.now) }
 {
     match own_limit(alloc, form)? {
