@@ -1,0 +1,13 @@
+pub mod Complete
+pub mod CompleteSource
+pub mod Completing
+pub mod Ends
+pub mod Held
+pub mod Naming
+pub mod Progress
+pub mod Reading
+pub mod Roles
+pub mod Sound
+pub mod SoundStep
+pub mod Steps
+pub mod Whole

@@ -1,0 +1,2 @@
+/// Lets go of what has no place.
+pub(crate) fn refuse<T: Drop>(_value: T) {}
