@@ -1,24 +1,25 @@
--- What the reader of pieces answers.
+-- What `parse` answers.
 
-use Rattle.std.specs.Prelude.{◌≡◌, List, Result, Ok, Err}
+use Rattle.std.specs.Prelude.{◌≡◌, ℕ, List, Result, Ok, Err}
+use Rattle.mos_text.specs.declared.kind.Kind.{Kind}
 use Rattle.mos_tree.specs.declared.source.Tree.{Tree}
-use Rattle.mos_parse.specs.declared.fault.PieceFault.{PieceFault}
-use Rattle.mos_parse.specs.declared.fault.PieceFault.TheVariants.{At, NoMemory}
-use Rattle.mos_parse.specs.declared.form.PieceForm.{PieceForm}
-use Rattle.mos_parse.specs.Sources.{Source, IsSource, tree_of}
-use Rattle.mos_parse.specs.Faults.{FaultyAt}
-
--- the tree of a source that these pieces spell
-abbrev pub IsTree : List PieceForm → Tree → Type 0
-IsTree pieces tree = (x : Source) × IsSource pieces x × (tree ≡ tree_of x)
+use Rattle.mos_parse.specs.declared.fault.SyntaxFault.{SyntaxFault}
+use Rattle.mos_parse.specs.declared.fault.SyntaxFault.TheVariants.{At, NoMemory}
+use Rattle.mos_parse.specs.Parsed.{IsSyntaxFault}
 
 -- the call answers with this tree, unless it finds no memory
-abbrev pub Gives : Result Tree PieceFault → Tree → Type 0
-Gives (Ok x) tree = x ≡ tree
-Gives (Err NoMemory) tree = Unit {0}
-Gives (Err (At left kind)) tree = ⊥
+abbrev pub GivesTree : Result Tree SyntaxFault → Tree → Type 0
+GivesTree (Ok x) tree = x ≡ tree
+GivesTree (Err NoMemory) tree = Unit {0}
+GivesTree (Err (At line kind)) tree = ⊥
 
--- the fault says how many pieces are left from the faulty one on, and its kind
-abbrev pub IsFaultOf : List PieceForm → PieceFault → Type 0
-IsFaultOf pieces (At left kind) = FaultyAt pieces left kind
-IsFaultOf pieces NoMemory = Unit {0}
+-- the call answers with this fault, unless it finds no memory
+abbrev pub GivesFault : Result Tree SyntaxFault → ℕ → Kind → Type 0
+GivesFault (Ok x) line kind = ⊥
+GivesFault (Err NoMemory) line kind = Unit {0}
+GivesFault (Err (At at what)) line kind = (at ≡ line) × (what ≡ kind)
+
+-- the fault is true of the source
+abbrev pub IsFaultOf : List ℕ → SyntaxFault → Type 0
+IsFaultOf source (At line kind) = IsSyntaxFault source line kind
+IsFaultOf source NoMemory = Unit {0}

@@ -1,9 +1,2 @@
 pub mod Answers
-pub mod Faults
-pub mod Forms
-pub mod Laws
-pub mod Limits
-pub mod Machine
-pub mod Places
-pub mod Sources
-pub mod Statements
+pub mod Parsed

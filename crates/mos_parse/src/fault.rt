@@ -1,20 +1,20 @@
 use mos_text::{Kind, NoMemory};
 
-/// Why pieces have no tree.
+/// Why a source has no tree.
 #[derive(Debug, Drop)]
-pub enum PieceFault {
-    /// The faulty piece, by how many pieces are left from it on; 0 where the pieces end too early.
-    At { left: usize, kind: Kind },
+pub enum SyntaxFault {
+    /// The line, from 1, and the kind of the fault.
+    At { line: u32, kind: Kind },
     NoMemory,
 }
 
-impl From<NoMemory> for PieceFault {
+impl From<NoMemory> for SyntaxFault {
     ghost use Rattle.std.specs.Prelude.{◌≡◌};
-    ghost use Rattle.mos_parse.specs.declared.fault.PieceFault.TheVariants.{NoMemory as WantsMemory};
+    ghost use Rattle.mos_parse.specs.declared.fault.SyntaxFault.TheVariants.{NoMemory as WantsMemory};
 
     ghost from_gives = { λ _ fault. fault ≡ WantsMemory };
 
-    fn from(_refused: NoMemory) -> PieceFault {
-        PieceFault::NoMemory
+    fn from(_refused: NoMemory) -> SyntaxFault {
+        SyntaxFault::NoMemory
     }
 }

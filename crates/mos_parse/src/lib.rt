@@ -1,24 +1,8 @@
-//! Statements and sources: the tree of the pieces that spell one.
-//!
-//! What one piece is stands in a `Form`. A source is a list of such pieces; blocks stand in one
-//! another at most 100 deep, the model not counted. Pieces without a tree have a faulty piece, behind
-//! the longest run of pieces with which some source begins.
+//! The tree of a source, or its faulty line.
 #![tactic(auto)]
 
-mod closing;
-mod discard;
 mod fault;
-mod form;
-mod frame;
-mod laws;
-mod machine;
-mod place;
-mod reader;
+mod parse;
 
-pub use fault::PieceFault;
-pub use form::{Form, Guard, Keyword, Mould, PieceForm, Simple};
-pub use laws::pieces_are_read_one_way;
-pub use reader::source;
-
-#[cfg(test)]
-mod tests;
+pub use fault::SyntaxFault;
+pub use parse::parse;

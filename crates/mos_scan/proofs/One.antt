@@ -188,3 +188,68 @@ no_fault_of bytes tokens h l.NoMemory f = tt
 pub taken_list : {V : Type 0} (bytes : List ℕ) (r : Result V LexFault) → IfErr r (IsFaultOf bytes) → (tokens : List Token) → IsTokenList bytes tokens → IfErr r IsNoMemory
 taken_list bytes (Ok v) fault tokens h = tt
 taken_list bytes (Err e) fault tokens h = no_fault_of bytes tokens h e fault
+
+-- ---- one fault
+
+stop_once : (bytes : List ℕ) (p q : ℕ) (k l : Kind) → Stops bytes p k → Stops bytes q l → (p ≡ q) × (k ≡ l)
+stop_once bytes p q k l s t =
+    let r = one_cut s.parts t.parts bytes s.left t.left s.cuts t.cuts (stuck_at_fault s.left s.no_gap s.fault) (stuck_at_fault t.left t.no_gap t.fault) in
+    let f : Some (s.wrong, s.far) ≡ Some (t.wrong, t.far) = sym s.fault ∙ subst (λ z. fault_at z ≡ Some (t.wrong, t.far)) (sym r.1) t.fault in
+    let pair : (s.wrong, s.far) ≡ (t.wrong, t.far) = cc in
+    let wrong : s.wrong ≡ t.wrong = ap (λ z. z.0) pair in
+    let far : s.far ≡ t.far = ap (λ z. z.1) pair in
+    (omega (arith, s.there, t.there, ap length r.1, far), s.named ∙ ap (λ z. kind_of_fault z s.left) wrong ∙ ap (λ z. kind_of_fault t.wrong z) r.1 ∙ sym t.named)
+
+-- no UTF-8 in what is read, and a fault of tokens that comes before it
+not_before : (bytes : List ℕ) (reach place : ℕ) (kind : Kind) → IsRead bytes reach → utf8_valid_len bytes < reach → Stops bytes place kind → place < utf8_valid_len bytes → ⊥
+not_before bytes reach place kind (read_whole reach' parts left w e) h s less = no_stop bytes left parts place kind w s
+not_before bytes reach place kind (read_to_fault at k t) h s less =
+    let same = stop_once bytes at place k kind t s in
+    omega (arith, same.0, h, less)
+
+one_fault : (bytes : List ℕ) (p q : ℕ) (k l : Kind) → IsLexicalFault bytes p k → IsLexicalFault bytes q l → (p ≡ q) × (k ≡ l)
+one_fault bytes p q k l (no_utf8 reach r h) (no_utf8 other s g) = (refl, refl)
+one_fault bytes p q k l (no_utf8 reach r h) (no_token q' l' s less) = absurd (not_before bytes reach q' l' r h s less)
+one_fault bytes p q k l (no_token p' k' s less) (no_utf8 reach r h) = absurd (not_before bytes reach p' k' r h s less)
+one_fault bytes p q k l (no_token p' k' s less) (no_token q' l' t more) = stop_once bytes p' q' k' l' s t
+
+fault_given : (bytes : List ℕ) (fault : LexFault) (place : ℕ) (kind : Kind) → IsFaultOf bytes fault → IsLexicalFault bytes place kind → Names fault bytes place kind
+fault_given bytes (l.At line column k) place kind f h =
+    let same = one_fault bytes f.place place k kind f.fault h in
+    (f.line_is ∙ ap (λ z. line_of bytes z) same.0, f.column_is ∙ ap (λ z. column_of bytes z) same.0, same.1)
+fault_given bytes l.NoMemory place kind f h = tt
+
+pub only_fault : {V : Type 0} (items : V → List Token) (bytes : List ℕ) (r : Result V LexFault) → IfOk r (λ v. IsTokenList bytes (items v)) → IfErr r (IsFaultOf bytes)
+    → (place : ℕ) (kind : Kind) → IsLexicalFault bytes place kind → GivesFault r bytes place kind
+only_fault items bytes (Ok v) found fault place kind h = list_or_fault bytes (items v) place kind found h
+only_fault items bytes (Err e) found fault place kind h = fault_given bytes e place kind fault h
+
+-- ---- as many tokens as bytes at most
+
+has_bytes : (k : TokenKind) (text rest : List ℕ) → IsToken k text rest → 1 ≤ length text
+unfolding kind_of
+has_bytes k [] rest t = let h : None ≡ Some k = t.form in cc
+has_bytes k (x ∷ xs) rest t = omega arith
+
+few_cut : (at line : ℕ) (xs : List Part) (bytes left : List ℕ) → Cuts bytes xs left → length (tokens_from at line xs) + length left ≤ length bytes
+few_cut at line [] bytes left c = omega (arith, ap length c)
+few_cut at line (gap text ∷ xs) bytes left c = omega (arith, ap length c.1, length-append text c.0, few_cut (at + length text) (line + newlines text) xs c.0 left c.4)
+few_cut at line (token k text ∷ xs) bytes left c = omega (arith, ap length c.1, length-append text c.0, has_bytes k text c.0 c.2, few_cut (at + length text) (line + newlines text) xs c.0 left c.4)
+
+-- the parts with one token more
+few_with : (at line : ℕ) (xs : List Part) (k : TokenKind) (more : List ℕ) → length (tokens_from at line (xs ++ token k more ∷ [])) ≡ length (tokens_from at line xs) + 1
+few_with at line [] k more = refl
+few_with at line (gap text ∷ xs) k more = few_with (at + length text) (line + newlines text) xs k more
+few_with at line (token j text ∷ xs) k more = omega (arith, few_with (at + length text) (line + newlines text) xs k more)
+
+few_whole : (bytes left : List ℕ) (xs : List Part) → Whole bytes left xs → length (tokens_from 0 1 xs) ≤ length bytes
+few_whole bytes left xs (up_to_the_end ps c e) = omega (arith, few_cut 0 1 ps bytes [] c)
+few_whole bytes left xs (up_to_end_model ps text rest c e t) =
+    omega (arith, few_with 0 1 ps EndModel text, few_cut 0 1 ps bytes rest c, ap length e, length-append text left, has_bytes EndModel text left t)
+
+few_tokens : (bytes : List ℕ) (tokens : List Token) → IsTokenList bytes tokens → length tokens ≤ length bytes
+few_tokens bytes tokens h = omega (arith, ap length h.are, few_whole bytes h.left h.parts h.whole)
+
+pub few_found : {V : Type 0} (items : V → List Token) (bytes : List ℕ) (r : Result V LexFault) → IfOk r (λ v. IsTokenList bytes (items v)) → IfOk r (λ v. length (items v) ≤ length bytes)
+few_found items bytes (Ok v) found = few_tokens bytes (items v) found
+few_found items bytes (Err e) found = tt

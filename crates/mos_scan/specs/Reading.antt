@@ -6,6 +6,7 @@ use Rattle.mos_scan.specs.declared.token.TokenKind.{TokenKind}
 use Rattle.mos_scan.specs.declared.token.TokenKind.TheVariants as t
 use Rattle.mos_scan.specs.declared.token.Token.{Token}
 use Rattle.mos_scan.specs.declared.piece.Behind.{Behind}
+use Rattle.mos_scan.specs.declared.piece.Piece.{Piece}
 use Rattle.mos_scan.specs.declared.reading.Word.{Word}
 use Rattle.mos_scan.specs.declared.reading.Word.TheVariants as w
 
@@ -70,3 +71,17 @@ words_from behind source (token ∷ tokens) =
 -- what the grammar sees of the tokens of a source
 abbrev pub words_of : List ℕ → List Token → List Word
 words_of source tokens = words_from nothing_behind source tokens
+
+abbrev pub is_newline : TokenKind → Bool
+is_newline t.Newline = true
+is_newline _ = false
+
+-- the words of tokens, but for the newlines
+abbrev pub words_but_newlines : List ℕ → List Token → List Word
+words_but_newlines source [] = []
+words_but_newlines source (token ∷ tokens) =
+    if is_newline token.kind then words_but_newlines source tokens else word_of source token ∷ words_but_newlines source tokens
+
+-- the words of a piece of these tokens: in a piece a newline ends nothing
+abbrev pub piece_words : List ℕ → List Token → Piece → List Word
+piece_words source tokens p = words_but_newlines source (take (p.to - p.from) (drop p.from tokens))

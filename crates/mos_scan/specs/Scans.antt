@@ -1,4 +1,4 @@
-use Rattle.std.specs.Prelude.{◌≡◌, ℕ, ◌+◌, ◌≤◌, List, length, Some, None}
+use Rattle.std.specs.Prelude.{◌≡◌, ℕ, ◌+◌, ◌≤◌, List, length, Some, None, Result, Ok, Err}
 use Rattle.mos_scan.specs.Tokens.{gap_at, fault_at}
 use Rattle.mos_scan.specs.Cuts.{Part, Cuts, Whole, tokens_from, IsLexicalFault, line_of, column_of}
 use Rattle.mos_text.specs.declared.kind.Kind.{Kind}
@@ -50,3 +50,13 @@ IsFaultOf bytes l.NoMemory = Unit {0}
 abbrev pub IsNoMemory : LexFault → Type 0
 IsNoMemory (l.At line column kind) = ⊥
 IsNoMemory l.NoMemory = Unit {0}
+
+-- the fault names this place and kind, unless memory was wanting
+abbrev pub Names : LexFault → List ℕ → ℕ → Kind → Type 0
+Names (l.At line column k) bytes place kind = (line ≡ line_of bytes place) × (column ≡ column_of bytes place) × (k ≡ kind)
+Names l.NoMemory bytes place kind = Unit {0}
+
+-- the call answers with the fault of this place and kind, unless it finds no memory
+abbrev pub GivesFault : {V : Type 0} → Result V LexFault → List ℕ → ℕ → Kind → Type 0
+GivesFault (Ok v) bytes place kind = ⊥
+GivesFault (Err fault) bytes place kind = Names fault bytes place kind

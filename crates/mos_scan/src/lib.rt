@@ -16,7 +16,7 @@ mod word;
 
 pub use fault::LexFault;
 pub use piece::{Piece, pieces};
-pub use reading::{Word, words};
+pub use reading::{Word, piece_words, words};
 pub use scanner::scan;
 pub use token::{Token, TokenKind};
 

@@ -2,7 +2,7 @@ ghost use Rattle.std.specs.Prelude.{◌≡◌, ◌≤◌, ◌+◌, ◌-◌, fals
 ghost use Rattle.mos_scan.specs.Reading as spec;
 
 use crate::piece::{Behind, behind_next, nothing_behind, separates};
-use crate::{Token, TokenKind};
+use crate::{Piece, Token, TokenKind};
 use mos_text::{NoMemory, Text};
 use std::alloc::Global;
 
@@ -148,4 +148,52 @@ pub fn words(alloc: Global, source: &[u8], tokens: &[Token]) -> Result<Vec<Word>
         behind = behind_next(behind, token.kind);
     }
     Ok(found)
+}
+
+fn is_newline(kind: TokenKind) -> bool
+    ensures { result ≡ spec.is_newline kind }
+{
+    matches!(kind, TokenKind::Newline)
+}
+
+/// The tokens from one place to another; none where there are none.
+fn tokens_between(tokens: &[Token], from: usize, to: usize) -> &[Token]
+    ensures { result.now ≡ take (to - from) (drop from tokens.now) }
+{
+    let (_, rest) = tokens.split_at(from.min(tokens.len()));
+    let (between, _) = rest.split_at(to.saturating_sub(from).min(rest.len()));
+    between
+}
+
+fn words_but_newlines(
+    alloc: Global,
+    source: &[u8],
+    tokens: &[Token],
+) -> Result<Vec<Word>, NoMemory>
+    ensures { IfOk result (λ v. v.items ≡ spec.words_but_newlines source.now tokens.now) }
+{
+    let mut found = Vec::new(alloc);
+    for token in tokens {
+        if !is_newline(token.kind) {
+            found.push(word_of(alloc, source, token)?)?;
+        }
+    }
+    Ok(found)
+}
+
+/// What the grammar sees of a piece of these tokens: its words, without the newlines, which end nothing
+/// in a piece.
+pub fn piece_words(
+    alloc: Global,
+    source: &[u8],
+    tokens: &[Token],
+    piece: Piece,
+) -> Result<Vec<Word>, NoMemory>
+    ensures { IfOk result (λ v. v.items ≡ spec.piece_words source.now tokens.now piece) }
+{
+    words_but_newlines(
+        alloc,
+        source,
+        tokens_between(tokens, piece.from as usize, piece.to as usize),
+    )
 }

@@ -1,0 +1,187 @@
+use Rattle.std.proofs.Common.{◌≡◌, ℕ, ◌+◌, ◌≤◌, Bool, true, false, List, [], ◌∷◌, ◌++◌, length, map}
+use Rattle.mos_tree.specs.declared.expr.Expr.{Expr}
+use Rattle.mos_tree.specs.declared.declaration.Parameter.{Parameter}
+use Rattle.mos_tree.specs.declared.declaration.FieldGroup.{FieldGroup}
+use Rattle.mos_tree.specs.declared.declaration.Item.{Item}
+use Rattle.mos_tree.specs.declared.declaration.Heading.{Heading}
+use Rattle.mos_tree.specs.declared.statement.Statement.{Statement}
+use Rattle.mos_tree.specs.declared.statement.Arm.{Arm}
+use Rattle.mos_tree.specs.declared.statement.Alternative.{Alternative}
+use Rattle.mos_tree.specs.declared.statement.LabelGroup.{LabelGroup}
+use Rattle.mos_tree.specs.declared.source.ModelName.{ModelName}
+use Rattle.mos_tree.specs.declared.source.Head.{Head}
+use Rattle.mos_tree.specs.declared.source.RoutinePart.{RoutinePart}
+use Rattle.mos_tree.specs.declared.source.Top.{Top}
+use Rattle.mos_tree.specs.declared.source.Tree.{Tree}
+use Rattle.mos_form.specs.declared.form.Form.TheVariants as f
+use Rattle.mos_form.specs.declared.form.Guard.TheVariants as guard
+use Rattle.mos_form.specs.declared.form.Keyword.TheVariants as keyword
+use Rattle.mos_form.specs.declared.form.PieceForm.{PieceForm}
+use Rattle.mos_source.specs.declared.frame.Frame.{Frame}
+use Rattle.mos_source.specs.declared.frame.Frame.TheVariants as g
+use Rattle.mos_source.specs.declared.place.Place.{Place}
+use Rattle.mos_source.specs.declared.place.Place.TheVariants as p
+use Rattle.mos_form.specs.Forms.{piece}
+use Rattle.mos_source.specs.Places.{takes_statements}
+use Rattle.mos_source.specs.Statements.{Rows, Block, Arms, Alternatives, arm_form, spell_rows, spell_block, spell_arms, spell_alternatives, depth_block, depth_arms, depth_alternatives, label_groups, first_line, arm_of, trees, trees_of_arms, trees_of_alternatives}
+use Rattle.mos_source.specs.Sources.{Items, Parts, Tops, Source, spell_parameter, spell_field, spell_items, spell_parts, heading_form, spell_tops, spell_head, spell_source, depth_items, depth_parts, depth_tops, AreAllowed, IsWithin, items_of, parts_of, tops_of, tree_of}
+use Rattle.mos_source.specs.Machine.{Stack, place_of}
+
+-- What was read: the pieces that a stack of open blocks stands for.
+
+-- the top of a model
+abbrev pub is_model : Place → Bool
+is_model p.Heads = true
+is_model p.Tops = true
+is_model _ = false
+
+abbrev pub takes_declarations : Place → Bool
+takes_declarations p.Heads = true
+takes_declarations p.Tops = true
+takes_declarations p.Procedure = true
+takes_declarations p.Function = true
+takes_declarations _ = false
+
+abbrev pub is_declarations : Place → Bool
+is_declarations p.Declarations = true
+is_declarations _ = false
+
+pub record HeldParameters (deep : ℕ) (k : Stack) (l : ℕ) (xs : List Parameter) (own : List PieceForm) : Type 0 where
+  pub there : is_model (place_of k) ≡ true
+  pub fits : length k ≤ deep
+  pub exact : own ≡ piece l (f.Keyword keyword.Parameters) ∷ map spell_parameter xs
+
+pub record HeldDeclarations (deep : ℕ) (k : Stack) (l : ℕ) (xs : List Item) (own : List PieceForm) : Type 0 where
+  pub there : takes_declarations (place_of k) ≡ true
+  pub items : Items
+  pub are : xs ≡ items_of items
+  pub fits : depth_items items + length k ≤ deep
+  pub exact : own ≡ piece l (f.Keyword keyword.Declarations) ∷ spell_items items
+
+pub record HeldRecord (deep : ℕ) (k : Stack) (l : ℕ) (name : List ℕ) (xs : List FieldGroup) (own : List PieceForm) : Type 0 where
+  pub there : is_declarations (place_of k) ≡ true
+  pub fits : length k ≤ deep
+  pub exact : own ≡ piece l (f.RecordOf name) ∷ map spell_field xs
+
+pub record HeldRoutine (deep : ℕ) (k : Stack) (heading : Heading) (xs : List RoutinePart) (own : List PieceForm) : Type 0 where
+  pub there : is_model (place_of k) ≡ true
+  pub parts : Parts
+  pub are : xs ≡ parts_of parts
+  pub fits : depth_parts parts + length k ≤ deep
+  pub exact : own ≡ piece heading.line (heading_form heading) ∷ spell_parts parts
+
+pub record HeldArm (deep : ℕ) (k : Stack) (first : ℕ) (arms : List (Arm Statement)) (l : ℕ) (c : Expr) (body : List Statement) (own : List PieceForm) : Type 0 where
+  pub there : takes_statements (place_of k) ≡ true
+  pub before : Arms
+  pub block : Block
+  pub line : first ≡ first_line before l
+  pub are : arms ≡ trees_of_arms before
+  pub body_is : body ≡ trees block
+  pub fits : depth_arms before + length k ≤ deep
+  pub fits_body : depth_block block + length k ≤ deep
+  pub exact : own ≡ spell_arms before ++ piece l (arm_form before c) ∷ spell_block block
+
+pub record HeldOtherwise (deep : ℕ) (k : Stack) (first : ℕ) (arms : List (Arm Statement)) (body : List Statement) (own : List PieceForm) : Type 0 where
+  pub there : takes_statements (place_of k) ≡ true
+  pub before : Arms
+  pub last : ℕ
+  pub condition : Expr
+  pub guarded : Block
+  pub at : ℕ
+  pub block : Block
+  pub line : first ≡ first_line before last
+  pub are : arms ≡ trees_of_arms before ++ arm_of last condition (trees guarded) ∷ []
+  pub body_is : body ≡ trees block
+  pub fits : depth_arms before + length k ≤ deep
+  pub fits_guarded : depth_block guarded + length k ≤ deep
+  pub fits_body : depth_block block + length k ≤ deep
+  pub exact : own ≡ (spell_arms before ++ piece last (arm_form before condition) ∷ spell_block guarded) ++ piece at (f.Keyword keyword.Else) ∷ spell_block block
+
+pub record HeldChoice (deep : ℕ) (k : Stack) (l : ℕ) (v : Expr) (xs : List (Alternative Statement)) (own : List PieceForm) : Type 0 where
+  pub there : takes_statements (place_of k) ≡ true
+  pub chosen : Alternatives
+  pub are : xs ≡ trees_of_alternatives chosen
+  pub fits : depth_alternatives chosen + length k ≤ deep
+  pub exact : own ≡ piece l (f.Guarded guard.Case v) ∷ spell_alternatives chosen
+
+pub record HeldChosen (deep : ℕ) (k : Stack) (l : ℕ) (v : Expr) (xs : List (Alternative Statement)) (at : ℕ) (labels : List Expr) (own : List PieceForm) : Type 0 where
+  pub there : takes_statements (place_of k) ≡ true
+  pub chosen : Alternatives
+  pub are : xs ≡ trees_of_alternatives chosen
+  pub fits : depth_alternatives chosen + length k ≤ deep
+  pub exact : own ≡ piece l (f.Guarded guard.Case v) ∷ (spell_alternatives chosen ++ piece at (f.Alternative labels) ∷ [])
+
+pub record HeldChoiceOtherwise (deep : ℕ) (k : Stack) (l : ℕ) (v : Expr) (xs : List (Alternative Statement)) (body : List Statement) (own : List PieceForm) : Type 0 where
+  pub there : takes_statements (place_of k) ≡ true
+  pub chosen : Alternatives
+  pub at : ℕ
+  pub block : Block
+  pub are : xs ≡ trees_of_alternatives chosen
+  pub body_is : body ≡ trees block
+  pub fits : depth_alternatives chosen + length k ≤ deep
+  pub fits_body : depth_block block + length k ≤ deep
+  pub exact : own ≡ piece l (f.Guarded guard.Case v) ∷ (spell_alternatives chosen ++ piece at (f.Keyword keyword.Else) ∷ spell_block block)
+
+pub record HeldLoop (deep : ℕ) (k : Stack) (x : PieceForm) (own : List PieceForm) : Type 0 where
+  pub there : takes_statements (place_of k) ≡ true
+  pub fits : length k ≤ deep
+  pub exact : own ≡ x ∷ []
+
+pub record HeldBlock (deep : ℕ) (k : Stack) (x : PieceForm) (body : List Statement) (own : List PieceForm) : Type 0 where
+  pub there : takes_statements (place_of k) ≡ true
+  pub block : Block
+  pub body_is : body ≡ trees block
+  pub fits : depth_block block + length k ≤ deep
+  pub exact : own ≡ x ∷ spell_block block
+
+pub record HeldRows (deep : ℕ) (k : Stack) (x : PieceForm) (groups : List LabelGroup) (own : List PieceForm) : Type 0 where
+  pub there : takes_statements (place_of k) ≡ true
+  pub rows : Rows
+  pub are : groups ≡ label_groups rows
+  pub fits : length k ≤ deep
+  pub exact : own ≡ x ∷ spell_rows rows
+
+-- the pieces of the innermost block, behind those of the blocks round it
+abbrev pub HeldOwn : ℕ → Frame → Stack → List PieceForm → Type 0
+HeldOwn deep (g.Parameters l xs) k own = HeldParameters deep k l xs own
+HeldOwn deep (g.Declarations l xs) k own = HeldDeclarations deep k l xs own
+HeldOwn deep (g.Record l name xs) k own = HeldRecord deep k l name xs own
+HeldOwn deep (g.Routine heading xs) k own = HeldRoutine deep k heading xs own
+HeldOwn deep (g.Arm first arms l c body) k own = HeldArm deep k first arms l c body own
+HeldOwn deep (g.Otherwise first arms body) k own = HeldOtherwise deep k first arms body own
+HeldOwn deep (g.Choice l v xs) k own = HeldChoice deep k l v xs own
+HeldOwn deep (g.Chosen l v xs at labels) k own = HeldChosen deep k l v xs at labels own
+HeldOwn deep (g.ChoiceOtherwise l v xs body) k own = HeldChoiceOtherwise deep k l v xs body own
+HeldOwn deep (g.Over l index) k own = HeldLoop deep k (piece l (f.Forall index)) own
+HeldOwn deep (g.AsLongAs l c) k own = HeldLoop deep k (piece l (f.Guarded guard.While c)) own
+HeldOwn deep (g.Repeated l body) k own = HeldBlock deep k (piece l (f.Keyword keyword.Repeat)) body own
+HeldOwn deep (g.Grouped l body) k own = HeldBlock deep k (piece l (f.Keyword keyword.Do)) body own
+HeldOwn deep (g.Labelled l d e rows) k own = HeldRows deep k (piece l (f.Initializations d e)) rows own
+HeldOwn deep _ k own = ⊥
+
+pub record HeldHeads (deep : ℕ) (k : Stack) (l : ℕ) (name : ModelName) (heads : List Head) (pieces : List PieceForm) : Type 0 where
+  pub alone : k ≡ []
+  pub allowed : AreAllowed heads
+  pub exact : pieces ≡ piece l (f.Model name) ∷ map spell_head heads
+
+pub record HeldTops (deep : ℕ) (k : Stack) (l : ℕ) (name : ModelName) (heads : List Head) (xs : List Top) (pieces : List PieceForm) : Type 0 where
+  pub alone : k ≡ []
+  pub allowed : AreAllowed heads
+  pub tops : Tops
+  pub are : xs ≡ tops_of tops
+  pub fits : depth_tops tops ≤ deep
+  pub exact : pieces ≡ piece l (f.Model name) ∷ (map spell_head heads ++ spell_tops tops)
+
+pub record HeldEnd (deep : ℕ) (k : Stack) (t : Tree) (pieces : List PieceForm) : Type 0 where
+  pub alone : k ≡ []
+  pub source : Source
+  pub within : IsWithin deep source
+  pub exact : pieces ≡ spell_source source
+  pub is : t ≡ tree_of source
+
+abbrev pub Holds : ℕ → Stack → List PieceForm → Type 0
+Holds deep [] pieces = pieces ≡ []
+Holds deep (g.Heads l name heads ∷ k) pieces = HeldHeads deep k l name heads pieces
+Holds deep (g.Tops l name heads xs ∷ k) pieces = HeldTops deep k l name heads xs pieces
+Holds deep (g.End t ∷ k) pieces = HeldEnd deep k t pieces
+Holds deep (frame ∷ k) pieces = (before : List PieceForm) × (own : List PieceForm) × Holds deep k before × (pieces ≡ before ++ own) × HeldOwn deep frame k own

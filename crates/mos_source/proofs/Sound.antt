@@ -1,0 +1,196 @@
+use Rattle.std.proofs.Common.{◌≡◌, ℕ, ◌+◌, ◌≤◌, List, [], ◌∷◌, ◌++◌, length, map, Option, Some, refl, sym, ◌∙◌, ap, subst, arith}
+use Rattle.std.proofs.lemmas.List.{append_assoc}
+use Rattle.mos_tree.specs.declared.declaration.Item.TheVariants as i
+use Rattle.mos_tree.specs.declared.declaration.FieldGroup.{FieldGroup}
+use Rattle.mos_tree.specs.declared.source.ModelName.{ModelName}
+use Rattle.mos_tree.specs.declared.source.Head.{Head}
+use Rattle.mos_tree.specs.declared.source.Top.{Top}
+use Rattle.mos_tree.specs.declared.source.Top.TheVariants as t
+use Rattle.mos_tree.specs.declared.source.RoutinePart.TheVariants as r
+use Rattle.mos_form.specs.declared.form.Form.TheVariants as f
+use Rattle.mos_form.specs.declared.form.Guard.TheVariants as guard
+use Rattle.mos_form.specs.declared.form.Keyword.TheVariants as keyword
+use Rattle.mos_form.specs.declared.form.PieceForm.{PieceForm}
+use Rattle.mos_source.specs.declared.frame.Frame.{Frame}
+use Rattle.mos_source.specs.declared.frame.Frame.TheVariants as g
+use Rattle.mos_source.specs.declared.frame.Part.TheVariants as part
+use Rattle.mos_form.specs.Forms.{piece}
+use Rattle.mos_source.specs.Statements.{Written, over, as_long_as, then_one, alternative, arm_form, spell, spell_block, spell_arms, spell_alternatives, depth, alternative_of, tree}
+use Rattle.mos_source.specs.Sources.{Items, record_type, declares, states, Tops, no_top, declares_top, states_top, spell_field, spell_declarations, spell_tops, spell_head, depth_items, depth_tops, declared, tops_of}
+use Rattle.mos_source.specs.Machine.{Stack, add_statement, add_other}
+use Rattle.mos_source.proofs.Steps.{one-end}
+use Rattle.mos_source.proofs.Held.{HeldOwn, Holds}
+
+abbrev pub some_stack : Stack → Option Stack
+some_stack k = Some k
+
+pub moved : (deep : ℕ) (a b : Stack) (pieces : List PieceForm) → some_stack a ≡ some_stack b → Holds deep a pieces → Holds deep b pieces
+moved deep a b pieces e h =
+    let same : a ≡ b = cc in
+    subst (λ n. Holds deep n pieces) same h
+
+pub respelled : (deep : ℕ) (k : Stack) (a b : List PieceForm) → a ≡ b → Holds deep k a → Holds deep k b
+respelled deep k a b e h = subst (λ ps. Holds deep k ps) e h
+
+-- what is held of a block that is open in others
+abbrev pub HeldOver : ℕ → Frame → Stack → List PieceForm → Type 0
+HeldOver deep frame k pieces = (before : List PieceForm) × (own : List PieceForm) × Holds deep k before × (pieces ≡ before ++ own) × HeldOwn deep frame k own
+
+-- a block goes on
+pub over-more : (deep : ℕ) (frame next : Frame) (k : Stack) (pieces more : List PieceForm) → (h : HeldOver deep frame k pieces) → HeldOwn deep next k (h.1 ++ more) → HeldOver deep next k (pieces ++ more)
+over-more deep frame next k pieces more h own = (h.0, h.1 ++ more, h.2, ap (λ z. z ++ more) h.3 ∙ append_assoc h.0 h.1 more, own)
+
+-- ---- a statement more
+
+pub added : (deep : ℕ) (k next : Stack) (before : List PieceForm) (w : Written) → Holds deep k before → depth w + length k ≤ deep + 1 → add_statement (tree w) k ≡ some_stack next → Holds deep next (before ++ spell w)
+added deep [] next before w h d e = let no : ⊥ = cc in absurd no
+added deep (g.Heads l name hs ∷ k) next before w h d e =
+    moved deep (g.Tops l name hs (t.Statement (tree w) ∷ []) ∷ k) next (before ++ spell w) e
+    (record { alone = h.alone; allowed = h.allowed; tops = states_top no_top w; are = refl; fits = omega (arith, d); exact = rw h.exact refl })
+added deep (g.Tops l name hs xs ∷ k) next before w h d e =
+    moved deep (g.Tops l name hs (xs ++ t.Statement (tree w) ∷ []) ∷ k) next (before ++ spell w) e
+    (record {
+      alone = h.alone;
+      allowed = h.allowed;
+      tops = states_top h.tops w;
+      are = ap (λ z. z ++ t.Statement (tree w) ∷ []) h.are;
+      fits = omega (arith, d, h.fits);
+      exact = rw h.exact (ap (λ z. piece l (f.Model name) ∷ z) (append_assoc (map spell_head hs) (spell_tops h.tops) (spell w)));
+    })
+added deep (g.Routine heading xs ∷ k) next before w h d e =
+    moved deep (g.Routine heading (xs ++ r.Statement (tree w) ∷ []) ∷ k) next (before ++ spell w) e
+    (over-more deep (g.Routine heading xs) (g.Routine heading (xs ++ r.Statement (tree w) ∷ [])) k before (spell w) h
+    (record { there = h.4.there; parts = states h.4.parts w; are = ap (λ z. z ++ r.Statement (tree w) ∷ []) h.4.are; fits = omega (arith, d, h.4.fits); exact = rw h.4.exact refl }))
+added deep (g.Arm first arms l c body ∷ k) next before w h d e =
+    moved deep (g.Arm first arms l c (body ++ tree w ∷ []) ∷ k) next (before ++ spell w) e
+    (over-more deep (g.Arm first arms l c body) (g.Arm first arms l c (body ++ tree w ∷ [])) k before (spell w) h
+    (record {
+      there = h.4.there;
+      before = h.4.before;
+      block = then_one h.4.block w;
+      line = h.4.line;
+      are = h.4.are;
+      body_is = ap (λ z. z ++ tree w ∷ []) h.4.body_is;
+      fits = h.4.fits;
+      fits_body = omega (arith, d, h.4.fits_body);
+      exact = rw h.4.exact (append_assoc (spell_arms h.4.before) (piece l (arm_form h.4.before c) ∷ spell_block h.4.block) (spell w));
+    }))
+added deep (g.Otherwise first arms body ∷ k) next before w h d e =
+    moved deep (g.Otherwise first arms (body ++ tree w ∷ []) ∷ k) next (before ++ spell w) e
+    (over-more deep (g.Otherwise first arms body) (g.Otherwise first arms (body ++ tree w ∷ [])) k before (spell w) h
+    (record {
+      there = h.4.there;
+      before = h.4.before;
+      last = h.4.last;
+      condition = h.4.condition;
+      guarded = h.4.guarded;
+      at = h.4.at;
+      block = then_one h.4.block w;
+      line = h.4.line;
+      are = h.4.are;
+      body_is = ap (λ z. z ++ tree w ∷ []) h.4.body_is;
+      fits = h.4.fits;
+      fits_guarded = h.4.fits_guarded;
+      fits_body = omega (arith, d, h.4.fits_body);
+      exact = rw h.4.exact (append_assoc (spell_arms h.4.before ++ piece h.4.last (arm_form h.4.before h.4.condition) ∷ spell_block h.4.guarded) (piece h.4.at (f.Keyword keyword.Else) ∷ spell_block h.4.block) (spell w));
+    }))
+added deep (g.Chosen l v xs at labels ∷ k) next before w h d e =
+    moved deep (g.Choice l v (xs ++ alternative_of at labels (tree w) ∷ []) ∷ k) next (before ++ spell w) e
+    (over-more deep (g.Chosen l v xs at labels) (g.Choice l v (xs ++ alternative_of at labels (tree w) ∷ [])) k before (spell w) h
+    (record {
+      there = h.4.there;
+      chosen = alternative h.4.chosen at labels w;
+      are = ap (λ z. z ++ alternative_of at labels (tree w) ∷ []) h.4.are;
+      fits = omega (arith, d, h.4.fits);
+      exact = rw h.4.exact (ap (λ z. piece l (f.Guarded guard.Case v) ∷ z) (one-end (spell_alternatives h.4.chosen) (piece at (f.Alternative labels)) (spell w)));
+    }))
+added deep (g.ChoiceOtherwise l v xs body ∷ k) next before w h d e =
+    moved deep (g.ChoiceOtherwise l v xs (body ++ tree w ∷ []) ∷ k) next (before ++ spell w) e
+    (over-more deep (g.ChoiceOtherwise l v xs body) (g.ChoiceOtherwise l v xs (body ++ tree w ∷ [])) k before (spell w) h
+    (record {
+      there = h.4.there;
+      chosen = h.4.chosen;
+      at = h.4.at;
+      block = then_one h.4.block w;
+      are = h.4.are;
+      body_is = ap (λ z. z ++ tree w ∷ []) h.4.body_is;
+      fits = h.4.fits;
+      fits_body = omega (arith, d, h.4.fits_body);
+      exact = rw h.4.exact (ap (λ z. piece l (f.Guarded guard.Case v) ∷ z) (append_assoc (spell_alternatives h.4.chosen) (piece h.4.at (f.Keyword keyword.Else) ∷ spell_block h.4.block) (spell w)));
+    }))
+added deep (g.Over l index ∷ k) next before w h d e =
+    respelled deep next (h.0 ++ piece l (f.Forall index) ∷ spell w) (before ++ spell w)
+    (sym (ap (λ z. z ++ spell w) (h.3 ∙ ap (λ o. h.0 ++ o) h.4.exact) ∙ one-end h.0 (piece l (f.Forall index)) (spell w)))
+    (added deep k next h.0 (over l index w) h.2 (omega (arith, d)) e)
+added deep (g.AsLongAs l c ∷ k) next before w h d e =
+    respelled deep next (h.0 ++ piece l (f.Guarded guard.While c) ∷ spell w) (before ++ spell w)
+    (sym (ap (λ z. z ++ spell w) (h.3 ∙ ap (λ o. h.0 ++ o) h.4.exact) ∙ one-end h.0 (piece l (f.Guarded guard.While c)) (spell w)))
+    (added deep k next h.0 (as_long_as l c w) h.2 (omega (arith, d)) e)
+added deep (g.Repeated l body ∷ k) next before w h d e =
+    moved deep (g.Repeated l (body ++ tree w ∷ []) ∷ k) next (before ++ spell w) e
+    (over-more deep (g.Repeated l body) (g.Repeated l (body ++ tree w ∷ [])) k before (spell w) h
+    (record { there = h.4.there; block = then_one h.4.block w; body_is = ap (λ z. z ++ tree w ∷ []) h.4.body_is; fits = omega (arith, d, h.4.fits); exact = rw h.4.exact refl }))
+added deep (g.Grouped l body ∷ k) next before w h d e =
+    moved deep (g.Grouped l (body ++ tree w ∷ []) ∷ k) next (before ++ spell w) e
+    (over-more deep (g.Grouped l body) (g.Grouped l (body ++ tree w ∷ [])) k before (spell w) h
+    (record { there = h.4.there; block = then_one h.4.block w; body_is = ap (λ z. z ++ tree w ∷ []) h.4.body_is; fits = omega (arith, d, h.4.fits); exact = rw h.4.exact refl }))
+added deep (_ ∷ k) next before w h d e = let no : ⊥ = cc in absurd no
+
+-- ---- another part more
+
+-- a part of a model that is put behind what stands there
+pub record IsTop (deep : ℕ) (make : Tops → Tops) (x : Top) (ps : List PieceForm) : Type 0 where
+  pub are : (xs : Tops) → tops_of (make xs) ≡ tops_of xs ++ x ∷ []
+  pub spelled : (xs : Tops) → spell_tops (make xs) ≡ spell_tops xs ++ ps
+  pub fits : (xs : Tops) → depth_tops xs ≤ deep → depth_tops (make xs) ≤ deep
+
+topped : (deep : ℕ) (l : ℕ) (name : ModelName) (hs : List Head) (xs : List Top) (k : Stack) (before : List PieceForm) (make : Tops → Tops) (x : Top) (ps : List PieceForm) → IsTop deep make x ps → Holds deep (g.Tops l name hs xs ∷ k) before → Holds deep (g.Tops l name hs (xs ++ x ∷ []) ∷ k) (before ++ ps)
+topped deep l name hs xs k before make x ps is h = record {
+  alone = h.alone;
+  allowed = h.allowed;
+  tops = make h.tops;
+  are = ap (λ z. z ++ x ∷ []) h.are ∙ sym (is.are h.tops);
+  fits = is.fits h.tops h.fits;
+  exact = rw h.exact (ap (λ z. piece l (f.Model name) ∷ z) (append_assoc (map spell_head hs) (spell_tops h.tops) ps ∙ ap (λ z. map spell_head hs ++ z) (sym (is.spelled h.tops))));
+}
+
+first-topped : (deep : ℕ) (l : ℕ) (name : ModelName) (hs : List Head) (k : Stack) (before : List PieceForm) (make : Tops → Tops) (x : Top) (ps : List PieceForm) → IsTop deep make x ps → Holds deep (g.Heads l name hs ∷ k) before → Holds deep (g.Tops l name hs (x ∷ []) ∷ k) (before ++ ps)
+first-topped deep l name hs k before make x ps is h = record {
+  alone = h.alone;
+  allowed = h.allowed;
+  tops = make no_top;
+  are = sym (is.are no_top);
+  fits = is.fits no_top (omega arith);
+  exact = rw h.exact (ap (λ z. piece l (f.Model name) ∷ (map spell_head hs ++ z)) (sym (is.spelled no_top)));
+}
+
+pub added-top : (deep : ℕ) (k next : Stack) (before : List PieceForm) (make : Tops → Tops) (x : Top) (ps : List PieceForm) → IsTop deep make x ps → Holds deep k before → add_other (part.Top x) k ≡ some_stack next → Holds deep next (before ++ ps)
+added-top deep [] next before make x ps is h e = let no : ⊥ = cc in absurd no
+added-top deep (g.Heads l name hs ∷ k) next before make x ps is h e = moved deep (g.Tops l name hs (x ∷ []) ∷ k) next (before ++ ps) e (first-topped deep l name hs k before make x ps is h)
+added-top deep (g.Tops l name hs xs ∷ k) next before make x ps is h e = moved deep (g.Tops l name hs (xs ++ x ∷ []) ∷ k) next (before ++ ps) e (topped deep l name hs xs k before make x ps is h)
+added-top deep (_ ∷ k) next before make x ps is h e = let no : ⊥ = cc in absurd no
+
+is-declared : (deep line : ℕ) (items : Items) (end : ℕ) → 1 + depth_items items ≤ deep → IsTop deep (λ xs. declares_top xs line items end) (t.Declarations (declared line items)) (spell_declarations line items end)
+is-declared deep line items end d = record { are = λ xs. refl; spelled = λ xs. refl; fits = λ xs h. omega (arith, h, d) }
+
+pub added-declared : (deep : ℕ) (k next : Stack) (before : List PieceForm) (line : ℕ) (items : Items) (end : ℕ) → Holds deep k before → depth_items items + length k ≤ deep → add_other (part.Declared (declared line items)) k ≡ some_stack next → Holds deep next (before ++ spell_declarations line items end)
+added-declared deep [] next before line items end h d e = let no : ⊥ = cc in absurd no
+added-declared deep (g.Heads l name hs ∷ k) next before line items end h d e =
+    moved deep (g.Tops l name hs (t.Declarations (declared line items) ∷ []) ∷ k) next (before ++ spell_declarations line items end) e
+    (first-topped deep l name hs k before (λ xs. declares_top xs line items end) (t.Declarations (declared line items)) (spell_declarations line items end) (is-declared deep line items end (omega (arith, d))) h)
+added-declared deep (g.Tops l name hs xs ∷ k) next before line items end h d e =
+    moved deep (g.Tops l name hs (xs ++ t.Declarations (declared line items) ∷ []) ∷ k) next (before ++ spell_declarations line items end) e
+    (topped deep l name hs xs k before (λ xs. declares_top xs line items end) (t.Declarations (declared line items)) (spell_declarations line items end) (is-declared deep line items end (omega (arith, d))) h)
+added-declared deep (g.Routine heading xs ∷ k) next before line items end h d e =
+    moved deep (g.Routine heading (xs ++ r.Declarations (declared line items) ∷ []) ∷ k) next (before ++ spell_declarations line items end) e
+    (over-more deep (g.Routine heading xs) (g.Routine heading (xs ++ r.Declarations (declared line items) ∷ [])) k before (spell_declarations line items end) h
+    (record { there = h.4.there; parts = declares h.4.parts line items end; are = ap (λ z. z ++ r.Declarations (declared line items) ∷ []) h.4.are; fits = omega (arith, d, h.4.fits); exact = rw h.4.exact refl }))
+added-declared deep (_ ∷ k) next before line items end h d e = let no : ⊥ = cc in absurd no
+
+pub added-record : (deep : ℕ) (k next : Stack) (before : List PieceForm) (line : ℕ) (name : List ℕ) (fields : List FieldGroup) (end : ℕ) → Holds deep k before → length k ≤ deep → add_other (part.Record (i.Record line name fields)) k ≡ some_stack next → Holds deep next (before ++ piece line (f.RecordOf name) ∷ (map spell_field fields ++ piece end (f.Keyword keyword.EndRecord) ∷ []))
+added-record deep [] next before line name fields end h d e = let no : ⊥ = cc in absurd no
+added-record deep (g.Declarations l xs ∷ k) next before line name fields end h d e =
+    moved deep (g.Declarations l (xs ++ i.Record line name fields ∷ []) ∷ k) next (before ++ piece line (f.RecordOf name) ∷ (map spell_field fields ++ piece end (f.Keyword keyword.EndRecord) ∷ [])) e
+    (over-more deep (g.Declarations l xs) (g.Declarations l (xs ++ i.Record line name fields ∷ [])) k before (piece line (f.RecordOf name) ∷ (map spell_field fields ++ piece end (f.Keyword keyword.EndRecord) ∷ [])) h
+    (record { there = h.4.there; items = record_type h.4.items line name fields end; are = ap (λ z. z ++ i.Record line name fields ∷ []) h.4.are; fits = omega (arith, d, h.4.fits); exact = rw h.4.exact refl }))
+added-record deep (_ ∷ k) next before line name fields end h d e = let no : ⊥ = cc in absurd no

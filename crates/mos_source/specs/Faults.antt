@@ -1,0 +1,52 @@
+-- The faulty piece: behind the longest run of pieces with which some source begins. And its kind.
+
+use Rattle.std.specs.Prelude.{◌≡◌, ℕ, List, [], ◌∷◌, ◌++◌, length}
+use Rattle.mos_text.specs.declared.kind.Kind.{Kind}
+use Rattle.mos_text.specs.declared.kind.Kind.TheVariants as k
+use Rattle.mos_form.specs.declared.form.Mould.{Mould}
+use Rattle.mos_form.specs.declared.form.PieceForm.{PieceForm}
+use Rattle.mos_form.specs.Forms.{mould_of}
+use Rattle.mos_source.specs.Limits.{broken}
+use Rattle.mos_source.specs.Sources.{Source, spell_source, IsWithin, limit}
+
+-- a source within the limits begins with these pieces
+pub record Begins (pieces : List PieceForm) : Type 0 where
+  pub source : Source
+  pub within : IsWithin limit source
+  pub rest : List PieceForm
+  pub exact : spell_source source ≡ pieces ++ rest
+
+-- no source begins with these pieces and the next one, or, where there is none, they are no source
+abbrev pub IsStuck : List PieceForm → List PieceForm → Type 0
+IsStuck before [] = (source : Source) → IsWithin limit source → spell_source source ≡ before → ⊥
+IsStuck before (x ∷ after) = Begins (before ++ x ∷ []) → ⊥
+
+-- the first of the pieces behind `before` is the faulty one; where there is none, the pieces end too early
+pub record IsFaulty (before after : List PieceForm) : Type 0 where
+  pub begun : Begins before
+  pub stuck : IsStuck before after
+
+-- another piece of this mould could stand behind these, however deep the blocks
+pub record CouldStand (before : List PieceForm) (mould : Mould) : Type 0 where
+  pub other : PieceForm
+  pub alike : mould_of other.form ≡ mould
+  pub source : Source
+  pub deep : ℕ
+  pub within : IsWithin deep source
+  pub rest : List PieceForm
+  pub exact : spell_source source ≡ before ++ other ∷ rest
+
+-- the kind of the fault: the limit that the piece breaks where it could stand but for this limit
+pub data IsKind (before : List PieceForm) : List PieceForm → Kind → Type 0 where
+  too_early : IsKind before [] k.Syntax
+  beyond : (x : PieceForm) (after : List PieceForm) → CouldStand before (mould_of x.form) → IsKind before (x ∷ after) (broken x.form)
+  misplaced : (x : PieceForm) (after : List PieceForm) → (CouldStand before (mould_of x.form) → ⊥) → IsKind before (x ∷ after) k.Syntax
+
+-- the pieces are faulty with so many of them left, by this kind
+pub record FaultyAt (pieces : List PieceForm) (left : ℕ) (kind : Kind) : Type 0 where
+  pub before : List PieceForm
+  pub after : List PieceForm
+  pub cut : pieces ≡ before ++ after
+  pub there : length after ≡ left
+  pub faulty : IsFaulty before after
+  pub named : IsKind before after kind

@@ -1,0 +1,26 @@
+-- Laws of sources and faulty pieces.
+
+use Rattle.std.specs.Prelude.{◌≡◌, ◌⊎◌, List, ◌++◌}
+use Rattle.mos_form.specs.declared.form.PieceForm.{PieceForm}
+use Rattle.mos_source.specs.Sources.{Source, IsSource, tree_of}
+use Rattle.mos_source.specs.Faults.{IsFaulty}
+
+-- pieces have at most one tree
+abbrev pub HaveOneTree : Type 0
+HaveOneTree = (pieces : List PieceForm) (x y : Source) → IsSource pieces x → IsSource pieces y → tree_of x ≡ tree_of y
+
+-- pieces have at most one faulty piece
+abbrev pub HaveOneFault : Type 0
+HaveOneFault = (before after sooner later : List PieceForm) → before ++ after ≡ sooner ++ later → IsFaulty before after → IsFaulty sooner later → before ≡ sooner
+
+-- pieces with a tree have no faulty piece
+abbrev pub HaveNotBoth : Type 0
+HaveNotBoth = (before after : List PieceForm) (x : Source) → IsSource (before ++ after) x → IsFaulty before after → ⊥
+
+-- one of the pieces is the faulty one, or they end too early
+abbrev pub HasFault : List PieceForm → Type 0
+HasFault pieces = (before : List PieceForm) × (after : List PieceForm) × (pieces ≡ before ++ after) × IsFaulty before after
+
+-- pieces have a tree or a faulty piece
+abbrev pub HaveOneOfBoth : Type 0
+HaveOneOfBoth = (pieces : List PieceForm) → ((x : Source) × IsSource pieces x) ⊎ HasFault pieces

@@ -1,0 +1,190 @@
+-- Statements as they are written: their pieces, how deep their blocks go, and their trees. A number
+-- that stands first is the line of the first piece, one that stands last that of the last piece.
+
+use Rattle.std.specs.Prelude.{ℕ, ◌+◌, max, List, [], ◌∷◌, ◌++◌, None}
+use Rattle.mos_tree.specs.declared.expr.Expr.{Expr}
+use Rattle.mos_tree.specs.declared.expr.Index.{Index}
+use Rattle.mos_tree.specs.declared.statement.Statement.{Statement}
+use Rattle.mos_tree.specs.declared.statement.Statement.TheVariants as s
+use Rattle.mos_tree.specs.declared.statement.Arm.{Arm}
+use Rattle.mos_tree.specs.declared.statement.Alternative.{Alternative}
+use Rattle.mos_tree.specs.declared.statement.Label.{Label}
+use Rattle.mos_tree.specs.declared.statement.LabelGroup.{LabelGroup}
+use Rattle.mos_tree.specs.declared.statement.Direction.{Direction}
+use Rattle.mos_form.specs.declared.form.Form.TheVariants as f
+use Rattle.mos_form.specs.declared.form.Guard.TheVariants as guard
+use Rattle.mos_form.specs.declared.form.Keyword.TheVariants as keyword
+use Rattle.mos_form.specs.declared.form.Form.{Form}
+use Rattle.mos_form.specs.declared.form.Simple.{Simple}
+use Rattle.mos_form.specs.declared.form.Simple.TheVariants as simple
+use Rattle.mos_form.specs.declared.form.PieceForm.{PieceForm}
+use Rattle.mos_form.specs.Forms.{piece}
+
+-- rows of labels, the last one last; a name alone is a row of one label
+pub data Rows : Type 0 where
+  no_row : Rows
+  named : Rows → ℕ → List ℕ → Rows
+  labelled : Rows → ℕ → List Label → Rows
+
+mutual
+  -- a statement as it is written
+  pub data Written : Type 0 where
+    single : ℕ → Simple → Written  -- a statement of one piece
+    bare : ℕ → List ℕ → Written  -- a call by a name alone
+    conditional : Arms → ℕ → Expr → Block → Last → ℕ → Written  -- the arms, of which the last stands apart, and `else`
+    choice : ℕ → Expr → Alternatives → Last → ℕ → Written  -- `case`
+    over : ℕ → Index Expr → Written → Written  -- `forall`
+    as_long_as : ℕ → Expr → Written → Written  -- `while`
+    repeated : ℕ → Block → ℕ → Expr → Written  -- `repeat`, the line of `until` and its condition
+    grouped : ℕ → Block → ℕ → Written  -- `do`
+    data_block : ℕ → Direction → Expr → Rows → ℕ → Written  -- `initializations`
+
+  -- statements one after the other, the last one last
+  pub data Block : Type 0 where
+    nothing : Block
+    then_one : Block → Written → Block
+
+  -- arms, the last one last: the first one is `if`, the others are `elif`
+  pub data Arms : Type 0 where
+    no_arm : Arms
+    arm : Arms → ℕ → Expr → Block → Arms
+
+  -- `else`, if it is there
+  pub data Last : Type 0 where
+    without : Last
+    otherwise : ℕ → Block → Last
+
+  -- the alternatives of `case`, the last one last
+  pub data Alternatives : Type 0 where
+    no_alternative : Alternatives
+    alternative : Alternatives → ℕ → List Expr → Written → Alternatives
+
+-- ---- pieces
+
+-- the piece that begins an arm behind these arms
+abbrev pub arm_form : Arms → Expr → Form
+arm_form no_arm condition = f.Guarded guard.If condition
+arm_form (arm before line c b) condition = f.Guarded guard.Elif condition
+
+abbrev pub spell_rows : Rows → List PieceForm
+spell_rows no_row = []
+spell_rows (named rows line name) = spell_rows rows ++ piece line (f.Bare name) ∷ []
+spell_rows (labelled rows line labels) = spell_rows rows ++ piece line (f.Labels labels) ∷ []
+
+abbrev mutual
+  -- the pieces of a statement
+  pub spell : Written → List PieceForm
+  spell (single line x) = piece line (f.Simple x) ∷ []
+  spell (bare line name) = piece line (f.Bare name) ∷ []
+  spell (conditional arms line condition b last end) = spell_arms arms ++ piece line (arm_form arms condition) ∷ (spell_block b ++ (spell_last last ++ piece end (f.Keyword keyword.EndIf) ∷ []))
+  spell (choice line value xs last end) = piece line (f.Guarded guard.Case value) ∷ (spell_alternatives xs ++ (spell_last last ++ piece end (f.Keyword keyword.EndCase) ∷ []))
+  spell (over line index body) = piece line (f.Forall index) ∷ spell body
+  spell (as_long_as line condition body) = piece line (f.Guarded guard.While condition) ∷ spell body
+  spell (repeated line b until condition) = piece line (f.Keyword keyword.Repeat) ∷ (spell_block b ++ piece until (f.Guarded guard.Until condition) ∷ [])
+  spell (grouped line b end) = piece line (f.Keyword keyword.Do) ∷ (spell_block b ++ piece end (f.Keyword keyword.EndDo) ∷ [])
+  spell (data_block line direction name rows end) = piece line (f.Initializations direction name) ∷ (spell_rows rows ++ piece end (f.Keyword keyword.EndInitializations) ∷ [])
+
+  pub spell_block : Block → List PieceForm
+  spell_block nothing = []
+  spell_block (then_one b w) = spell_block b ++ spell w
+
+  pub spell_arms : Arms → List PieceForm
+  spell_arms no_arm = []
+  spell_arms (arm before line condition b) = spell_arms before ++ piece line (arm_form before condition) ∷ spell_block b
+
+  pub spell_last : Last → List PieceForm
+  spell_last without = []
+  spell_last (otherwise line b) = piece line (f.Keyword keyword.Else) ∷ spell_block b
+
+  pub spell_alternatives : Alternatives → List PieceForm
+  spell_alternatives no_alternative = []
+  spell_alternatives (alternative before line labels w) = spell_alternatives before ++ piece line (f.Alternative labels) ∷ spell w
+
+-- ---- depth
+
+abbrev mutual
+  -- how many blocks of a statement stand in one another at most
+  pub depth : Written → ℕ
+  depth (single line x) = 0
+  depth (bare line name) = 0
+  depth (conditional arms line condition b last end) = 1 + max (depth_arms arms) (max (depth_block b) (depth_last last))
+  depth (choice line value xs last end) = 1 + max (depth_alternatives xs) (depth_last last)
+  depth (over line index body) = 1 + depth body
+  depth (as_long_as line condition body) = 1 + depth body
+  depth (repeated line b until condition) = 1 + depth_block b
+  depth (grouped line b end) = 1 + depth_block b
+  depth (data_block line direction name rows end) = 1
+
+  pub depth_block : Block → ℕ
+  depth_block nothing = 0
+  depth_block (then_one b w) = max (depth_block b) (depth w)
+
+  pub depth_arms : Arms → ℕ
+  depth_arms no_arm = 0
+  depth_arms (arm before line condition b) = max (depth_arms before) (depth_block b)
+
+  pub depth_last : Last → ℕ
+  depth_last without = 0
+  depth_last (otherwise line b) = depth_block b
+
+  pub depth_alternatives : Alternatives → ℕ
+  depth_alternatives no_alternative = 0
+  depth_alternatives (alternative before line labels w) = max (depth_alternatives before) (depth w)
+
+-- ---- trees
+
+-- the statement of one piece
+abbrev pub statement_of : ℕ → Simple → Statement
+statement_of line (simple.Assign target operator value) = s.Assign line target operator value
+statement_of line (simple.Fill name values) = s.Fill line name values
+statement_of line (simple.Call name arguments) = s.Call line name arguments
+statement_of line simple.Break = s.Break line
+statement_of line simple.Next = s.Next line
+
+abbrev pub label_of : List ℕ → Label
+label_of name = record { name = name; shown = None }
+
+abbrev pub label_groups : Rows → List LabelGroup
+label_groups no_row = []
+label_groups (named rows line name) = label_groups rows ++ record { line = line; labels = label_of name ∷ [] } ∷ []
+label_groups (labelled rows line labels) = label_groups rows ++ record { line = line; labels = labels } ∷ []
+
+-- the line of the first arm, for one on this line behind these arms
+abbrev pub first_line : Arms → ℕ → ℕ
+first_line no_arm line = line
+first_line (arm before l c b) line = first_line before l
+
+abbrev pub arm_of : ℕ → Expr → List Statement → Arm Statement
+arm_of line condition body = record { line = line; condition = condition; body = body }
+
+abbrev pub alternative_of : ℕ → List Expr → Statement → Alternative Statement
+alternative_of line labels body = record { line = line; labels = labels; body = body }
+
+abbrev mutual
+  -- the tree of a statement
+  pub tree : Written → Statement
+  tree (single line x) = statement_of line x
+  tree (bare line name) = s.Call line name []
+  tree (conditional arms line condition b last end) = s.If (first_line arms line) (trees_of_arms arms ++ arm_of line condition (trees b) ∷ []) (trees_of_last last)
+  tree (choice line value xs last end) = s.Case line value (trees_of_alternatives xs) (trees_of_last last)
+  tree (over line index body) = s.Forall line index (tree body)
+  tree (as_long_as line condition body) = s.While line condition (tree body)
+  tree (repeated line b until condition) = s.Repeat line (trees b) until condition
+  tree (grouped line b end) = s.Do line (trees b)
+  tree (data_block line direction name rows end) = s.Initializations line direction name (label_groups rows)
+
+  pub trees : Block → List Statement
+  trees nothing = []
+  trees (then_one b w) = trees b ++ tree w ∷ []
+
+  pub trees_of_arms : Arms → List (Arm Statement)
+  trees_of_arms no_arm = []
+  trees_of_arms (arm before line condition b) = trees_of_arms before ++ arm_of line condition (trees b) ∷ []
+
+  pub trees_of_last : Last → List Statement
+  trees_of_last without = []
+  trees_of_last (otherwise line b) = trees b
+
+  pub trees_of_alternatives : Alternatives → List (Alternative Statement)
+  trees_of_alternatives no_alternative = []
+  trees_of_alternatives (alternative before line labels w) = trees_of_alternatives before ++ alternative_of line labels (tree w) ∷ []

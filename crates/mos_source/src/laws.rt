@@ -1,0 +1,10 @@
+//! Laws of sources, as contracts of calls that do nothing.
+ghost use Rattle.mos_source.specs.Laws.{HaveOneTree, HaveOneFault, HaveNotBoth, HaveOneOfBoth};
+
+/// Pieces have at most one tree and at most one faulty piece, and always one of both and never both.
+pub fn pieces_are_read_one_way()
+    ensures one_tree { HaveOneTree }
+    ensures one_fault { HaveOneFault }
+    ensures not_both { HaveNotBoth }
+    ensures one_of_both { HaveOneOfBoth }
+{}

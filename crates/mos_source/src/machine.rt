@@ -1,0 +1,364 @@
+//! The reader of pieces: a stack of the blocks that are open.
+ghost use Rattle.std.specs.Prelude.{◌≡◌, [], ◌∷◌, ◌<◌, ◌≤◌, length, reverse, true, IfOk, OnOk, MatchOption, Some, None};
+ghost use Rattle.mos_source.specs.Machine as spec;
+ghost use Rattle.mos_source.specs.Limits as limits;
+ghost use Rattle.mos_source.specs.Sources.{limit, jobs_module, no_implicit};
+
+use crate::closing::{closed, looped, loops, with_part, with_statement};
+use crate::discard::refuse;
+use mos_form::{Form, PieceForm, mould_of};
+use crate::frame::{Frame, Part, alone, gone_on, opened, place_of};
+use crate::place::{Role, role_at};
+use mos_text::{Kind, NoMemory, Text};
+use mos_tree::{Statement, Tree};
+use std::alloc::Global;
+
+/// Opens a block.
+fn push(stack: &mut Vec<Frame>, frame: Frame) -> Result<(), NoMemory>
+    ensures { OnOk result (spec.stack_of stack.new.items ≡ frame ∷ spec.stack_of stack.old.items) }
+{
+    stack.push(frame)?;
+    Ok(())
+}
+
+/// Takes off the innermost block.
+fn pop(stack: &mut Vec<Frame>) -> Option<Frame>
+    ensures { MatchOption result ((spec.stack_of stack.old.items ≡ []) × (spec.stack_of stack.new.items ≡ [])) (λ frame. spec.stack_of stack.old.items ≡ frame ∷ spec.stack_of stack.new.items) }
+{
+    stack.pop()
+}
+
+/// Opens the block, if there is one.
+fn put(stack: &mut Vec<Frame>, frame: Option<Frame>) -> Result<bool, NoMemory>
+    ensures { IfOk result (λ done. spec.put frame (spec.stack_of stack.old.items) ≡ spec.kept done (spec.stack_of stack.new.items)) }
+{
+    match frame {
+        Some(frame) => {
+            push(stack, frame)?;
+            Ok(true)
+        }
+        None => Ok(false),
+    }
+}
+
+fn top_loops(stack: &[Frame]) -> bool
+    ensures { result ≡ spec.top_loops (spec.stack_of stack.now) }
+{
+    match stack {
+        [.., frame] => loops(frame),
+        [] => false,
+    }
+}
+
+/// Gives the statement to the innermost block, which is no loop.
+fn give_statement(
+    alloc: Global,
+    stack: &mut Vec<Frame>,
+    statement: Statement,
+) -> Result<bool, NoMemory>
+    ensures { IfOk result (λ done. spec.give_statement statement (spec.stack_of stack.old.items) ≡ spec.kept done (spec.stack_of stack.new.items)) }
+{
+    match pop(stack) {
+        Some(frame) => {
+            let next = with_statement(alloc, frame, statement)?;
+            put(stack, next)
+        }
+        None => {
+            refuse(statement);
+            Ok(false)
+        }
+    }
+}
+
+/// The loop that the statement ends, which is the innermost block.
+fn end_loop(
+    alloc: Global,
+    stack: &mut Vec<Frame>,
+    statement: Statement,
+) -> Result<Option<Statement>, NoMemory>
+    requires { spec.top_loops (spec.stack_of stack.old.items) ≡ true }
+    ensures value { IfOk result (λ outer. spec.add_statement statement (spec.stack_of stack.old.items) ≡ spec.add_next outer (spec.stack_of stack.new.items)) }
+    ensures lower { length (spec.stack_of stack.new.items) < length (spec.stack_of stack.old.items) }
+{
+    match pop(stack) {
+        Some(frame) => looped(alloc, frame, statement),
+        None => {
+            refuse(statement);
+            Ok(None)
+        }
+    }
+}
+
+/// Gives the statement to the innermost block, with all loops that it ends.
+fn add_statement(
+    alloc: Global,
+    stack: &mut Vec<Frame>,
+    statement: Statement,
+) -> Result<bool, NoMemory>
+    ensures { IfOk result (λ done. spec.add_statement statement (spec.stack_of stack.old.items) ≡ spec.kept done (spec.stack_of stack.new.items)) }
+{
+    let mut statement = statement;
+    while top_loops(stack) {
+        match end_loop(alloc, stack, statement)? {
+            None => return Ok(false),
+            Some(outer) => statement = outer,
+        }
+    }
+    give_statement(alloc, stack, statement)
+}
+
+/// Ends the source.
+fn end(stack: &mut Vec<Frame>, tree: Tree) -> Result<bool, NoMemory>
+    ensures { IfOk result (λ done. spec.end tree (spec.stack_of stack.old.items) ≡ spec.kept done (spec.stack_of stack.new.items)) }
+{
+    match pop(stack) {
+        None => {
+            push(stack, Frame::End(tree))?;
+            Ok(true)
+        }
+        Some(frame) => {
+            refuse(tree);
+            refuse(frame);
+            Ok(false)
+        }
+    }
+}
+
+/// Gives a part that is no statement to the innermost block.
+fn add_other(alloc: Global, stack: &mut Vec<Frame>, part: Part) -> Result<bool, NoMemory>
+    ensures { IfOk result (λ done. spec.add_other part (spec.stack_of stack.old.items) ≡ spec.kept done (spec.stack_of stack.new.items)) }
+{
+    match pop(stack) {
+        Some(frame) => {
+            let next = with_part(alloc, frame, part)?;
+            put(stack, next)
+        }
+        None => {
+            refuse(part);
+            Ok(false)
+        }
+    }
+}
+
+/// Gives the part, if there is one, to the innermost block.
+fn add(alloc: Global, stack: &mut Vec<Frame>, part: Option<Part>) -> Result<bool, NoMemory>
+    ensures { IfOk result (λ done. spec.add part (spec.stack_of stack.old.items) ≡ spec.kept done (spec.stack_of stack.new.items)) }
+{
+    match part {
+        None => Ok(false),
+        Some(Part::Statement(statement)) => add_statement(alloc, stack, statement),
+        Some(Part::Source(tree)) => end(stack, tree),
+        Some(other) => add_other(alloc, stack, other),
+    }
+}
+
+fn go_on(alloc: Global, stack: &mut Vec<Frame>, line: u32, form: Form) -> Result<bool, NoMemory>
+    ensures { IfOk result (λ done. spec.go_on line form (spec.stack_of stack.old.items) ≡ spec.kept done (spec.stack_of stack.new.items)) }
+{
+    match pop(stack) {
+        Some(frame) => {
+            let next = gone_on(alloc, line, form, frame)?;
+            put(stack, next)
+        }
+        None => {
+            refuse(form);
+            Ok(false)
+        }
+    }
+}
+
+fn close(alloc: Global, stack: &mut Vec<Frame>, line: u32, form: Form) -> Result<bool, NoMemory>
+    ensures { IfOk result (λ done. spec.close line form (spec.stack_of stack.old.items) ≡ spec.kept done (spec.stack_of stack.new.items)) }
+{
+    match pop(stack) {
+        Some(frame) => {
+            let part = closed(alloc, line, form, frame)?;
+            add(alloc, stack, part)
+        }
+        None => {
+            refuse(form);
+            Ok(false)
+        }
+    }
+}
+
+/// Takes the piece, which does this at its place.
+fn enter(
+    alloc: Global,
+    stack: &mut Vec<Frame>,
+    role: Role,
+    line: u32,
+    form: Form,
+) -> Result<bool, NoMemory>
+    ensures { IfOk result (λ done. spec.enter role line form (spec.stack_of stack.old.items) ≡ spec.kept done (spec.stack_of stack.new.items)) }
+{
+    match role {
+        Role::Opens => {
+            let frame = opened(alloc, line, form);
+            put(stack, frame)
+        }
+        Role::GoesOn => go_on(alloc, stack, line, form),
+        Role::Stands => {
+            let part = alone(alloc, line, form);
+            add(alloc, stack, part)
+        }
+        Role::Closes => close(alloc, stack, line, form),
+    }
+}
+
+fn is_jobs(name: &Text) -> bool
+    ensures { result ≡ limits.is_jobs name.now }
+{
+    name.as_bytes() == b"mmjobs".as_slice()
+}
+
+fn is_no_implicit(name: &Text) -> bool
+    ensures { result ≡ limits.is_no_implicit name.now }
+{
+    name.as_bytes() == b"noimplicit".as_slice()
+}
+
+/// The limit that another module breaks.
+fn module_limit(alloc: Global, modules: &[Text]) -> Result<Option<Kind>, NoMemory>
+    ensures { IfOk result (λ kind. kind ≡ limits.module_limit modules.now) }
+{
+    let mut rest = modules;
+    while let [module, after @ ..] = rest {
+        if !is_jobs(module) {
+            return Ok(Some(Kind::Module(module.copy(alloc)?)));
+        }
+        rest = after;
+    }
+    Ok(None)
+}
+
+fn option_limit(alloc: Global, name: &Text) -> Result<Option<Kind>, NoMemory>
+    ensures { IfOk result (λ kind. kind ≡ limits.option_limit name.now) }
+{
+    if is_no_implicit(name) {
+        return Ok(None);
+    }
+    Ok(Some(Kind::Out(name.copy(alloc)?)))
+}
+
+/// The limit that the piece breaks wherever it stands.
+fn own_limit(alloc: Global, form: &Form) -> Result<Option<Kind>, NoMemory>
+    ensures { IfOk result (λ kind. kind ≡ limits.own_limit form.now) }
+{
+    match form {
+        Form::TooHigh(_) => Ok(Some(Kind::Deep)),
+        Form::Uses(modules) => module_limit(alloc, modules.as_slice()),
+        Form::Options(name) => option_limit(alloc, name),
+        _ => Ok(None),
+    }
+}
+
+/// The limit that one block more breaks, inside so many and the model.
+fn block_limit(role: Role, blocks: usize) -> Option<Kind>
+    ensures { result ≡ spec.block_limit limit role blocks }
+{
+    match role {
+        Role::Opens => { if 100 < blocks { Some(Kind::Deep) } else { None } }
+        _ => None,
+    }
+}
+
+/// The limit that the piece breaks.
+fn broken(alloc: Global, role: Role, blocks: usize, form: &Form) -> Result<Option<Kind>, NoMemory>
+    ensures { IfOk result (λ kind. kind ≡ spec.broken_limit limit role blocks form.now) }
+{
+    match own_limit(alloc, form)? {
+        Some(kind) => Ok(Some(kind)),
+        None => Ok(block_limit(role, blocks)),
+    }
+}
+
+/// Takes the piece in this role, which breaks no limit.
+fn take(
+    alloc: Global,
+    stack: &mut Vec<Frame>,
+    role: Role,
+    line: u32,
+    form: Form,
+) -> Result<Option<Kind>, NoMemory>
+    ensures { IfOk result (λ wrong. spec.or_syntax (spec.enter role line form (spec.stack_of stack.old.items)) ≡ spec.outcome wrong (spec.stack_of stack.new.items)) }
+{
+    if enter(alloc, stack, role, line, form)? {
+        Ok(None)
+    } else {
+        Ok(Some(Kind::Syntax))
+    }
+}
+
+/// Takes the piece in this role, unless it breaks this limit.
+fn take_unless(
+    alloc: Global,
+    stack: &mut Vec<Frame>,
+    found: Option<Kind>,
+    role: Role,
+    line: u32,
+    form: Form,
+) -> Result<Option<Kind>, NoMemory>
+    ensures { IfOk result (λ wrong. spec.unless found (spec.enter role line form (spec.stack_of stack.old.items)) ≡ spec.outcome wrong (spec.stack_of stack.new.items)) }
+{
+    match found {
+        Some(kind) => {
+            refuse(form);
+            Ok(Some(kind))
+        }
+        None => take(alloc, stack, role, line, form),
+    }
+}
+
+/// Takes the piece in this role, or says what is wrong.
+#[tactic(auto, unfolding(crate::specs::Machine::step_as))]
+fn step_as(
+    alloc: Global,
+    stack: &mut Vec<Frame>,
+    role: Role,
+    line: u32,
+    form: Form,
+) -> Result<Option<Kind>, NoMemory>
+    ensures { IfOk result (λ wrong. spec.step_as limit role line form (spec.stack_of stack.old.items) ≡ spec.outcome wrong (spec.stack_of stack.new.items)) }
+{
+    match broken(alloc, role, stack.len(), &form) {
+        Ok(kind) => take_unless(alloc, stack, kind, role, line, form),
+        Err(refused) => {
+            refuse(form);
+            Err(refused)
+        }
+    }
+}
+
+/// Takes the piece, or says what is wrong.
+#[tactic(auto, unfolding(crate::specs::Machine::step))]
+pub(crate) fn step(
+    alloc: Global,
+    stack: &mut Vec<Frame>,
+    piece: PieceForm,
+) -> Result<Option<Kind>, NoMemory>
+    ensures { IfOk result (λ wrong. spec.step limit (spec.stack_of stack.old.items) piece ≡ spec.outcome wrong (spec.stack_of stack.new.items)) }
+{
+    let PieceForm { line, form } = piece;
+    match role_at(place_of(stack), mould_of(&form)) {
+        Some(role) => step_as(alloc, stack, role, line, form),
+        None => {
+            refuse(form);
+            Ok(Some(Kind::Syntax))
+        }
+    }
+}
+
+/// The tree, where the stack is that of a whole source.
+pub(crate) fn finished(stack: &mut Vec<Frame>) -> Option<Tree>
+    ensures { result ≡ spec.finished (spec.stack_of stack.old.items) }
+{
+    match pop(stack) {
+        Some(Frame::End(tree)) => Some(tree),
+        Some(other) => {
+            refuse(other);
+            None
+        }
+        None => None,
+    }
+}
