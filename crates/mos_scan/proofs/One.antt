@@ -1,4 +1,4 @@
-use Rattle.std.proofs.Common.{◌≡◌, ℕ, ◌⊎◌, inl, inr, true, false, List, [], ◌∷◌, ◌++◌, length, Option, Some, None, Result, Ok, Err, IfOk, IfErr, refl, sym, ◌∙◌, ap, subst, arith, length-append}
+use Rattle.std.proofs.Common.{◌≡◌, ℕ, ◌+◌, ◌<◌, ◌≤◌, ◌⊎◌, inl, inr, true, false, List, [], ◌∷◌, ◌++◌, length, Option, Some, None, Result, Ok, Err, IfOk, IfErr, refl, sym, ◌∙◌, ap, subst, arith, length-append}
 use Rattle.mos_text.specs.declared.kind.Kind.{Kind}
 use Rattle.mos_scan.specs.declared.token.TokenKind.{TokenKind}
 use Rattle.mos_scan.specs.declared.token.TokenKind.TheVariants.{EndModel}
@@ -6,9 +6,10 @@ use Rattle.mos_scan.specs.declared.token.Token.{Token}
 use Rattle.mos_scan.specs.declared.front.Wrong.{Wrong}
 use Rattle.mos_scan.specs.declared.fault.LexFault.{LexFault}
 use Rattle.mos_scan.specs.declared.fault.LexFault.TheVariants as l
-use Rattle.mos_scan.specs.Scans.{IsFaultOf, IsNoMemory}
+use Rattle.mos_scan.specs.Scans.{IsFaultOf, IsNoMemory, Names, GivesFault}
 use Rattle.mos_scan.specs.Tokens.{gap_at, fault_at, kind_of}
-use Rattle.mos_scan.specs.Cuts.{Part, gap, token, text_of, is_end, IsPart, IsToken, Cuts, Whole, up_to_the_end, up_to_end_model, tokens_from, Stops, read_whole, read_to_fault, IsTokenList, IsLexicalFault, no_utf8, no_token}
+use Rattle.mos_scan.specs.Cuts.{Part, gap, token, text_of, is_end, IsPart, IsToken, Cuts, Whole, up_to_the_end, up_to_end_model, tokens_from, Stops, read_whole, read_to_fault, IsTokenList, IsLexicalFault, no_utf8, no_token, IsRead, kind_of_fault, line_of, column_of, newlines}
+use Rattle.std.specs.Str.Lossy.{utf8_valid_len}
 
 -- two ways to cut one text: one front goes on behind the other
 abbrev Ahead : List ℕ → List ℕ → List ℕ → List ℕ → Type 0
@@ -194,8 +195,10 @@ taken_list bytes (Err e) fault tokens h = no_fault_of bytes tokens h e fault
 stop_once : (bytes : List ℕ) (p q : ℕ) (k l : Kind) → Stops bytes p k → Stops bytes q l → (p ≡ q) × (k ≡ l)
 stop_once bytes p q k l s t =
     let r = one_cut s.parts t.parts bytes s.left t.left s.cuts t.cuts (stuck_at_fault s.left s.no_gap s.fault) (stuck_at_fault t.left t.no_gap t.fault) in
-    let f : Some (s.wrong, s.far) ≡ Some (t.wrong, t.far) = sym s.fault ∙ subst (λ z. fault_at z ≡ Some (t.wrong, t.far)) (sym r.1) t.fault in
-    let pair : (s.wrong, s.far) ≡ (t.wrong, t.far) = cc in
+    let mine : Wrong × ℕ = (s.wrong, s.far) in
+    let other : Wrong × ℕ = (t.wrong, t.far) in
+    let f : Some mine ≡ Some other = sym s.fault ∙ subst (λ z. fault_at z ≡ Some other) (sym r.1) t.fault in
+    let pair : mine ≡ other = cc in
     let wrong : s.wrong ≡ t.wrong = ap (λ z. z.0) pair in
     let far : s.far ≡ t.far = ap (λ z. z.1) pair in
     (omega (arith, s.there, t.there, ap length r.1, far), s.named ∙ ap (λ z. kind_of_fault z s.left) wrong ∙ ap (λ z. kind_of_fault t.wrong z) r.1 ∙ sym t.named)

@@ -5,6 +5,7 @@ ghost use Rattle.std.specs.Str.Lossy.{utf8_valid_len};
 ghost use Rattle.mos_scan.specs.Cuts as spec;
 ghost use Rattle.mos_scan.specs.Scans as scans;
 ghost use Rattle.mos_scan.specs.declared.token.Token.{Token as token_type};
+ghost use Rattle.mos_text.specs.declared.kind.Kind.{Kind as kind_type};
 
 use crate::character::word_length;
 use crate::front::{Front, Wrong, look};
@@ -182,6 +183,10 @@ pub fn scan(alloc: Global, bytes: &[u8]) -> Result<Vec<Token>, LexFault>
     ensures fault { IfErr result (scans.IsFaultOf bytes.now) }
     ensures only { (tokens : List token_type) → spec.IsTokenList bytes.now tokens → IfOk result (λ v. v.items ≡ tokens) }
     ensures taken { (tokens : List token_type) → spec.IsTokenList bytes.now tokens → IfErr result scans.IsNoMemory }
+    ensures named { (place : ℕ) (kind : kind_type) → spec.IsLexicalFault bytes.now place kind → scans.GivesFault result bytes.now place kind }
+
+    // At most one token for each byte.
+    ensures few { IfOk result (λ v. length v.items ≤ length bytes.now) }
 {
     scan_all(alloc, bytes)
 }
