@@ -1,4 +1,4 @@
-ghost use Rattle.std.specs.Prelude.{◌≡◌, IfOk, IsErrOf, MatchOption, ⊥};
+ghost use Rattle.std.specs.Prelude.{◌≡◌, IfOk, IsErrOf, MatchOption};
 ghost use Rattle.mos_expr.specs.Grammar.{Names, spell_names, list_of_names};
 ghost use Rattle.mos_expr.specs.Outcome.{Gives};
 ghost use Rattle.mos_expr.specs.declared.fault.ExprFault.TheVariants as fault;
