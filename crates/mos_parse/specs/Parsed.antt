@@ -43,10 +43,8 @@ abbrev pub line_before : List ℕ → List PieceForm → ℕ
 line_before source [] = last_line source
 line_before source (x ∷ after) = x.line
 
--- the source has pieces but no tree: the line and kind of the faulty piece
-pub record IsMisplaced (source : List ℕ) (line : ℕ) (kind : Kind) : Type 0 where
-  pub forms : List PieceForm
-  pub read : HasForms source forms
+-- the line and kind of the faulty piece of a source with these forms
+pub record IsFaultyLine (source : List ℕ) (forms : List PieceForm) (line : ℕ) (kind : Kind) : Type 0 where
   pub left : ℕ
   pub faulty : FaultyAt forms left kind
   pub line_is : line ≡ line_before source faulty.after
@@ -54,4 +52,4 @@ pub record IsMisplaced (source : List ℕ) (line : ℕ) (kind : Kind) : Type 0 w
 -- the line and kind of the fault of a source: of the place that no tokens get over, or of the faulty piece
 pub data IsSyntaxFault (source : List ℕ) (line : ℕ) (kind : Kind) : Type 0 where
   lexical : (column : ℕ) → IsFaultAt source line column kind → IsSyntaxFault source line kind
-  misplaced : IsMisplaced source line kind → IsSyntaxFault source line kind
+  misplaced : (forms : List PieceForm) → HasForms source forms → IsFaultyLine source forms line kind → IsSyntaxFault source line kind

@@ -1,3 +1,7 @@
+ghost use Rattle.std.specs.Prelude.{◌≡◌};
+ghost use Rattle.mos_parse.specs.Steps.{of_tokens};
+
+use mos_scan::LexFault;
 use mos_text::{Kind, NoMemory};
 
 /// Why a source has no tree.
@@ -16,5 +20,15 @@ impl From<NoMemory> for SyntaxFault {
 
     fn from(_refused: NoMemory) -> SyntaxFault {
         SyntaxFault::NoMemory
+    }
+}
+
+/// A fault of tokens as one of the source: its column is left out.
+pub(crate) fn of_tokens(fault: LexFault) -> SyntaxFault
+    ensures { result ≡ of_tokens fault }
+{
+    match fault {
+        LexFault::At { line, kind, .. } => SyntaxFault::At { line, kind },
+        LexFault::NoMemory => SyntaxFault::NoMemory,
     }
 }
