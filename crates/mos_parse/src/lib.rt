@@ -6,3 +6,6 @@ mod parser;
 
 pub use fault::SyntaxFault;
 pub use parser::parse;
+
+#[cfg(test)]
+mod tests;
