@@ -1,4 +1,5 @@
 pub mod Grammar
+pub mod Laws
 pub mod Machine
 pub mod Operands
 pub mod Outcome

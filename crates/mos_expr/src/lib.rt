@@ -7,6 +7,7 @@
 
 mod fault;
 mod frame;
+mod laws;
 mod level;
 mod machine;
 mod operand;
@@ -16,6 +17,7 @@ mod stack;
 mod tree;
 
 pub use fault::ExprFault;
+pub use laws::trees_have_their_texts;
 pub use tree::{expression, expression_of_words, expressions_of_words, index_of_words};
 
 #[cfg(test)]

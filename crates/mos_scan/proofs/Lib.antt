@@ -5,6 +5,7 @@ pub mod Numbers
 pub mod One
 pub mod Laid
 pub mod Scans
+pub mod Short
 pub mod Tables
 pub mod Texts
 pub mod Verdicts

@@ -1,4 +1,5 @@
-use Rattle.std.specs.Prelude.{ℕ, ℤ, pos, ◌-◌, min, Bool, true, false, not, if◌then◌else◌, ◌==◌, List, [], ◌∷◌, length, take, drop}
+use Rattle.std.specs.Prelude.{ℕ, ℤ, pos, ◌-◌, ◌≤◌, min, Bool, true, false, not, if◌then◌else◌, ◌==◌, All, List, [], ◌∷◌, length, take, drop}
+use Rattle.std.specs.List.{flat_map}
 use Rattle.std.specs.Str.Lossy.{utf8_valid_len}
 use Rattle.mos_scan.specs.Tokens.{number_from}
 use Rattle.mos_scan.specs.Pieces.{separates, behind_next, nothing_behind}
@@ -85,3 +86,17 @@ words_but_newlines source (token ∷ tokens) =
 -- the words of a piece of these tokens: in a piece a newline ends nothing
 abbrev pub piece_words : List ℕ → List Token → Piece → List Word
 piece_words source tokens p = words_but_newlines source (take (p.to - p.from) (drop p.from tokens))
+
+-- the name or text of a word
+abbrev pub text_in : Word → List (List ℕ)
+text_in (w.Name name) = name ∷ []
+text_in (w.Text text) = text ∷ []
+text_in _ = []
+
+-- the names and texts of words
+abbrev pub texts_in : List Word → List (List ℕ)
+texts_in words = flat_map text_in words
+
+-- no name or text of a piece is longer than the source
+abbrev pub PiecesHaveShortWords : Type 0
+PiecesHaveShortWords = (source : List ℕ) (tokens : List Token) (p : Piece) → All (λ text. length text ≤ length source) (texts_in (piece_words source tokens p))

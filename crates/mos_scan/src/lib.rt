@@ -7,6 +7,7 @@
 mod character;
 mod fault;
 mod front;
+mod laws;
 mod piece;
 mod reading;
 mod scanner;
@@ -15,6 +16,7 @@ mod token;
 mod word;
 
 pub use fault::LexFault;
+pub use laws::pieces_have_short_words;
 pub use piece::{Piece, pieces};
 pub use reading::{Word, piece_words, words};
 pub use scanner::scan;

@@ -1,3 +1,4 @@
 pub mod Index
 pub mod Nodes
 pub mod Statements
+pub mod Texts

@@ -1,0 +1,16 @@
+-- Laws of expressions.
+
+use Rattle.std.specs.Prelude.{◌≡◌}
+use Rattle.mos_tree.specs.Texts.{texts_of, texts_of_all, texts_over}
+use Rattle.mos_scan.specs.Reading.{texts_in}
+use Rattle.mos_expr.specs.Grammar.{Syntax, Written, Over, spell, spell_list, spell_over, tree, trees, index_of}
+
+-- the names and texts of a tree are those of its words, in order
+abbrev pub TreeHasItsTexts : Type 0
+TreeHasItsTexts = (s : Syntax) → texts_of (tree s) ≡ texts_in (spell s)
+
+abbrev pub TreesHaveTheirTexts : Type 0
+TreesHaveTheirTexts = (ss : Written) → texts_of_all (trees ss) ≡ texts_in (spell_list ss)
+
+abbrev pub IndexHasItsTexts : Type 0
+IndexHasItsTexts = (i : Over) → texts_over (index_of i) ≡ texts_in (spell_over i)
