@@ -10,4 +10,6 @@ pub mod Roles
 pub mod Sound
 pub mod SoundStep
 pub mod Steps
+pub mod TextForms
+pub mod Texts
 pub mod Whole

@@ -2,7 +2,9 @@
 
 use Rattle.std.specs.Prelude.{◌≡◌, ◌⊎◌, List, ◌++◌}
 use Rattle.mos_form.specs.declared.form.PieceForm.{PieceForm}
-use Rattle.mos_source.specs.Sources.{Source, IsSource, tree_of}
+use Rattle.mos_tree.specs.Texts.{texts_of_tree}
+use Rattle.mos_form.specs.Texts.{texts_of_pieces}
+use Rattle.mos_source.specs.Sources.{Source, IsSource, spell_source, tree_of}
 use Rattle.mos_source.specs.Faults.{IsFaulty}
 
 -- pieces have at most one tree
@@ -24,3 +26,7 @@ HasFault pieces = (before : List PieceForm) × (after : List PieceForm) × (piec
 -- pieces have a tree or a faulty piece
 abbrev pub HaveOneOfBoth : Type 0
 HaveOneOfBoth = (pieces : List PieceForm) → ((x : Source) × IsSource pieces x) ⊎ HasFault pieces
+
+-- the names and texts of a tree are those of its pieces, in order
+abbrev pub TreesHaveTheirTexts : Type 0
+TreesHaveTheirTexts = (x : Source) → texts_of_tree (tree_of x) ≡ texts_of_pieces (spell_source x)

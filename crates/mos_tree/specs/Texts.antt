@@ -185,10 +185,10 @@ abbrev pub texts_of_name : ModelName → Texts
 texts_of_name (called.Quoted text) = text ∷ []
 texts_of_name (called.Named name) = name ∷ []
 
--- the option's name is no part of the tree
+-- the one option stands for its name
 abbrev pub texts_of_head : Head → Texts
 texts_of_head (head.Uses line modules) = modules
-texts_of_head (head.NoImplicit line) = []
+texts_of_head (head.NoImplicit line) = codes "noimplicit" ∷ []
 
 abbrev pub texts_of_part : RoutinePart → Texts
 texts_of_part (part.Declarations declared) = flat_map texts_of_item declared.items
