@@ -3,7 +3,7 @@
 use Rattle.std.specs.Prelude.{◌≡◌}
 use Rattle.mos_tree.specs.Texts.{texts_of, texts_of_all, texts_over}
 use Rattle.mos_scan.specs.Reading.{texts_in}
-use Rattle.mos_expr.specs.Grammar.{Syntax, Written, Over, spell, spell_list, spell_over, tree, trees, index_of}
+use Rattle.mos_expr.specs.Grammar.{Syntax, Written, Over, Names, spell, spell_list, spell_over, spell_names, tree, trees, index_of, list_of_names}
 
 -- the names and texts of a tree are those of its words, in order
 abbrev pub TreeHasItsTexts : Type 0
@@ -14,3 +14,6 @@ TreesHaveTheirTexts = (ss : Written) → texts_of_all (trees ss) ≡ texts_in (s
 
 abbrev pub IndexHasItsTexts : Type 0
 IndexHasItsTexts = (i : Over) → texts_over (index_of i) ≡ texts_in (spell_over i)
+
+abbrev pub NamesHaveTheirTexts : Type 0
+NamesHaveTheirTexts = (ns : Names) → list_of_names ns ≡ texts_in (spell_names ns)

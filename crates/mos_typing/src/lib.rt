@@ -4,5 +4,5 @@
 mod laws;
 mod reading;
 
-pub use laws::expressions_have_plain_words;
+pub use laws::{expressions_have_plain_words, types_have_their_texts};
 pub use reading::{formals, names, type_form};
