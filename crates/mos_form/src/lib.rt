@@ -2,7 +2,9 @@
 #![tactic(auto)]
 
 mod form;
+mod laws;
 mod reading;
 
 pub use form::{Form, Guard, Keyword, Mould, PieceForm, Simple, mould_of};
+pub use laws::forms_have_their_texts;
 pub use reading::form_of;
