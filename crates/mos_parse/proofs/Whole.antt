@@ -36,6 +36,11 @@ tokens_faulty source tokens (Ok tree) cut r = tt
 tokens_faulty source tokens (Err NoMemory) cut r = tt
 tokens_faulty source tokens (Err (At line kind)) cut r = misplaced r.forms (record { tokens = tokens; cut = cut; forms_are = r.have.are }) r.says
 
+pub tokens_found : (source : List ℕ) (tokens : List Token) (result : Result Tree SyntaxFault) → IsTokenList source tokens → Reads source tokens result → IfOk result (IsParsed source)
+tokens_found source tokens (Ok tree) cut r = record { forms = r.forms; read = record { tokens = tokens; cut = cut; forms_are = r.have.are }; tree_is = r.says }
+tokens_found source tokens (Err NoMemory) cut r = tt
+tokens_found source tokens (Err (At line kind)) cut r = tt
+
 -- forms with a tree have no faulty piece
 never_both : HaveNotBoth → (source : List ℕ) (forms : List PieceForm) (tree : Tree) (line : ℕ) (kind : Kind) → IsTree forms tree → IsFaultyLine source forms line kind → ⊥
 never_both law source forms tree line kind t f =

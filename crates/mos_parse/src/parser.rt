@@ -2,13 +2,13 @@ ghost use Rattle.std.specs.Prelude.{◌≡◌, ◌≤◌, ℕ, length, IfOk, IfE
 ghost use Rattle.mos_text.specs.declared.kind.Kind.{Kind as kind_type};
 ghost use Rattle.mos_tree.specs.declared.source.Tree.{Tree as tree_type};
 ghost use Rattle.mos_parse.specs.Parsed.{IsParsed, IsSyntaxFault, last_line};
-ghost use Rattle.mos_parse.specs.Answers.{GivesTree, GivesFault, IsFaultOf};
+ghost use Rattle.mos_parse.specs.Answers.{GivesTree, GivesFault, IsFaultOf, HasShortTexts};
 ghost use Rattle.mos_parse.specs.Steps.{IsFormAt, HaveForms, HaveLines, Says, Reads, line_with_left};
 
 use crate::fault::{SyntaxFault, of_tokens};
-use mos_form::{PieceForm, form_of};
-use mos_scan::{Piece, Token, piece_words, pieces, scan};
-use mos_source::{PieceFault, pieces_are_read_one_way, source};
+use mos_form::{PieceForm, form_of, forms_have_their_texts};
+use mos_scan::{Piece, Token, piece_words, pieces, pieces_have_short_words, scan};
+use mos_source::{PieceFault, pieces_are_read_one_way, source, sources_have_their_texts};
 use mos_text::NoMemory;
 use mos_tree::Tree;
 use std::alloc::Global;
@@ -22,8 +22,14 @@ pub fn parse(alloc: Global, bytes: &[u8]) -> Result<Tree, SyntaxFault>
     ensures faulty { IfErr result (IsFaultOf bytes.now) }
     ensures only { (tree : tree_type) → IsParsed bytes.now tree → GivesTree result tree }
     ensures only_fault { (line : ℕ) (kind : kind_type) → IsSyntaxFault bytes.now line kind → GivesFault result line kind }
+
+    // No name or text in it is longer than the source.
+    ensures texts { IfOk result (HasShortTexts (length bytes.now)) }
 {
     pieces_are_read_one_way();
+    pieces_have_short_words();
+    forms_have_their_texts();
+    sources_have_their_texts();
     match scan(alloc, bytes) {
         Ok(tokens) => parse_tokens(alloc, bytes, tokens.as_slice()),
         Err(fault) => Err(of_tokens(fault)),

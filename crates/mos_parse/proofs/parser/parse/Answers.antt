@@ -1,7 +1,8 @@
 use Rattle.std.proofs.Common.{subst, sym, Err}
 use Rattle.mos_parse.specs.Answers.{GivesTree, GivesFault, IsFaultOf}
 use Rattle.mos_parse.specs.Steps.{Reads}
-use Rattle.mos_parse.proofs.Whole.{tokens_faulty, tokens_only, tokens_only_fault, fault_faulty, fault_only, fault_only_fault}
+use Rattle.mos_parse.proofs.Whole.{tokens_found, tokens_faulty, tokens_only, tokens_only_fault, fault_faulty, fault_only, fault_only_fault}
+use Rattle.mos_parse.proofs.Short.{short_found}
 use Rattle.mos_parse.proofs.parser.parse.Goals as goal
 
 pub returns-in-Ok-clause-faulty : goal.returns-in-Ok-clause-faulty
@@ -29,3 +30,8 @@ returns-in-Err-clause-only c tree h =
 pub returns-in-Err-clause-only_fault : goal.returns-in-Err-clause-only_fault
 returns-in-Err-clause-only_fault c line kind h =
     subst (λ z. GivesFault (Err z) line kind) (sym c.of_tokens.ensures) (fault_only_fault c.args.bytes.now c.in-Err.fault c.in-Err.ensures.taken c.in-Err.ensures.named line kind h)
+
+pub returns-in-Ok-clause-texts : goal.returns-in-Ok-clause-texts
+returns-in-Ok-clause-texts c =
+    short_found c.forms_have_their_texts.ensures c.sources_have_their_texts.ensures c.pieces_have_short_words.ensures c.args.bytes.now c.parse_tokens.result
+    (tokens_found c.args.bytes.now c.in-Ok.tokens.items c.parse_tokens.result c.in-Ok.ensures.found (subst (λ z. Reads c.args.bytes.now z c.parse_tokens.result) c.as_slice.ensures.value c.parse_tokens.ensures))
