@@ -1,3 +1,4 @@
 pub mod Outcome
+pub mod Reader
 pub mod Typing
 pub mod Words

@@ -1,8 +1,10 @@
 //! Types and formals: the one tree of the words that spell them.
 #![tactic(auto)]
 
+mod base;
 mod laws;
 mod reading;
 
+pub use base::base_type;
 pub use laws::expressions_have_plain_words;
 pub use reading::{formals, names, type_form};
