@@ -1,2 +1,4 @@
 pub mod Bases
+pub mod Listed
+pub mod Onto
 pub mod Plain

@@ -3,6 +3,7 @@
 
 mod base;
 mod laws;
+mod name;
 mod reading;
 
 pub use base::base_type;

@@ -5,6 +5,7 @@ ghost use Rattle.mos_expr.specs.declared.fault.ExprFault.TheVariants as fault;
 ghost use Rattle.mos_typing.specs.Typing as typing;
 ghost use Rattle.mos_typing.specs.Outcome as outcome;
 
+use crate::name::names_of_words;
 use mos_expr::ExprFault;
 use mos_scan::Word;
 use mos_text::{NoMemory, Text};
@@ -13,10 +14,10 @@ use sqlite_items::Items;
 use std::alloc::Global;
 
 /// The names that the words are, with commas between them; None where they are none.
-pub fn names(_alloc: Global, _words: &[Word]) -> Result<Option<Items<Text>>, NoMemory>
-    ensures found { IfOk result (λ found. MatchOption found ((ns : Names) → _words.now ≡ spell_names ns → ⊥) (λ all. (ns : Names) × (_words.now ≡ spell_names ns) × (all ≡ list_of_names ns))) }
+pub fn names(alloc: Global, words: &[Word]) -> Result<Option<Items<Text>>, NoMemory>
+    ensures found { IfOk result (λ found. MatchOption found ((ns : Names) → words.now ≡ spell_names ns → ⊥) (λ all. (ns : Names) × (words.now ≡ spell_names ns) × (all ≡ list_of_names ns))) }
 {
-    Err(NoMemory)
+    names_of_words(alloc, words)
 }
 
 /// The one type that the words are.
