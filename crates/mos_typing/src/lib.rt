@@ -2,6 +2,7 @@
 #![tactic(auto)]
 
 mod base;
+mod cut;
 mod laws;
 mod name;
 mod reading;
