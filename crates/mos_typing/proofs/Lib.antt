@@ -1,4 +1,5 @@
 pub mod Bases
+pub mod Cuts
 pub mod Listed
 pub mod Onto
 pub mod Plain
