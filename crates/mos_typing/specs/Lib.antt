@@ -1,4 +1,5 @@
 pub mod Outcome
 pub mod Reader
+pub mod Spellings
 pub mod Typing
 pub mod Words

@@ -42,3 +42,26 @@ pub(crate) fn cut_at_comma(words: &[Word]) -> Option<(&[Word], &[Word])>
     }
     None
 }
+
+fn is_colon(word: &Word) -> bool
+    ensures { result ≡ reads.is_colon word.now }
+{
+    matches!(word, Word::Key(TokenKind::Colon))
+}
+
+/// The words before the first colon, and those behind it.
+pub(crate) fn cut_at_colon(words: &[Word]) -> Option<(&[Word], &[Word])>
+    ensures { MatchOption result (reads.cut_at_colon words.now ≡ None) (λ parts. reads.cut_at_colon words.now ≡ Some (parts.0.now, parts.1.now)) }
+{
+    let mut at: usize = 0;
+    let mut rest = words;
+    while let [word, after @ ..] = rest {
+        if is_colon(word) {
+            let (front, _) = words.split_at(at);
+            return Some((front, after));
+        }
+        at += 1;
+        rest = after;
+    }
+    None
+}
