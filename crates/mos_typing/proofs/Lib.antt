@@ -1,6 +1,9 @@
 pub mod Bases
+pub mod Carrying
 pub mod Cuts
+pub mod Dimensioned
 pub mod Joins
 pub mod Listed
 pub mod Onto
 pub mod Plain
+pub mod Saying
