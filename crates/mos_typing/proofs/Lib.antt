@@ -2,8 +2,11 @@ pub mod Bases
 pub mod Carrying
 pub mod Cuts
 pub mod Dimensioned
+pub mod Ended
 pub mod Joins
 pub mod Listed
 pub mod Onto
 pub mod Plain
 pub mod Saying
+pub mod Shaped
+pub mod Typed
