@@ -15,7 +15,7 @@ use Rattle.mos_scan.specs.declared.token.TokenKind.TheVariants as t
 use Rattle.mos_scan.specs.declared.reading.Word.{Word}
 use Rattle.mos_scan.specs.declared.reading.Word.TheVariants as w
 use Rattle.mos_expr.specs.Grammar.{Leaf, number, text, truth, name, returned, field, Names, one_name, and_name, Syntax, leaf, call, call_field, set, list, bracket, choice, convert, before, between, aggregate, counted, Written, no_more, one_more, Over, last_set, such_that, another, spell_leaf, spell_before, spell_between, spell_aggregate, spell_conversion, spell_names, spell, spell_list, spell_rest, spell_over}
-use Rattle.mos_typing.specs.Reader.{Halves, ahead, cut, depth_behind, is_comma}
+use Rattle.mos_typing.specs.Reader.{Halves, ahead, cut, depth_behind, is_comma, is_colon, cut_at_colon}
 
 on_bool : {P : Type 0} (b : Bool) → (b ≡ true → P) → (b ≡ false → P) → P
 on_bool true yes' no' = yes' refl
@@ -214,3 +214,30 @@ cut_none words g = ap (cut 0) (sym (append-nil words)) ∙ g.on []
 
 pub cut_at : (words rest : List Word) → Goes 0 words 0 → cut 0 (words ++ w.Key t.Comma ∷ rest) ≡ Some (words, rest)
 cut_at words rest g = g.on (w.Key t.Comma ∷ rest) ∙ ap (λ z. Some (z, rest)) (append-nil words)
+
+-- ---- the cut at a colon
+
+colon_is : (x : Word) → is_colon x ≡ true → x ≡ w.Key t.Colon
+colon_is (w.Key t.Colon) e = refl
+colon_is _ e = cc
+
+colon_more : (x : Word) (xs : List Word) (q : Halves) (first rest : List Word) → ((a b : List Word) → q ≡ Some (a, b) → xs ≡ a ++ w.Key t.Colon ∷ b) → ahead (x ∷ []) q ≡ Some (first, rest) → x ∷ xs ≡ first ++ w.Key t.Colon ∷ rest
+colon_more x xs None first rest known e = cc
+colon_more x xs (Some (a, b)) first rest known e =
+    let p : List Word × List Word = (x ∷ a, b) in
+    let o : p ≡ (first, rest) = cc in
+    ap (λ z. x ∷ z) (known a b refl) ∙ ap (λ (z : List Word × List Word). z.0 ++ w.Key t.Colon ∷ z.1) o
+
+pub colon_sound : (words first rest : List Word) → cut_at_colon words ≡ Some (first, rest) → words ≡ first ++ w.Key t.Colon ∷ rest
+colon_sound [] first rest e = cc
+colon_sound (x ∷ xs) first rest e = on_bool (is_colon x)
+    (λ h.
+    let p : Some ([], xs) ≡ Some (first, rest) = rw h at e in
+    let l : List Word × List Word = ([], xs) in
+    let o : l ≡ (first, rest) = cc in
+    rw (colon_is x h) (ap (λ (z : List Word × List Word). z.0 ++ w.Key t.Colon ∷ z.1) o))
+    (λ h. colon_more x xs (cut_at_colon xs) first rest (colon_sound xs) (rw h at e))
+
+pub colon_at : (ns : Names) (rest : List Word) → cut_at_colon (spell_names ns ++ w.Key t.Colon ∷ rest) ≡ Some (spell_names ns, rest)
+colon_at (one_name n) rest = refl
+colon_at (and_name n ns) rest = ap (λ z. ahead (w.Name n ∷ []) (ahead (w.Key t.Comma ∷ []) z)) (colon_at ns rest)

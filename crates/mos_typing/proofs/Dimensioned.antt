@@ -76,7 +76,7 @@ says_over words r s e n found deep only i =
 
 -- ---- no index is cut
 
-base_goes : (d : ℕ) (b : BaseType) → Goes d (base_words b) d
+pub base_goes : (d : ℕ) (b : BaseType) → Goes d (base_words b) d
 base_goes d base.Integer = same d (w.Key t.Integer) refl refl
 base_goes d base.Boolean = same d (w.Key t.Boolean) refl refl
 base_goes d base.Text = same d (w.Key t.StringWord) refl refl

@@ -3,6 +3,7 @@ pub mod Carrying
 pub mod Cuts
 pub mod Dimensioned
 pub mod Ended
+pub mod Grouped
 pub mod Joins
 pub mod Listed
 pub mod Onto

@@ -54,6 +54,14 @@ says_on_ok P Q f (Err x.Deep) out back k = record {
 says_on_ok P Q f (Err x.NoExpr) out back k = record { none = λ t h q. k.none (back t h q).0 h (back t h q).1 }
 says_on_ok P Q f (Err x.NoMemory) out back k = tt
 
+on_ok_same : {T : Type 0} (r : Result T ExprFault) → on_ok (λ z. z) r ≡ r
+on_ok_same (Ok made) = refl
+on_ok_same (Err fault) = refl
+
+-- what is said of words in two ways
+pub says_same : {T : Type 0} (P Q : T → ℕ → Type 0) (r : Result T ExprFault) → ((t : T) (h : ℕ) → P t h → Q t h) → ((t : T) (h : ℕ) → Q t h → P t h) → Says P r → Says Q r
+says_same P Q r out back k = subst (Says Q) (on_ok_same r) (says_on_ok P Q (λ z. z) r out (λ t h q. (t, back t h q, refl)) k)
+
 -- the two parts of a whole
 pub record Parts {A B C : Type 0} (P : A → ℕ → Type 0) (R : B → ℕ → Type 0) (f : A → B → C) (whole : C) (high : ℕ) : Type 0 where
   pub first : A

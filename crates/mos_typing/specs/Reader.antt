@@ -5,6 +5,7 @@ use Rattle.mos_tree.specs.declared.declaration.BaseType.{BaseType}
 use Rattle.mos_tree.specs.declared.declaration.BaseType.TheVariants as base
 use Rattle.mos_tree.specs.declared.declaration.TypeForm.{TypeForm}
 use Rattle.mos_tree.specs.declared.declaration.TypeForm.TheVariants as typ
+use Rattle.mos_tree.specs.declared.declaration.FormalGroup.{FormalGroup}
 use Rattle.mos_scan.specs.declared.token.TokenKind.TheVariants as t
 use Rattle.mos_scan.specs.declared.reading.Word.{Word}
 use Rattle.mos_scan.specs.declared.reading.Word.TheVariants as w
@@ -123,6 +124,9 @@ alone made = made ∷ []
 
 abbrev pub first_of : {A : Type 0} → A → List A → List A
 first_of made more = made ∷ more
+
+abbrev pub group_of : List (List ℕ) → TypeForm → FormalGroup
+group_of names form = record { names = names; typ = form }
 
 -- the type of words that spell no array
 abbrev pub plain_type : List Word → Result TypeForm ExprFault

@@ -1,12 +1,12 @@
 -- What is said of words: what they spell and how high it is, that it is too high, or that they spell nothing.
 
-use Rattle.std.specs.Prelude.{◌≡◌, ℕ, ◌<◌, ◌≤◌, List, Result, Ok, Err}
+use Rattle.std.specs.Prelude.{◌≡◌, ℕ, ◌<◌, ◌≤◌, List, [], ◌∷◌, Result, Ok, Err}
 use Rattle.mos_tree.specs.declared.expr.Expr.{Expr}
 use Rattle.mos_tree.specs.declared.declaration.Dimension.{Dimension}
 use Rattle.mos_tree.specs.declared.declaration.TypeForm.{TypeForm}
 use Rattle.mos_tree.specs.declared.declaration.FormalGroup.{FormalGroup}
 use Rattle.mos_scan.specs.declared.reading.Word.{Word}
-use Rattle.mos_expr.specs.Grammar.{IsGrouped, spell, tree, height, limit}
+use Rattle.mos_expr.specs.Grammar.{Names, spell_names, list_of_names, IsGrouped, spell, tree, height, limit}
 use Rattle.mos_expr.specs.declared.fault.ExprFault.{ExprFault}
 use Rattle.mos_expr.specs.declared.fault.ExprFault.TheVariants as x
 use Rattle.mos_typing.specs.Typing
@@ -33,6 +33,19 @@ IsTypeForm = Spelled Typing.TypeIsGrouped Typing.typing_words Typing.type_of Typ
 
 abbrev pub AreGroups : List Word → List FormalGroup → ℕ → Type 0
 AreGroups = Spelled Typing.GroupsAreGrouped Typing.group_words Typing.groups_of Typing.tallest_groups
+
+-- names and a type make one group
+pub record IsGroup (names typ : List Word) (made : FormalGroup) (high : ℕ) : Type 0 where
+  pub listed : Names
+  pub typing : Typing.Typing
+  pub grouped : Typing.TypeIsGrouped typing
+  pub names_exact : names ≡ spell_names listed
+  pub exact : typ ≡ Typing.typing_words typing
+  pub is : made ≡ record { names = list_of_names listed; typ = Typing.type_of typing }
+  pub high_is : high ≡ Typing.tallest_type typing
+
+abbrev pub IsOnlyGroup : List Word → FormalGroup → ℕ → Type 0
+IsOnlyGroup words made high = AreGroups words (made ∷ []) high
 
 abbrev pub AreFormalGroups : List Word → List FormalGroup → ℕ → Type 0
 AreFormalGroups = Spelled Typing.FormalsAreGrouped Typing.formal_words Typing.formals_of Typing.tallest_formals
