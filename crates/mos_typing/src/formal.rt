@@ -73,9 +73,10 @@ fn groups(alloc: Global, words: &[Word]) -> Result<Items<FormalGroup>, ExprFault
 fn bracketed(alloc: Global, inside: &[Word]) -> Result<Items<FormalGroup>, ExprFault>
     ensures { spelling.Says (spelling.AreFormalGroups (typing.in_brackets inside.now)) result }
 {
-    match inside {
-        [] => Ok(Items::new(alloc)),
-        [_, ..] => groups(alloc, inside),
+    if inside.is_empty() {
+        Ok(Items::new(alloc))
+    } else {
+        groups(alloc, inside)
     }
 }
 
