@@ -1,5 +1,6 @@
 pub mod Bases
 pub mod Carrying
+pub mod Clauses
 pub mod Cuts
 pub mod Dimensioned
 pub mod Ended

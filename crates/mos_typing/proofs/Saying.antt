@@ -74,9 +74,8 @@ pub record Parts {A B C : Type 0} (P : A → ℕ → Type 0) (R : B → ℕ → 
   pub high_is : high ≡ max first_high rest_high
 
 module _ {A B C : Type 0} (P : A → ℕ → Type 0) (R : B → ℕ → Type 0) (Q : C → ℕ → Type 0) (f : A → B → C)
-  (out : (a : A) (h : ℕ) (b : B) (k : ℕ) → P a h → R b k → Q (f a b) (max h k))
-  (back : (c : C) (m : ℕ) → Q c m → Parts P R f c m) where
-
+    (out : (a : A) (h : ℕ) (b : B) (k : ℕ) → P a h → R b k → Q (f a b) (max h k))
+    (back : (c : C) (m : ℕ) → Q c m → Parts P R f c m) where
   two_made : (a : A) (b : B) → Made P a → Made R b → Made Q (f a b)
   two_made a b k l = record {
     high = max k.high l.high;

@@ -18,6 +18,6 @@ none_of words rest e n ds b h =
 pub none_closed : (words rest closed : List Word) (cell : Word) → words ≡ w.Key t.Array ∷ w.Key t.OpenRound ∷ rest → rest ≡ closed ++ w.Key t.Of ∷ cell ∷ [] → ((front : List Word) → closed ≡ front ++ w.Key t.CloseRound ∷ [] → ⊥) → (ds : List Word) (b : Word) → words ≡ array_of ds b → ⊥
 none_closed words rest closed cell e k n ds b h =
     let p : closed ++ (w.Key t.Of ∷ [] ++ cell ∷ []) ≡ (ds ++ w.Key t.CloseRound ∷ []) ++ (w.Key t.Of ∷ [] ++ b ∷ []) =
-        sym k ∙ inside words rest ds b e h ∙ sym (append_assoc ds (w.Key t.CloseRound ∷ []) (w.Key t.Of ∷ b ∷ [])) in
+    sym k ∙ inside words rest ds b e h ∙ sym (append_assoc ds (w.Key t.CloseRound ∷ []) (w.Key t.Of ∷ b ∷ [])) in
     let s : SameEnd closed (ds ++ w.Key t.CloseRound ∷ []) cell b = behind_same closed (ds ++ w.Key t.CloseRound ∷ []) (w.Key t.Of ∷ []) cell b p in
     n ds s.fronts

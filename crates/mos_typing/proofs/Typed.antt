@@ -87,14 +87,17 @@ says_array dynamic ds b cell r s e k i =
     })
     (λ made h q.
     let a : IsArray dynamic ds b q.written = array_back dynamic ds b q.written q.exact in
-    let same : a.cell ≡ cell = some_same (base_of b) a.cell cell (cell_read b a.cell a.cell_is) (sym e) in
-    (dimensions_of a.dims, record {
-      written = a.dims;
-      grouped = subst TypeIsGrouped a.is q.grouped;
-      exact = a.inside;
-      is = refl;
-      high_is = q.high_is ∙ ap tallest_type a.is;
-    }, q.is ∙ ap type_of a.is ∙ ap (typ.Array dynamic (dimensions_of a.dims)) same)) k)
+    let same : a.cell ≡ cell = some_same (base_of b) a.cell cell (cell_read b a.cell a.cell_is) (sym e) in (
+      dimensions_of a.dims,
+      record {
+        written = a.dims;
+        grouped = subst TypeIsGrouped a.is q.grouped;
+        exact = a.inside;
+        is = refl;
+        high_is = q.high_is ∙ ap tallest_type a.is;
+      },
+      q.is ∙ ap type_of a.is ∙ ap (typ.Array dynamic (dimensions_of a.dims)) same,
+    )) k)
 
 -- ---- types that are no arrays
 

@@ -42,7 +42,11 @@ fn array_over(
 ) -> Result<TypeForm, ExprFault>
     ensures { result ≡ reads.on_ok (λ made. typ.Array dynamic made cell) dimensions }
 {
-    Ok(TypeForm::Array { dynamic, dimensions: dimensions?, cell })
+    Ok(TypeForm::Array {
+        dynamic,
+        dimensions: dimensions?,
+        cell,
+    })
 }
 
 /// An array, from what stands in its brackets and the word of its cells.
