@@ -1,4 +1,6 @@
 pub mod Laws
 pub mod Outcome
+pub mod Reader
+pub mod Spellings
 pub mod Typing
 pub mod Words

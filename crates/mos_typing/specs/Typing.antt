@@ -31,7 +31,7 @@ pub data Typing : Type 0 where
   a_range : Typing
   a_set : BaseType → Typing
   a_list : BaseType → Typing
-  an_array : Bool → Dims → BaseType → Typing        -- whether it is dynamic, its indexes, its cells
+  an_array : Bool → Dims → BaseType → Typing  -- whether it is dynamic, its indexes, its cells
 
 -- formals, each group of names with its type
 pub data Groups : Type 0 where

@@ -1,8 +1,20 @@
 //! Types and formals: the one tree of the words that spell them.
 #![tactic(auto)]
 
+mod base;
+mod cut;
+mod dimension;
+mod formal;
 mod laws;
+mod name;
 mod reading;
+mod said;
+mod shape;
+mod types;
 
+pub use base::base_type;
 pub use laws::{expressions_have_plain_words, types_have_their_texts};
 pub use reading::{formals, names, type_form};
+
+#[cfg(test)]
+mod tests;

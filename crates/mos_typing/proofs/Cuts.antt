@@ -1,0 +1,243 @@
+-- No expression is cut: brackets in it are closed, and commas in it stand inside brackets.
+
+use Rattle.std.proofs.Common.{◌≡◌, ℕ, ◌+◌, ◌-◌, Bool, true, false, ◌&&◌, if◌then◌else◌, nat_eq, List, [], ◌∷◌, ◌++◌, Option, Some, None, refl, sym, ◌∙◌, ap, subst, arith, append_assoc}
+use Rattle.std.proofs.lemmas.Bool.{ne_eqb}
+use Rattle.std.proofs.lemmas.List.{append-nil}
+use Rattle.mos_tree.specs.declared.expr.UnaryOperator.{UnaryOperator}
+use Rattle.mos_tree.specs.declared.expr.UnaryOperator.TheVariants as u
+use Rattle.mos_tree.specs.declared.expr.BinaryOperator.{BinaryOperator}
+use Rattle.mos_tree.specs.declared.expr.BinaryOperator.TheVariants as b
+use Rattle.mos_tree.specs.declared.expr.AggregateOperator.{AggregateOperator}
+use Rattle.mos_tree.specs.declared.expr.AggregateOperator.TheVariants as g
+use Rattle.mos_tree.specs.declared.expr.Conversion.{Conversion}
+use Rattle.mos_tree.specs.declared.expr.Conversion.TheVariants as c
+use Rattle.mos_scan.specs.declared.token.TokenKind.TheVariants as t
+use Rattle.mos_scan.specs.declared.reading.Word.{Word}
+use Rattle.mos_scan.specs.declared.reading.Word.TheVariants as w
+use Rattle.mos_expr.specs.Grammar.{Leaf, number, text, truth, name, returned, field, Names, one_name, and_name, Syntax, leaf, call, call_field, set, list, bracket, choice, convert, before, between, aggregate, counted, Written, no_more, one_more, Over, last_set, such_that, another, spell_leaf, spell_before, spell_between, spell_aggregate, spell_conversion, spell_names, spell, spell_list, spell_rest, spell_over}
+use Rattle.mos_typing.specs.Reader.{Halves, ahead, cut, depth_behind, is_comma, is_colon, cut_at_colon}
+
+on_bool : {P : Type 0} (b : Bool) → (b ≡ true → P) → (b ≡ false → P) → P
+on_bool true yes' no' = yes' refl
+on_bool false yes' no' = no' refl
+
+-- what is none is not some
+pub none_some : {A P : Type 0} (q : Option A) (a : A) → q ≡ None → q ≡ Some a → P
+none_some None a n e = cc
+none_some (Some b) a n e = cc
+
+pub some_same : {A : Type 0} (q : Option A) (a b : A) → q ≡ Some a → q ≡ Some b → a ≡ b
+some_same q a b h e = let p : Some a ≡ Some b = sym h ∙ e in cc
+
+-- the words are not cut; so many brackets are open before them, and so many behind them
+pub record Goes (from : ℕ) (words : List Word) (to : ℕ) : Type 0 where
+  pub on : (rest : List Word) → cut from (words ++ rest) ≡ ahead words (cut to rest)
+
+ahead_ahead : (xs ys : List Word) (q : Halves) → ahead xs (ahead ys q) ≡ ahead (xs ++ ys) q
+ahead_ahead xs ys None = refl
+ahead_ahead xs ys (Some q) = ap (λ z. Some (z, q.1)) (sym (append_assoc xs ys q.0))
+
+ahead_none : (q : Halves) → ahead [] q ≡ q
+ahead_none None = refl
+ahead_none (Some q) = refl
+
+pub nothing : (d : ℕ) → Goes d [] d
+nothing d = record { on = λ rest. sym (ahead_none (cut d rest)) }
+
+pub joined : (d e f : ℕ) (xs ys : List Word) → Goes d xs e → Goes e ys f → Goes d (xs ++ ys) f
+joined d e f xs ys h k = record {
+  on = λ rest. ap (cut d) (append_assoc xs ys rest) ∙ h.on (ys ++ rest) ∙ ap (ahead xs) (k.on rest) ∙ ahead_ahead xs ys (cut f rest);
+}
+
+pub led : (d e f : ℕ) (x : Word) (xs : List Word) → Goes d (x ∷ []) e → Goes e xs f → Goes d (x ∷ xs) f
+led d e f x xs h k = joined d e f (x ∷ []) xs h k
+
+-- words inside a bracket that is closed then
+pub closed : (d : ℕ) (x : Word) (xs ys : List Word) → Goes d (x ∷ []) (d + 1) → Goes (d + 1) xs (d + 1) → Goes (d + 1) ys d → Goes d (x ∷ (xs ++ ys)) d
+closed d x xs ys o h k = led d (d + 1) d x (xs ++ ys) o (joined (d + 1) (d + 1) d xs ys h k)
+
+pub comma : (d : ℕ) → Goes (d + 1) (w.Key t.Comma ∷ []) (d + 1)
+comma d = let e : nat_eq (d + 1) 0 ≡ false = ne_eqb (d + 1) 0 (omega arith) in record { on = λ rest. rw e refl }
+
+-- a word that is no comma
+pub other : (d : ℕ) (x : Word) → is_comma x ≡ false → Goes d (x ∷ []) (depth_behind x d)
+other d x h = record { on = λ rest. on_bool (nat_eq d 0) (λ e. rw (e, h) refl) (λ e. rw e refl) }
+
+pub open_round : (d : ℕ) → Goes d (w.Key t.OpenRound ∷ []) (d + 1)
+open_round d = other d (w.Key t.OpenRound) refl
+
+pub close : (d : ℕ) (x : Word) → is_comma x ≡ false → depth_behind x (d + 1) ≡ d + 1 - 1 → Goes (d + 1) (x ∷ []) d
+close d x h k = let e : depth_behind x (d + 1) ≡ d = k ∙ omega arith in subst (λ to. Goes (d + 1) (x ∷ []) to) e (other (d + 1) x h)
+
+-- a word that is neither a comma nor a bracket
+pub same : (d : ℕ) (x : Word) → is_comma x ≡ false → depth_behind x d ≡ d → Goes d (x ∷ []) d
+same d x h k = subst (λ to. Goes d (x ∷ []) to) k (other d x h)
+
+-- ---- the parts of an expression
+
+name_goes : (d : ℕ) (n : List ℕ) → Goes d (w.Name n ∷ []) d
+name_goes d n = same d (w.Name n) refl refl
+
+leaf_goes : (d : ℕ) (x : Leaf) → Goes d (spell_leaf x) d
+leaf_goes d (number n) = same d (w.Number n) refl refl
+leaf_goes d (text x) = same d (w.Text x) refl refl
+leaf_goes d (truth true) = same d (w.Key t.True) refl refl
+leaf_goes d (truth false) = same d (w.Key t.False) refl refl
+leaf_goes d (name n) = name_goes d n
+leaf_goes d returned = same d (w.Key t.Returned) refl refl
+leaf_goes d (field n f) = led d d d (w.Name n) _ (name_goes d n) (led d d d (w.Key t.Dot) (w.Name f ∷ []) (same d (w.Key t.Dot) refl refl) (name_goes d f))
+
+before_goes : (d : ℕ) (p : UnaryOperator) → Goes d (spell_before p ∷ []) d
+before_goes d u.Minus = same d (w.Key t.Minus) refl refl
+before_goes d u.Plus = same d (w.Key t.Plus) refl refl
+before_goes d u.Not = same d (w.Key t.Not) refl refl
+
+between_goes : (d : ℕ) (p : BinaryOperator) → Goes d (spell_between p) d
+between_goes d b.Times = same d (w.Key t.Times) refl refl
+between_goes d b.Div = same d (w.Key t.Div) refl refl
+between_goes d b.Mod = same d (w.Key t.Mod) refl refl
+between_goes d b.Inter = same d (w.Key t.Inter) refl refl
+between_goes d b.Plus = same d (w.Key t.Plus) refl refl
+between_goes d b.Minus = same d (w.Key t.Minus) refl refl
+between_goes d b.Union = same d (w.Key t.Union) refl refl
+between_goes d b.Range = same d (w.Key t.DotDot) refl refl
+between_goes d b.Equal = same d (w.Key t.Equal) refl refl
+between_goes d b.NotEqual = same d (w.Key t.NotEqual) refl refl
+between_goes d b.Less = same d (w.Key t.Less) refl refl
+between_goes d b.AtMost = same d (w.Key t.AtMost) refl refl
+between_goes d b.Greater = same d (w.Key t.Greater) refl refl
+between_goes d b.AtLeast = same d (w.Key t.AtLeast) refl refl
+between_goes d b.In = same d (w.Key t.In) refl refl
+between_goes d b.NotIn = led d d d (w.Key t.Not) (w.Key t.In ∷ []) (same d (w.Key t.Not) refl refl) (same d (w.Key t.In) refl refl)
+between_goes d b.And = same d (w.Key t.And) refl refl
+between_goes d b.Or = same d (w.Key t.Or) refl refl
+
+aggregate_goes : (d : ℕ) (p : AggregateOperator) → Goes d (spell_aggregate p ∷ []) d
+aggregate_goes d g.Sum = same d (w.Key t.Sum) refl refl
+aggregate_goes d g.Prod = same d (w.Key t.Prod) refl refl
+aggregate_goes d g.Min = same d (w.Key t.Min) refl refl
+aggregate_goes d g.Max = same d (w.Key t.Max) refl refl
+aggregate_goes d g.Union = same d (w.Key t.Union) refl refl
+aggregate_goes d g.And = same d (w.Key t.And) refl refl
+aggregate_goes d g.Or = same d (w.Key t.Or) refl refl
+
+conversion_goes : (d : ℕ) (p : Conversion) → Goes d (spell_conversion p ∷ []) d
+conversion_goes d c.Integer = same d (w.Key t.Integer) refl refl
+conversion_goes d c.Text = same d (w.Key t.StringWord) refl refl
+
+pub names_go : (d : ℕ) (ns : Names) → Goes (d + 1) (spell_names ns) (d + 1)
+names_go d (one_name n) = name_goes (d + 1) n
+names_go d (and_name n ns) = led (d + 1) (d + 1) (d + 1) (w.Name n) _ (name_goes (d + 1) n) (led (d + 1) (d + 1) (d + 1) (w.Key t.Comma) (spell_names ns) (comma d) (names_go d ns))
+
+-- words in round brackets, and what stands behind them
+round : (d : ℕ) (xs ys : List Word) → Goes (d + 1) xs (d + 1) → Goes d ys d → Goes d (w.Key t.OpenRound ∷ (xs ++ w.Key t.CloseRound ∷ ys)) d
+round d xs ys h k = closed d (w.Key t.OpenRound) xs (w.Key t.CloseRound ∷ ys) (open_round d) h (led (d + 1) d d (w.Key t.CloseRound) ys (close d (w.Key t.CloseRound) refl refl) k)
+
+-- words, a comma, and more words, inside brackets
+with_comma : (d : ℕ) (xs ys : List Word) → Goes (d + 1) xs (d + 1) → Goes (d + 1) ys (d + 1) → Goes (d + 1) (xs ++ w.Key t.Comma ∷ ys) (d + 1)
+with_comma d xs ys h k = joined (d + 1) (d + 1) (d + 1) xs (w.Key t.Comma ∷ ys) h (led (d + 1) (d + 1) (d + 1) (w.Key t.Comma) ys (comma d) k)
+
+choice_goes : (d : ℕ) (xs ys zs : List Word) → Goes (d + 1) xs (d + 1) → Goes (d + 1) ys (d + 1) → Goes (d + 1) zs (d + 1) → Goes (d + 1) (xs ++ w.Key t.Comma ∷ (ys ++ w.Key t.Comma ∷ (zs ++ w.Key t.CloseRound ∷ []))) d
+choice_goes d xs ys zs h k l =
+    let last : Goes (d + 1) (zs ++ w.Key t.CloseRound ∷ []) d = joined (d + 1) (d + 1) d zs (w.Key t.CloseRound ∷ []) l (close d (w.Key t.CloseRound) refl refl) in
+    let more : Goes (d + 1) (ys ++ w.Key t.Comma ∷ (zs ++ w.Key t.CloseRound ∷ [])) d = joined (d + 1) (d + 1) d ys _ k (led (d + 1) (d + 1) d (w.Key t.Comma) _ (comma d) last) in
+    joined (d + 1) (d + 1) d xs _ h (led (d + 1) (d + 1) d (w.Key t.Comma) _ (comma d) more)
+
+mutual
+  pub syntax_goes : (d : ℕ) (s : Syntax) → Goes d (spell s) d
+  syntax_goes d (leaf x) = leaf_goes d x
+  syntax_goes d (call n xs) = led d d d (w.Name n) _ (name_goes d n) (round d (spell_list xs) [] (list_goes d xs) (nothing d))
+  syntax_goes d (call_field n xs f) =
+      led d d d (w.Name n) _ (name_goes d n)
+      (round d (spell_list xs) (w.Key t.Dot ∷ w.Name f ∷ []) (list_goes d xs) (led d d d (w.Key t.Dot) (w.Name f ∷ []) (same d (w.Key t.Dot) refl refl) (name_goes d f)))
+  syntax_goes d (set xs) = closed d (w.Key t.OpenCurly) (spell_list xs) (w.Key t.CloseCurly ∷ []) (other d (w.Key t.OpenCurly) refl) (list_goes d xs) (close d (w.Key t.CloseCurly) refl refl)
+  syntax_goes d (list xs) = closed d (w.Key t.OpenSquare) (spell_list xs) (w.Key t.CloseSquare ∷ []) (other d (w.Key t.OpenSquare) refl) (list_goes d xs) (close d (w.Key t.CloseSquare) refl refl)
+  syntax_goes d (bracket s) = round d (spell s) [] (syntax_goes (d + 1) s) (nothing d)
+  syntax_goes d (choice x y z) =
+      led d d d (w.Key t.If) _ (same d (w.Key t.If) refl refl)
+      (led d (d + 1) d (w.Key t.OpenRound) _ (open_round d) (choice_goes d (spell x) (spell y) (spell z) (syntax_goes (d + 1) x) (syntax_goes (d + 1) y) (syntax_goes (d + 1) z)))
+  syntax_goes d (convert p s) = led d d d (spell_conversion p) _ (conversion_goes d p) (round d (spell s) [] (syntax_goes (d + 1) s) (nothing d))
+  syntax_goes d (before p s) = led d d d (spell_before p) (spell s) (before_goes d p) (syntax_goes d s)
+  syntax_goes d (between p x y) = joined d d d (spell x) (spell_between p ++ spell y) (syntax_goes d x) (joined d d d (spell_between p) (spell y) (between_goes d p) (syntax_goes d y))
+  syntax_goes d (aggregate p i s) = led d d d (spell_aggregate p) _ (aggregate_goes d p) (round d (spell_over i) (spell s) (over_goes d i) (syntax_goes d s))
+  syntax_goes d (counted i) = led d d d (w.Key t.Count) _ (same d (w.Key t.Count) refl refl) (round d (spell_over i) [] (over_goes d i) (nothing d))
+
+  list_goes : (d : ℕ) (ss : Written) → Goes (d + 1) (spell_list ss) (d + 1)
+  list_goes d no_more = nothing (d + 1)
+  list_goes d (one_more s ss) = joined (d + 1) (d + 1) (d + 1) (spell s) (spell_rest ss) (syntax_goes (d + 1) s) (rest_goes d ss)
+
+  rest_goes : (d : ℕ) (ss : Written) → Goes (d + 1) (spell_rest ss) (d + 1)
+  rest_goes d no_more = nothing (d + 1)
+  rest_goes d (one_more s ss) = led (d + 1) (d + 1) (d + 1) (w.Key t.Comma) _ (comma d) (joined (d + 1) (d + 1) (d + 1) (spell s) (spell_rest ss) (syntax_goes (d + 1) s) (rest_goes d ss))
+
+  over_goes : (d : ℕ) (i : Over) → Goes (d + 1) (spell_over i) (d + 1)
+  over_goes d (last_set ns s) = joined (d + 1) (d + 1) (d + 1) (spell_names ns) _ (names_go d ns) (led (d + 1) (d + 1) (d + 1) (w.Key t.In) (spell s) (same (d + 1) (w.Key t.In) refl refl) (syntax_goes (d + 1) s))
+  over_goes d (such_that ns s k) =
+      joined (d + 1) (d + 1) (d + 1) (spell_names ns) _ (names_go d ns)
+      (led (d + 1) (d + 1) (d + 1) (w.Key t.In) _ (same (d + 1) (w.Key t.In) refl refl)
+      (joined (d + 1) (d + 1) (d + 1) (spell s) _ (syntax_goes (d + 1) s) (led (d + 1) (d + 1) (d + 1) (w.Key t.Bar) (spell k) (same (d + 1) (w.Key t.Bar) refl refl) (syntax_goes (d + 1) k))))
+  over_goes d (another ns s i) =
+      joined (d + 1) (d + 1) (d + 1) (spell_names ns) _ (names_go d ns)
+      (led (d + 1) (d + 1) (d + 1) (w.Key t.In) _ (same (d + 1) (w.Key t.In) refl refl) (with_comma d (spell s) (spell_over i) (syntax_goes (d + 1) s) (over_goes d i)))
+
+-- ---- what is cut
+
+and_true : (a b : Bool) → (a && b) ≡ true → b ≡ true
+and_true true b e = e
+and_true false b e = cc
+
+comma_is : (x : Word) → is_comma x ≡ true → x ≡ w.Key t.Comma
+comma_is (w.Key t.Comma) e = refl
+comma_is _ e = cc
+
+cut_more : (x : Word) (xs : List Word) (q : Halves) (first rest : List Word) → ((a b : List Word) → q ≡ Some (a, b) → xs ≡ a ++ w.Key t.Comma ∷ b) → ahead (x ∷ []) q ≡ Some (first, rest) → x ∷ xs ≡ first ++ w.Key t.Comma ∷ rest
+cut_more x xs None first rest known e = cc
+cut_more x xs (Some (a, b)) first rest known e =
+    let p : List Word × List Word = (x ∷ a, b) in
+    let o : p ≡ (first, rest) = cc in
+    ap (λ z. x ∷ z) (known a b refl) ∙ ap (λ (z : List Word × List Word). z.0 ++ w.Key t.Comma ∷ z.1) o
+
+-- the parts of what is cut
+pub cut_sound : (d : ℕ) (words first rest : List Word) → cut d words ≡ Some (first, rest) → words ≡ first ++ w.Key t.Comma ∷ rest
+cut_sound d [] first rest e = cc
+cut_sound d (x ∷ xs) first rest e = on_bool (nat_eq d 0 && is_comma x)
+    (λ h.
+    let p : Some ([], xs) ≡ Some (first, rest) = rw h at e in
+    let l : List Word × List Word = ([], xs) in
+    let o : l ≡ (first, rest) = cc in
+    rw (comma_is x (and_true (nat_eq d 0) (is_comma x) h)) (ap (λ (z : List Word × List Word). z.0 ++ w.Key t.Comma ∷ z.1) o))
+    (λ h. cut_more x xs (cut (depth_behind x d) xs) first rest (cut_sound (depth_behind x d) xs) (rw h at e))
+
+-- words that are not cut, alone and before a comma
+pub cut_none : (words : List Word) → Goes 0 words 0 → cut 0 words ≡ None
+cut_none words g = ap (cut 0) (sym (append-nil words)) ∙ g.on []
+
+pub cut_at : (words rest : List Word) → Goes 0 words 0 → cut 0 (words ++ w.Key t.Comma ∷ rest) ≡ Some (words, rest)
+cut_at words rest g = g.on (w.Key t.Comma ∷ rest) ∙ ap (λ z. Some (z, rest)) (append-nil words)
+
+-- ---- the cut at a colon
+
+colon_is : (x : Word) → is_colon x ≡ true → x ≡ w.Key t.Colon
+colon_is (w.Key t.Colon) e = refl
+colon_is _ e = cc
+
+colon_more : (x : Word) (xs : List Word) (q : Halves) (first rest : List Word) → ((a b : List Word) → q ≡ Some (a, b) → xs ≡ a ++ w.Key t.Colon ∷ b) → ahead (x ∷ []) q ≡ Some (first, rest) → x ∷ xs ≡ first ++ w.Key t.Colon ∷ rest
+colon_more x xs None first rest known e = cc
+colon_more x xs (Some (a, b)) first rest known e =
+    let p : List Word × List Word = (x ∷ a, b) in
+    let o : p ≡ (first, rest) = cc in
+    ap (λ z. x ∷ z) (known a b refl) ∙ ap (λ (z : List Word × List Word). z.0 ++ w.Key t.Colon ∷ z.1) o
+
+pub colon_sound : (words first rest : List Word) → cut_at_colon words ≡ Some (first, rest) → words ≡ first ++ w.Key t.Colon ∷ rest
+colon_sound [] first rest e = cc
+colon_sound (x ∷ xs) first rest e = on_bool (is_colon x)
+    (λ h.
+    let p : Some ([], xs) ≡ Some (first, rest) = rw h at e in
+    let l : List Word × List Word = ([], xs) in
+    let o : l ≡ (first, rest) = cc in
+    rw (colon_is x h) (ap (λ (z : List Word × List Word). z.0 ++ w.Key t.Colon ∷ z.1) o))
+    (λ h. colon_more x xs (cut_at_colon xs) first rest (colon_sound xs) (rw h at e))
+
+pub colon_at : (ns : Names) (rest : List Word) → cut_at_colon (spell_names ns ++ w.Key t.Colon ∷ rest) ≡ Some (spell_names ns, rest)
+colon_at (one_name n) rest = refl
+colon_at (and_name n ns) rest = ap (λ z. ahead (w.Name n ∷ []) (ahead (w.Key t.Comma ∷ []) z)) (colon_at ns rest)

@@ -1,0 +1,41 @@
+//! Names with commas between them.
+ghost use Rattle.std.specs.Prelude.{◌≡◌, List, ◌∷◌, IfOk, MatchOption};
+ghost use Rattle.mos_scan.specs.declared.token.TokenKind.TheVariants as t;
+ghost use Rattle.mos_scan.specs.declared.reading.Word.{Word as WordType};
+ghost use Rattle.mos_scan.specs.declared.reading.Word.TheVariants as w;
+ghost use Rattle.mos_typing.specs.Reader.{names_of};
+
+use mos_scan::{TokenKind, Word};
+use mos_text::{NoMemory, Text};
+use sqlite_items::Items;
+use std::alloc::Global;
+
+/// What stands behind a comma.
+fn behind_comma(words: &[Word]) -> Option<&[Word]>
+    ensures { MatchOption result ((more : List WordType) → words.now ≡ w.Key t.Comma ∷ more → ⊥) (λ more. words.now ≡ w.Key t.Comma ∷ more.now) }
+{
+    match words {
+        [Word::Key(TokenKind::Comma), more @ ..] => Some(more),
+        _ => None,
+    }
+}
+
+/// The names that the words are.
+#[tactic(auto, using(crate::proofs::Onto::onto_onto))]
+pub(crate) fn names_of_words(alloc: Global, words: &[Word]) -> Result<Option<Items<Text>>, NoMemory>
+    ensures { IfOk result (λ all. all ≡ names_of words.now) }
+{
+    let mut found = Items::new(alloc);
+    let mut rest = words;
+    while let [Word::Name(name), after @ ..] = rest {
+        found.push(name.copy(alloc)?)?;
+        if after.is_empty() {
+            return Ok(Some(found));
+        }
+        match behind_comma(after) {
+            Some(more) => rest = more,
+            None => return Ok(None),
+        }
+    }
+    Ok(None)
+}
