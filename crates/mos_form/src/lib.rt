@@ -5,4 +5,4 @@ mod form;
 mod reading;
 
 pub use form::{Form, Guard, Keyword, Mould, PieceForm, Simple, mould_of};
-pub use reading::form;
+pub use reading::form_of;

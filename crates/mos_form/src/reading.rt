@@ -7,7 +7,7 @@ use mos_text::NoMemory;
 use std::alloc::Global;
 
 /// What the piece with these words is.
-pub fn form(_alloc: Global, _words: &[Word]) -> Result<Form, NoMemory>
+pub fn form_of(_alloc: Global, _words: &[Word]) -> Result<Form, NoMemory>
     ensures found { IfOk result (IsFormOf _words.now) }
     ensures only { IfOk result (λ form. (p : Phrase) → IsPhrase _words.now p → form ≡ answer p) }
 {

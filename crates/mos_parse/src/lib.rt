@@ -2,7 +2,7 @@
 #![tactic(auto)]
 
 mod fault;
-mod parse;
+mod parser;
 
 pub use fault::SyntaxFault;
-pub use parse::parse;
+pub use parser::parse;
