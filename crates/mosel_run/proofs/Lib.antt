@@ -9,3 +9,7 @@ pub mod Rooms
 pub mod Layers
 pub mod Judging
 pub mod Refusals
+pub mod KnownNames
+pub mod KnownExpressions
+pub mod KnownStatements
+pub mod SmallModels

@@ -7,10 +7,12 @@ ghost use Rattle.job_calls.specs.ReportText.{report_text};
 ghost use Rattle.job_calls.specs.Runs.{finish_of};
 ghost use Rattle.mos_meaning.specs.State.{Stuck};
 ghost use Rattle.mos_meaning.specs.Follows.{end_of};
+ghost use Rattle.mos_meaning.specs.Syntax.{statements_of};
 ghost use Rattle.mos_words.specs.Fit.{IsFit};
 ghost use Rattle.mos_words.specs.Words.{is_source_name};
 ghost use Rattle.mos_words.specs.declared.words.commands.Command.TheVariants.{Run as RunCommand};
 ghost use Rattle.mosel_run.specs.Accepted.{IsAccepted};
+ghost use Rattle.mosel_run.specs.InSize.{IsInSize};
 ghost use Rattle.mosel_run.specs.Jobs.{opening_on};
 ghost use Rattle.mosel_run.specs.Outputs.{IsOutput, IsOwnEnd};
 ghost use Rattle.mosel_run.specs.Puts.{image_name, puts_of};
@@ -63,6 +65,7 @@ pub(crate) fn make_output(
     tree: &Tree,
 ) -> Result<Output, NoMemory>
     requires accepted { IsAccepted source.now tree.now }
+    requires in_size { IsInSize (statements_of tree.now) }
     requires small { length source.now ≤ 1048576 }
     requires fit { IsFit (RunCommand name.now lanes) }
     ensures { IfOk result (λ output. IsOutput name.now lanes source.now output) }
@@ -81,6 +84,7 @@ fn carry_out(
     tree: &Tree,
 ) -> Result<Finished, NoMemory>
     requires accepted { IsAccepted source.now tree.now }
+    requires in_size { IsInSize (statements_of tree.now) }
     requires small { length source.now ≤ 1048576 }
     requires fit { IsFit (RunCommand name.now lanes) }
     ensures job { IfOk result (λ f. IsJob (opening_on name.now source.now lanes) source.now tree.now f.image f.journal f.lines) }
