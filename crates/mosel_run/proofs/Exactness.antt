@@ -1,6 +1,6 @@
 -- Each status comes in its own way alone, so that the words and the file tell it.
 
-use Rattle.std.proofs.Common.{◌≡◌, ◌≤◌, ◌<◌, ℕ, List, Option, Some, None, length, refl, sym, ap, ◌∙◌, subst, inl, inr, Result, Ok, Err, arith}
+use Rattle.std.proofs.Common.{◌≡◌, ◌≤◌, ◌<◌, ℕ, List, Option, Some, None, length, refl, sym, ap, ◌∙◌, subst, inl, inr, arith}
 use Rattle.mos_text.specs.Content.{Files, Known, Absent, Holds, known_of}
 use Rattle.mos_text.specs.Gets.{Answers}
 use Rattle.mos_text.specs.declared.folder.Got.{Got}
@@ -13,18 +13,12 @@ use Rattle.mosel_run.specs.declared.status.Status.{Status}
 use Rattle.mosel_run.specs.declared.status.Status.TheVariants.{Done, Usage, Refused, Missing, TooLarge, FolderFault, SinkFault, MasterFailed, MasterSpent, NoMemory}
 use Rattle.mosel_run.specs.Answered.{Disk, Paper, Runs, source_limit, Answered}
 use Rattle.mosel_run.specs.Exact.{ExactUsage, ExactMissing, ExactTooLarge, ExactRefused, ExactReport}
-use Rattle.mosel_run.specs.Accepted.{IsAccepted, IsRefusedAt}
-use Rattle.mosel_run.proofs.AcceptedForms.{accepted-is, refused-is}
+use Rattle.mosel_run.specs.Accepted.{IsAccepted, IsRefusedAt, IsOnlyTree, IsOnlyRefusal}
 
-one_refusal : (source : List ℕ) (first second : ℕ) (kind other : Kind) → IsRefusedAt source first kind → IsRefusedAt source second other → Refused first kind ≡ Refused second other
-one_refusal source first second kind other h k =
-    let both : ◌≡◌ {A = Result Tree (ℕ × Kind)} (Err (first, kind)) (Err (second, other)) = sym (refused-is source first kind h) ∙ refused-is source second other k in
-    let pair : ◌≡◌ {A = ℕ × Kind} (first, kind) (second, other) = cc in
-    ap (λ (p : ℕ × Kind). Refused p.0 p.1) pair
-
-never_both : (source : List ℕ) (tree : Tree) (line : ℕ) (kind : Kind) → IsAccepted source tree → IsRefusedAt source line kind → ⊥
-never_both source tree line kind h k =
-    let both : ◌≡◌ {A = Result Tree (ℕ × Kind)} (Ok tree) (Err (line, kind)) = sym (accepted-is source tree h) ∙ refused-is source line kind k in cc
+one_refusal : (source : List ℕ) (first second : ℕ) (kind other : Kind) → IsOnlyRefusal source first kind → IsRefusedAt source second other → Refused first kind ≡ Refused second other
+one_refusal source first second kind other only k =
+    let both = only.one second other k in
+    ap (λ (line : ℕ). Refused line kind) both.0 ∙ ap (Refused second) both.1
 
 no_run : (words : List (List ℕ)) (name : List ℕ) (lanes : ℕ) → Runs words name lanes → command_of words ≡ None → ⊥
 no_run words name lanes runs none = let e : Some (Run name lanes) ≡ None = sym runs ∙ none in cc
@@ -109,9 +103,9 @@ same_source words content name other lanes others source read runs again is h =
 -- a refused source is not reported
 no_report : (words : List (List ℕ)) (content : Option Files) (name other : List ℕ) (lanes others : ℕ) (source read : List ℕ) (line : ℕ) (kind : Kind) (tree : Tree)
     → Runs words name lanes → Runs words other others → known_of content name ≡ Holds source
-    → Answers (known_of content other) source_limit (Bytes read) → IsRefusedAt source line kind → IsAccepted read tree → ⊥
-no_report words content name other lanes others source read line kind tree runs again is h refused accepted =
-    never_both source tree line kind (subst (λ (s : List ℕ). IsAccepted s tree) (same_source words content name other lanes others source read runs again is h) accepted) refused
+    → Answers (known_of content other) source_limit (Bytes read) → IsRefusedAt source line kind → IsOnlyTree read tree → ⊥
+no_report words content name other lanes others source read line kind tree runs again is h refused only =
+    only.never line kind (subst (λ (s : List ℕ). IsRefusedAt s line kind) (sym (same_source words content name other lanes others source read runs again is h)) refused)
 
 -- a file that is in size is not too long
 in_size : (bytes : List ℕ) → length bytes ≤ source_limit → Answers (Holds bytes) source_limit TooLong → ⊥
@@ -120,15 +114,15 @@ in_size bytes few long = absurd (omega arith)
 pub exact_refused : (words : List (List ℕ)) (before after : Disk) (paper paper_after : Paper) (status : Status)
     → Answered words before after paper paper_after status → ExactRefused words before.content status
 exact_refused words before after paper paper_after Done h name lanes source line kind runs is few refused =
-    absurd (no_report words before.content name h.name lanes h.lanes source h.reported.source line kind h.reported.tree runs h.runs is h.reported.source_is refused h.reported.job.accepted)
+    absurd (no_report words before.content name h.name lanes h.lanes source h.reported.source line kind h.reported.tree runs h.runs is h.reported.source_is refused h.reported.job.only)
 exact_refused words before after paper paper_after MasterFailed h name lanes source line kind runs is few refused =
-    absurd (no_report words before.content name h.name lanes h.lanes source h.reported.source line kind h.reported.tree runs h.runs is h.reported.source_is refused h.reported.job.accepted)
+    absurd (no_report words before.content name h.name lanes h.lanes source h.reported.source line kind h.reported.tree runs h.runs is h.reported.source_is refused h.reported.job.only)
 exact_refused words before after paper paper_after MasterSpent h name lanes source line kind runs is few refused =
-    absurd (no_report words before.content name h.name lanes h.lanes source h.reported.source line kind h.reported.tree runs h.runs is h.reported.source_is refused h.reported.job.accepted)
+    absurd (no_report words before.content name h.name lanes h.lanes source h.reported.source line kind h.reported.tree runs h.runs is h.reported.source_is refused h.reported.job.only)
 exact_refused words before after paper paper_after Usage h name lanes source line kind runs is few refused = absurd (no_run words name lanes runs h.line.0)
 exact_refused words before after paper paper_after (Refused at why) h name lanes source line kind runs is few refused =
     let read = same_source words before.content name h.line.name lanes h.line.lanes source h.line.source runs h.line.runs is h.line.source_is in
-    inl (one_refusal source at line why kind (subst (λ (s : List ℕ). IsRefusedAt s at why) read h.line.refused) refused)
+    inl (one_refusal source at line why kind (subst (λ (s : List ℕ). IsOnlyRefusal s at why) read h.line.only) refused)
 exact_refused words before after paper paper_after (Missing other) h name lanes source line kind runs is few refused =
     absurd (at_name words before.content name other lanes h.line.0.lanes (Holds source) NotThere runs h.line.0.runs is h.line.1)
 exact_refused words before after paper paper_after (TooLarge other) h name lanes source line kind runs is few refused =
@@ -146,7 +140,7 @@ exact_report words before after paper paper_after MasterSpent h name lanes sourc
 exact_report words before after paper paper_after Usage h name lanes source tree runs is few form = absurd (no_run words name lanes runs h.line.0)
 exact_report words before after paper paper_after (Refused at kind) h name lanes source tree runs is few form =
     let read = same_source words before.content name h.line.name lanes h.line.lanes source h.line.source runs h.line.runs is h.line.source_is in
-    absurd (never_both source tree at kind form (subst (λ (s : List ℕ). IsRefusedAt s at kind) read h.line.refused))
+    absurd (h.line.only.never tree (subst (λ (s : List ℕ). IsAccepted s tree) (sym read) form))
 exact_report words before after paper paper_after (Missing other) h name lanes source tree runs is few form =
     absurd (at_name words before.content name other lanes h.line.0.lanes (Holds source) NotThere runs h.line.0.runs is h.line.1)
 exact_report words before after paper paper_after (TooLarge other) h name lanes source tree runs is few form =

@@ -1,4 +1,4 @@
--- A job over one source of the first form is a whole job.
+-- A job over one source is a whole job.
 
 use Rattle.std.proofs.Common.{◌≡◌, ◌≢◌, ℕ, zero, suc, true, List, [], ◌∷◌, length, Some, refl, sym, ap, ◌∙◌, subst, inl, drop, ◌-◌, arith}
 use Rattle.std.specs.Prelude.{slice_get, codes, ◌&&◌}
@@ -25,7 +25,7 @@ use Rattle.mos_words.specs.declared.words.commands.Command.TheVariants.{Run as R
 use Rattle.mosel_run.specs.declared.runner.Ran.{Ran}
 use Rattle.bim_compile.specs.Means.{Means, NeverStuck}
 use Rattle.bim_compile.specs.Plain.{IsPlain}
-use Rattle.mosel_run.specs.Accepted.{IsAccepted}
+use Rattle.mosel_run.specs.Accepted.{IsAccepted, IsOnlyTree}
 use Rattle.mosel_run.specs.Jobs.{opening_on, listed, line_of, usual_budget}
 use Rattle.mosel_run.specs.Puts.{puts_of, image_name, last_puts}
 use Rattle.mosel_run.specs.Reported.{IsJob, model_of}
@@ -110,11 +110,12 @@ follows_sources name source lanes tree image ran end means course ends =
 
 -- what `carry_out` promises
 pub is_job : (name source : List ℕ) (lanes : ℕ) (tree : Tree) (image : Image) (ran : Ran) (end : End)
-    → IsAccepted source tree → IsFit (RunCommand name lanes)
+    → IsAccepted source tree → IsOnlyTree source tree → IsFit (RunCommand name lanes)
     → Means (statements_of tree) image → FitsFields image → IsPlain image → IsCourse image usual_budget ran → end_of (stop_of ran.halt) ≡ Some end
     → IsJob (opening_on name source lanes) source tree image (schedule_of (opening_on name source lanes) end) (line_of name end ran ∷ [])
-is_job name source lanes tree image ran end form fit means fields plain course ends = record {
+is_job name source lanes tree image ran end form only fit means fields plain course ends = record {
   accepted = form;
+  only = only;
   means = means;
   fields = fields;
   plain = plain;

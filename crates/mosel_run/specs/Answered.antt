@@ -15,7 +15,7 @@ use Rattle.mos_words.specs.declared.words.commands.Command.TheVariants.{Run}
 use Rattle.mosel_run.specs.declared.jobs.Output.{Output}
 use Rattle.mosel_run.specs.declared.status.Status.{Status}
 use Rattle.mosel_run.specs.declared.status.Status.TheVariants.{Done, Usage, Refused, Missing, TooLarge, FolderFault, SinkFault, MasterFailed, MasterSpent, NoMemory}
-use Rattle.mosel_run.specs.Accepted.{IsRefusedAt}
+use Rattle.mosel_run.specs.Accepted.{IsRefusedAt, IsOnlyRefusal}
 use Rattle.mosel_run.specs.Outputs.{IsOutput}
 use Rattle.mosel_run.specs.Puts.{Put}
 use Rattle.mosel_run.specs.Reported.{HasReported, EndedWell, EndedBadly, EndedSpent, EndedSomehow, AllPut, PutUpTo}
@@ -46,6 +46,7 @@ pub record IsRefused (words : List (List ℕ)) (content : Option Files) (line : 
   pub runs : Runs words name lanes
   pub source_is : Answers (known_of content name) source_limit (Bytes source)
   pub refused : IsRefusedAt source line kind
+  pub only : IsOnlyRefusal source line kind
   pub text_is : text ≡ verdict_line name line kind
 
 -- the command runs this name, whose file cannot be had: the folder answers so

@@ -9,7 +9,7 @@ use Rattle.job_calls.specs.ErrorLines.{verdict_line, missing_line, too_large_lin
 use Rattle.mosel_run.specs.declared.prepared.Prepared.{Prepared}
 use Rattle.mosel_run.specs.declared.prepared.Prepared.TheVariants.{Report, Line}
 use Rattle.mosel_run.specs.declared.status.Status.TheVariants.{Refused, Missing, TooLarge, FolderFault}
-use Rattle.mosel_run.specs.Accepted.{IsRefusedAt}
+use Rattle.mosel_run.specs.Accepted.{IsRefusedAt, IsOnlyRefusal}
 use Rattle.mosel_run.specs.Outputs.{IsOutput}
 use Rattle.mosel_run.specs.Answered.{Disk, source_limit, IsLine, IsReport}
 
@@ -17,7 +17,7 @@ use Rattle.mosel_run.specs.Answered.{Disk, source_limit, IsLine, IsReport}
 abbrev pub PreparesSource : List ℕ → ℕ → List ℕ → Prepared → Type 0
 PreparesSource name lanes source (Report output) = IsOutput name lanes source output
 PreparesSource name lanes source (Line text (Refused line kind)) =
-    IsRefusedAt source line kind × (text ≡ verdict_line name line kind)
+    IsRefusedAt source line kind × IsOnlyRefusal source line kind × (text ≡ verdict_line name line kind)
 PreparesSource name lanes source (Line text status) = ⊥
 
 -- a source was read, and what it prepares

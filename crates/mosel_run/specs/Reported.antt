@@ -18,7 +18,7 @@ use Rattle.bim_code.specs.declared.image.Image.{Image}
 use Rattle.bim_code.specs.Limits.{FitsFields}
 use Rattle.mos_meaning.specs.Syntax.{statements_of}
 use Rattle.mos_meaning.specs.Follows.{Model, FollowsSources}
-use Rattle.mosel_run.specs.Accepted.{IsAccepted}
+use Rattle.mosel_run.specs.Accepted.{IsAccepted, IsOnlyTree}
 use Rattle.mosel_run.specs.Jobs.{opening_on}
 use Rattle.bim_compile.specs.Means.{Means}
 use Rattle.bim_compile.specs.Plain.{IsPlain}
@@ -46,6 +46,7 @@ model_of tree image = Some record { statements = statements_of tree; image = ima
 -- a whole job over one source: the journal follows it, and the image means it
 pub record IsJob (o : Opening) (source : List ℕ) (tree : Tree) (image : Image) (journal : List Entry) (lines : List RunLine) : Type 0 where
   pub accepted : IsAccepted source tree
+  pub only : IsOnlyTree source tree
   pub means : Means (statements_of tree) image
   pub fields : FitsFields image  -- its file can hold it
   pub plain : IsPlain image  -- and does

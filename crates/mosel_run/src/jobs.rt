@@ -11,7 +11,7 @@ ghost use Rattle.mos_meaning.specs.Syntax.{statements_of};
 ghost use Rattle.mos_words.specs.Fit.{IsFit};
 ghost use Rattle.mos_words.specs.Words.{is_source_name};
 ghost use Rattle.mos_words.specs.declared.words.commands.Command.TheVariants.{Run as RunCommand};
-ghost use Rattle.mosel_run.specs.Accepted.{IsAccepted};
+ghost use Rattle.mosel_run.specs.Accepted.{IsAccepted, IsOnlyTree};
 ghost use Rattle.mosel_run.specs.InSize.{IsInSize};
 ghost use Rattle.mosel_run.specs.Jobs.{opening_on};
 ghost use Rattle.mosel_run.specs.Outputs.{IsOutput, IsOwnEnd};
@@ -65,6 +65,7 @@ pub(crate) fn make_output(
     tree: &Tree,
 ) -> Result<Output, NoMemory>
     requires accepted { IsAccepted source.now tree.now }
+    requires only { IsOnlyTree source.now tree.now }
     requires in_size { IsInSize (statements_of tree.now) }
     requires small { length source.now ≤ 1048576 }
     requires fit { IsFit (RunCommand name.now lanes) }
@@ -84,6 +85,7 @@ fn carry_out(
     tree: &Tree,
 ) -> Result<Finished, NoMemory>
     requires accepted { IsAccepted source.now tree.now }
+    requires only { IsOnlyTree source.now tree.now }
     requires in_size { IsInSize (statements_of tree.now) }
     requires small { length source.now ≤ 1048576 }
     requires fit { IsFit (RunCommand name.now lanes) }

@@ -32,7 +32,7 @@ pub returns-clause-job : goal.returns-clause-job
 returns-clause-job c =
     rw (c.in_ok-journal.ensures, c.in_ok-lines.ensures)
     (is_job c.args.name.now c.args.source.now c.args.lanes c.args.tree.now c.in_ok-image.image c.in_ok-ran.ran c.end_by-end.result
-    c.requires.accepted c.requires.fit c.in_ok-image.ensures.means c.in_ok-image.ensures.fields c.in_ok-image.ensures.plain
+    c.requires.accepted c.requires.only c.requires.fit c.in_ok-image.ensures.means c.in_ok-image.ensures.fields c.in_ok-image.ensures.plain
     c.in_ok-ran.ensures.course c.end_by-end.ensures.end)
 
 pub returns-clause-puts : goal.returns-clause-puts
