@@ -24,7 +24,7 @@ use Rattle.mosel_run.specs.Schedule.{schedule_of}
 
 -- the job of hello on one lane
 abbrev pub hello_opening : Opening
-hello_opening = opening_on (codes "hello.mos") (codes "model \"hello\"\nwriteln(\"hello\")\nend-model\n") 1
+hello_opening = opening_on (codes "hello.mos") (codes "model \"hello\"\nwriteln(\"hello\")\nend-model\n") 1 10000000
 
 -- its journal is that of the one-thread schedule
 abbrev pub HelloSchedule : Type 0

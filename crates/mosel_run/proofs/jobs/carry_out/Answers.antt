@@ -26,20 +26,20 @@ run-requires-clause-small c =
 
 pub end_by-end-requires : goal.end_by-end-requires
 end_by-end-requires c =
-    not_stuck (statements_of c.args.tree.now) c.in_ok-image.image c.in_ok-ran.ran c.in_ok-image.ensures.means c.compile.ensures.never_stuck c.in_ok-ran.ensures.course
+    not_stuck c.args.budget (statements_of c.args.tree.now) c.in_ok-image.image c.in_ok-ran.ran c.in_ok-image.ensures.means c.compile.ensures.never_stuck c.in_ok-ran.ensures.course
 
 pub returns-clause-job : goal.returns-clause-job
 returns-clause-job c =
     rw (c.in_ok-journal.ensures, c.in_ok-lines.ensures)
-    (is_job c.args.name.now c.args.source.now c.args.lanes c.args.tree.now c.in_ok-image.image c.in_ok-ran.ran c.end_by-end.result
+    (is_job c.args.name.now c.args.source.now c.args.lanes c.args.budget c.args.tree.now c.in_ok-image.image c.in_ok-ran.ran c.end_by-end.result
     c.requires.accepted c.requires.only c.requires.fit c.in_ok-image.ensures.means c.in_ok-image.ensures.fields c.in_ok-image.ensures.plain
     c.in_ok-ran.ensures.course c.end_by-end.ensures.end)
 
 pub returns-clause-puts : goal.returns-clause-puts
 returns-clause-puts c =
-    ap (λ journal. puts_of (opening_on c.args.name.now c.args.source.now c.args.lanes) journal (model_of c.args.tree.now c.in_ok-image.image ∷ [])) c.in_ok-journal.ensures
-    ∙ puts_are c.args.name.now c.args.source.now c.args.lanes c.args.tree.now c.in_ok-image.image c.end_by-end.result
+    ap (λ journal. puts_of (opening_on c.args.name.now c.args.source.now c.args.lanes c.args.budget) journal (model_of c.args.tree.now c.in_ok-image.image ∷ [])) c.in_ok-journal.ensures
+    ∙ puts_are c.args.name.now c.args.source.now c.args.lanes c.args.budget c.args.tree.now c.in_ok-image.image c.end_by-end.result
 
 pub returns-clause-finish : goal.returns-clause-finish
 returns-clause-finish c =
-    ap (finish_of 0) c.in_ok-journal.ensures ∙ finish_is (opening_on c.args.name.now c.args.source.now c.args.lanes) c.end_by-end.result
+    ap (finish_of 0) c.in_ok-journal.ensures ∙ finish_is (opening_on c.args.name.now c.args.source.now c.args.lanes c.args.budget) c.end_by-end.result
