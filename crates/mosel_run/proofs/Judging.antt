@@ -15,7 +15,7 @@ said : (tree : Tree) (fault : CheckFault) → unbuilt_of tree ≡ None → Says 
 said tree (checked.At line kind) built h = found tree line kind built h
 said tree checked.NoMemory built h = tt
 
-pub judged : {A : Type 0} (tree : Tree) (fault : CheckFault) (result : Result A ReadFault) → unbuilt_of tree ≡ None → Says (check_of tree) fault
-    → IsErrAnd result (λ x. x ≡ of_check fault) → IfErr result (IsJudged tree)
-judged tree fault (Ok x) built h e = tt
-judged tree fault (Err x) built h e = subst (IsJudged tree) (sym e) (said tree fault built h)
+pub judged : {A : Type 0} (tree : Tree) (fault : CheckFault) (result : Result A ReadFault) → Says (check_of tree) fault
+    → IsErrAnd result (λ x. x ≡ of_check fault) → IfErr result (λ x. unbuilt_of tree ≡ None → IsJudged tree x)
+judged tree fault (Ok x) h e = tt
+judged tree fault (Err x) h e = λ built. subst (IsJudged tree) (sym e) (said tree fault built h)

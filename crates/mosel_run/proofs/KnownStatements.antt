@@ -308,5 +308,5 @@ no-heads (head ∷ heads) tops h = absurd (none-there (unbuilt_head head) h)
 -- the model of a sound tree works
 pub sound-works : (tree : Tree) → IsSound tree → IsSmallBlock (statements_of tree) → AllWork (variables_of (statements_of tree)) (statements_of tree)
 sound-works tree sound small =
-    let fares = tops-fare tree.tops [] sound.names (no-heads tree.heads tree.tops sound.built) small sound.known in
+    let fares = tops-fare tree.tops [] sound.checked.names (no-heads tree.heads tree.tops sound.built) small sound.checked.known in
     fares.works (variables_of (statements_of tree)) (λ n h. subst (λ (k : Names). has_name n k ≡ true) fares.named h)

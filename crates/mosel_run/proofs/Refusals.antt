@@ -44,7 +44,7 @@ one-wrong _ _ _ _ _ (found tree line kind none e) (found _ at what also f) = wro
 -- a sound tree is not wrong
 not-wrong : (tree : Tree) (line : ℕ) (kind : Kind) → IsWrongAt tree line kind → IsSound tree → ⊥
 not-wrong _ _ _ (not_built tree line kind e) h = some-none (unbuilt_of tree) (line, kind) e h.built
-not-wrong _ _ _ (found tree line kind none e) h = wrong-knows line kind h.names (check_of tree) e h.known
+not-wrong _ _ _ (found tree line kind none e) h = wrong-knows line kind h.checked.names (check_of tree) e h.checked.known
 
 -- the source has this tree alone, and no fault of tokens or grammar
 pub record HasOnly (source : List ℕ) (tree : Tree) : Type 0 where

@@ -9,15 +9,19 @@ use Rattle.mos_parse.specs.declared.fault.SyntaxFault.TheVariants as syntax
 use Rattle.mos_check.specs.NotBuilt.{unbuilt_of}
 use Rattle.mos_check.specs.Names.{Names, Wrong, Knows, check_of}
 use Rattle.mos_check.specs.declared.names.CheckFault.{CheckFault}
-use Rattle.mos_check.specs.declared.names.CheckFault.TheVariants as checked
+use Rattle.mos_check.specs.declared.names.CheckFault.TheVariants as check
 use Rattle.mosel_run.specs.declared.reader.fault.ReadFault.{ReadFault}
 use Rattle.mosel_run.specs.declared.reader.fault.ReadFault.TheVariants.{At, NoMemory}
 
--- each piece of the tree can be run, each name has a value before it is used, and loops are left inside
-pub record IsSound (tree : Tree) : Type 0 where
-  pub built : unbuilt_of tree ≡ None
+-- each name has a value before it is used, and loops are left and continued inside alone
+pub record IsChecked (tree : Tree) : Type 0 where
   pub names : Names
   pub known : check_of tree ≡ Knows names
+
+-- each piece of the tree can be run, and the tree is checked
+pub record IsSound (tree : Tree) : Type 0 where
+  pub built : unbuilt_of tree ≡ None
+  pub checked : IsChecked tree
 
 -- what is wrong with a tree: a piece that cannot be run, or else what the check finds
 pub data IsWrongAt : Tree → ℕ → Kind → Type 0 where
@@ -72,5 +76,5 @@ of_syntax (syntax.At line kind) = At line kind
 of_syntax syntax.NoMemory = NoMemory
 
 abbrev pub of_check : CheckFault → ReadFault
-of_check (checked.At line kind) = At line kind
-of_check checked.NoMemory = NoMemory
+of_check (check.At line kind) = At line kind
+of_check check.NoMemory = NoMemory

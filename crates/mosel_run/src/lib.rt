@@ -15,8 +15,7 @@ mod schedule;
 mod status;
 mod top;
 
-pub use mos_check::not_built;
 pub use examples::{hello_job, hello_model, refused_jobs, several_puts};
-
+pub use mos_check::not_built;
 pub use status::Status;
 pub use top::tool;

@@ -36,11 +36,13 @@ pub(crate) fn prepare<F: Folder>(
     ensures later { F.faults folder.old ≤ F.faults folder.new }
 {
     match command(alloc, words) {
-        Ok(Command::Run {
-            source,
-            lanes,
-            budget,
-        }) => prepare_file(alloc, source, lanes, budget, folder),
+        Ok(
+            Command::Run {
+                source,
+                lanes,
+                budget,
+            },
+        ) => prepare_file(alloc, source, lanes, budget, folder),
         Err(WordFault::Usage) => Ok(Prepared::Line {
             text: write_usage(alloc)?,
             status: Status::Usage,

@@ -2,11 +2,12 @@
 mod fault;
 mod size;
 
-ghost use Rattle.std.specs.Prelude.{◌≡◌, ◌≤◌, ℕ, length, IfOk, OnOk, IfErr};
+ghost use Rattle.std.specs.Prelude.{◌≡◌, ◌≤◌, ℕ, length, IfOk, OnOk, IfErr, None};
 ghost use Rattle.mos_text.specs.declared.kind.Kind.{Kind as kind_type};
 ghost use Rattle.mos_tree.specs.declared.source.Tree.{Tree as tree_type};
 ghost use Rattle.mos_meaning.specs.Syntax.{statements_of};
-ghost use Rattle.mosel_run.specs.Accepted.{IsAccepted, IsRefusedAt, IsRefusal, IsSound, IsJudged, GivesTree, GivesRefusal};
+ghost use Rattle.mos_check.specs.NotBuilt.{unbuilt_of};
+ghost use Rattle.mosel_run.specs.Accepted.{IsAccepted, IsRefusedAt, IsRefusal, IsSound, IsChecked, IsJudged, GivesTree, GivesRefusal};
 ghost use Rattle.mosel_run.specs.InSize.{IsInSize};
 ghost use Rattle.mosel_run.specs.declared.reader.fault.ReadFault.TheVariants.{At};
 
@@ -45,14 +46,32 @@ fn judge(alloc: Global, tree: &Tree) -> Result<(), ReadFault>
     ensures wrong { IfErr result (IsJudged tree.now) }
     ensures in_size { OnOk result (IsInSize (statements_of tree.now)) }
 {
-    if let Some(verdict) = not_built(alloc, tree)? {
-        return Err(fault_of(verdict));
-    }
-    check(alloc, tree)?;
+    refuse_unbuilt(alloc, tree)?;
+    refuse_unchecked(alloc, tree)?;
     if is_in_size(tree) {
         return Ok(());
     }
     Err(ReadFault::NoMemory)
+}
+
+/// Refuses a tree with a piece of a form that cannot be run.
+fn refuse_unbuilt(alloc: Global, tree: &Tree) -> Result<(), ReadFault>
+    ensures built { OnOk result (unbuilt_of tree.now ≡ None) }
+    ensures wrong { IfErr result (IsJudged tree.now) }
+{
+    match not_built(alloc, tree)? {
+        Some(verdict) => Err(fault_of(verdict)),
+        None => Ok(()),
+    }
+}
+
+/// Refuses a tree, of forms that can be run, in which the check finds a fault.
+fn refuse_unchecked(alloc: Global, tree: &Tree) -> Result<(), ReadFault>
+    ensures known { OnOk result (IsChecked tree.now) }
+    ensures wrong { IfErr result (λ fault. unbuilt_of tree.now ≡ None → IsJudged tree.now fault) }
+{
+    check(alloc, tree)?;
+    Ok(())
 }
 
 fn fault_of(verdict: Verdict) -> ReadFault
@@ -63,3 +82,6 @@ fn fault_of(verdict: Verdict) -> ReadFault
         kind: verdict.kind,
     }
 }
+
+#[cfg(test)]
+mod tests;
