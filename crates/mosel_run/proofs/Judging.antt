@@ -9,7 +9,8 @@ use Rattle.mos_check.specs.Names.{check_of, Says}
 use Rattle.mos_check.specs.declared.names.CheckFault.{CheckFault}
 use Rattle.mos_check.specs.declared.names.CheckFault.TheVariants as checked
 use Rattle.mosel_run.specs.declared.reader.fault.ReadFault.{ReadFault}
-use Rattle.mosel_run.specs.Accepted.{IsJudged, found, of_check}
+use Rattle.mosel_run.specs.Accepted.{found}
+use Rattle.mosel_run.specs.ReadAnswers.{IsJudged, of_check}
 
 said : (tree : Tree) (fault : CheckFault) → unbuilt_of tree ≡ None → Says (check_of tree) fault → IsJudged tree (of_check fault)
 said tree (checked.At line kind) built h = found tree line kind built h

@@ -1,6 +1,6 @@
 -- Expressions of a form that can be run, whose names are known, are sums, conditions or texts.
 
-use Rattle.std.proofs.Common.{◌≡◌, ℕ, Bool, true, false, List, [], ◌∷◌, Option, None, refl, sym, ap, ◌∙◌, subst, map}
+use Rattle.std.proofs.Common.{◌≡◌, ℕ, true, List, Option, None, sym, ap, ◌∙◌, subst}
 use Rattle.mos_tree.specs.declared.expr.BinaryOperator.{BinaryOperator}
 use Rattle.mos_tree.specs.declared.expr.BinaryOperator.TheVariants.{Plus, Minus, Equal, NotEqual, Less, AtMost, Greater, AtLeast}
 use Rattle.mos_tree.specs.declared.expr.Expr.{Expr}
@@ -8,13 +8,13 @@ use Rattle.mos_tree.specs.declared.expr.Expr.TheOpen.{Expr-F, Integer, Text, Tru
 use Rattle.mos_tree.specs.declared.expr.Expr.TheFolds.{map-Expr, fold-roll-Expr, ind-Expr}
 use Rattle.mos_tree.specs.declared.expr.Expr.TheViews.{roll-Expr}
 use Rattle.bim_code.specs.declared.instruction.Comparison.TheVariants as comparison
-use Rattle.mos_meaning.specs.Syntax.{plus, minus, compare, Expression, number, text, truth, name, apply, unbuilt, Arguments, nothing, one_more, operator_of, operation, expression, expression_step, arguments}
+use Rattle.mos_meaning.specs.Syntax.{plus, minus, compare, Expression, number, text, truth, name, apply, unbuilt, operator_of, operation, expression, expression_step}
 use Rattle.mos_check.specs.declared.form.Form.{Form}
 use Rattle.mos_check.specs.declared.form.Form.TheVariants as form
 use Rattle.mos_check.specs.Forms.{of_sums, form_of_binary, form_step, form_of, is_sum, is_condition, is_shown}
 use Rattle.mos_check.specs.Names.{Names, unknown_step, unknown_in}
-use Rattle.bim_compile.specs.Working.{IsNumeric, IsShown, IsCondition, AreShown}
-use Rattle.mosel_run.specs.InSize.{IsSmall, AreSmall}
+use Rattle.bim_compile.specs.Working.{IsNumeric, IsShown, IsCondition}
+use Rattle.mosel_run.specs.InSize.{IsSmall}
 use Rattle.mosel_run.proofs.KnownNames.{Within, none-both, known-is}
 
 abbrev IsText : Expression → Type 0

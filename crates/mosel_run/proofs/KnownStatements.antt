@@ -19,11 +19,11 @@ use Rattle.mos_tree.specs.declared.source.Top.{Top}
 use Rattle.mos_tree.specs.declared.source.Top.TheVariants as top
 use Rattle.mos_tree.specs.declared.source.Head.{Head}
 use Rattle.mos_tree.specs.declared.source.Tree.{Tree}
-use Rattle.mos_meaning.specs.Syntax.{Expression, Arguments, nothing, one_more, Effect, assign, change, write, choose, loop, group, leave, skip, unbuilt_effect, Branches, Block, done, first, Change, increase, decrease, expression, arguments, procedure, assignment, block, branches, effect_step, effect, in_arm, top_effect, statements_of, names_after, names_in_branches, names_from, variables_of, with_name, has_name}
-use Rattle.mos_check.specs.Forms.{form_of, is_sum, is_condition, is_shown}
-use Rattle.mos_check.specs.NotBuilt.{unless, or_later, first_of, is_variable, is_write, shows_one, unbuilt_arm, unbuilt_step, unbuilt_in, unbuilt_in_top, at_syntax, unbuilt_head, unbuilt_behind, unbuilt_of}
-use Rattle.mos_check.specs.Names.{Names, Found, Wrong, Knows, and_then, or_other, unless_known, unknown_in, unknown_in_all, unknown_target, with_target, uses, Checks, check_all, check_arms, in_loop, check_step, check_statement, check_top, check_tops}
-use Rattle.bim_compile.specs.Working.{IsNumeric, IsShown, IsCondition, AreShown, Works, BranchesWork, AllWork}
+use Rattle.mos_meaning.specs.Syntax.{Arguments, Effect, assign, change, write, leave, skip, unbuilt_effect, Branches, Block, done, Change, increase, decrease, expression, arguments, procedure, assignment, block, branches, effect_step, effect, in_arm, top_effect, statements_of, names_after, names_in_branches, names_from, variables_of, with_name, has_name}
+use Rattle.mos_check.specs.Forms.{form_of, is_sum, is_condition}
+use Rattle.mos_check.specs.NotBuilt.{unless, or_later, first_of, is_variable, is_write, shows_one, unbuilt_arm, unbuilt_step, unbuilt_in, unbuilt_in_top, at_syntax, unbuilt_head, unbuilt_behind}
+use Rattle.mos_check.specs.Names.{Names, Found, Wrong, Knows, and_then, or_other, unless_known, unknown_in, unknown_in_all, unknown_target, with_target, uses, Checks, check_all, check_arms, in_loop, check_step, check_statement, check_tops}
+use Rattle.bim_compile.specs.Working.{IsCondition, AreShown, Works, BranchesWork, AllWork}
 use Rattle.mosel_run.specs.Accepted.{IsSound}
 use Rattle.mosel_run.specs.InSize.{IsSmall, AreSmall, IsSmallEffect, AreSmallBranches, IsSmallBlock}
 use Rattle.mosel_run.proofs.KnownNames.{Within, with_name-keeps, with_name-has, none-both, known-is}

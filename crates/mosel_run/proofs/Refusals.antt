@@ -1,6 +1,6 @@
 -- A source has one tree that is sound, or one fault.
 
-use Rattle.std.proofs.Common.{◌≡◌, ℕ, List, Option, Some, None, Result, Ok, Err, refl, sym, ap, ◌∙◌, subst}
+use Rattle.std.proofs.Common.{◌≡◌, ℕ, List, Option, Some, None, Result, Ok, Err, sym, ap, ◌∙◌, subst}
 use Rattle.std.specs.Prelude.{IfErr}
 use Rattle.std.specs.Result.{IsErrAnd}
 use Rattle.mos_text.specs.declared.kind.Kind.{Kind}
@@ -13,7 +13,8 @@ use Rattle.mos_check.specs.NotBuilt.{unbuilt_of}
 use Rattle.mos_check.specs.Names.{Names, Found, Wrong, Knows, check_of}
 use Rattle.mosel_run.specs.declared.reader.fault.ReadFault.{ReadFault}
 use Rattle.mosel_run.specs.declared.reader.fault.ReadFault.TheVariants.{At, NoMemory}
-use Rattle.mosel_run.specs.Accepted.{IsSound, IsWrongAt, not_built, found, IsAccepted, IsRefusedAt, unparsed, wrong, IsRefusal, IsJudged, GivesTree, GivesRefusal, of_syntax}
+use Rattle.mosel_run.specs.Accepted.{IsSound, IsWrongAt, not_built, found, IsAccepted, IsRefusedAt, unparsed, wrong}
+use Rattle.mosel_run.specs.ReadAnswers.{IsRefusal, IsJudged, GivesTree, GivesRefusal, of_syntax}
 
 abbrev Same : ℕ → Kind → ℕ → Kind → Type 0
 Same line kind at what = (line ≡ at) × (kind ≡ what)

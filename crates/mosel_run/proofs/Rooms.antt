@@ -6,7 +6,7 @@ use Rattle.mos_tree.specs.declared.statement.Assignment.{Assignment}
 use Rattle.mos_tree.specs.declared.statement.Assignment.TheVariants as op
 use Rattle.mos_tree.specs.declared.statement.Reference.{Reference}
 use Rattle.mos_tree.specs.declared.statement.Reference.TheVariants as target
-use Rattle.mos_meaning.specs.Syntax.{Operator, Expression, operation, Arguments, Effect, write, unbuilt_effect, procedure, assignment}
+use Rattle.mos_meaning.specs.Syntax.{Operator, Expression, operation, Arguments, write, unbuilt_effect, procedure, assignment}
 use Rattle.bim_compile.specs.Sizes.{size_of, size_of_all, size_of_effect}
 use Rattle.mosel_run.specs.InSize.{IsSmall, AreSmall, IsSmallEffect}
 

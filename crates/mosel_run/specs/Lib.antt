@@ -5,6 +5,7 @@ pub mod Puts
 pub mod Reported
 pub mod Running
 pub mod Accepted
+pub mod ReadAnswers
 pub mod InSize
 pub mod Jobs
 pub mod Statuses

@@ -7,7 +7,8 @@ ghost use Rattle.mos_text.specs.declared.kind.Kind.{Kind as kind_type};
 ghost use Rattle.mos_tree.specs.declared.source.Tree.{Tree as tree_type};
 ghost use Rattle.mos_meaning.specs.Syntax.{statements_of};
 ghost use Rattle.mos_check.specs.NotBuilt.{unbuilt_of};
-ghost use Rattle.mosel_run.specs.Accepted.{IsAccepted, IsRefusedAt, IsRefusal, IsSound, IsChecked, IsJudged, GivesTree, GivesRefusal};
+ghost use Rattle.mosel_run.specs.Accepted.{IsAccepted, IsRefusedAt, IsSound, IsChecked};
+ghost use Rattle.mosel_run.specs.ReadAnswers.{IsRefusal, IsJudged, GivesTree, GivesRefusal};
 ghost use Rattle.mosel_run.specs.InSize.{IsInSize};
 ghost use Rattle.mosel_run.specs.declared.reader.fault.ReadFault.TheVariants.{At};
 

@@ -23,7 +23,7 @@ impl From<NoMemory> for ReadFault {
 
 impl From<SyntaxFault> for ReadFault {
     ghost use Rattle.std.specs.Prelude.{◌≡◌};
-    ghost use Rattle.mosel_run.specs.Accepted.{of_syntax};
+    ghost use Rattle.mosel_run.specs.ReadAnswers.{of_syntax};
 
     ghost from_gives = { λ found fault. fault ≡ of_syntax found };
 
@@ -37,7 +37,7 @@ impl From<SyntaxFault> for ReadFault {
 
 impl From<CheckFault> for ReadFault {
     ghost use Rattle.std.specs.Prelude.{◌≡◌};
-    ghost use Rattle.mosel_run.specs.Accepted.{of_check};
+    ghost use Rattle.mosel_run.specs.ReadAnswers.{of_check};
 
     ghost from_gives = { λ found fault. fault ≡ of_check found };
 

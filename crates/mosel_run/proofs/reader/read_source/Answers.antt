@@ -3,7 +3,8 @@ use Rattle.std.specs.Prelude.{ℕ, Result, IfErr}
 use Rattle.mos_text.specs.declared.kind.Kind.{Kind}
 use Rattle.mos_tree.specs.declared.source.Tree.{Tree}
 use Rattle.mosel_run.specs.declared.reader.fault.ReadFault.{ReadFault}
-use Rattle.mosel_run.specs.Accepted.{IsAccepted, IsRefusedAt, IsRefusal, GivesTree, GivesRefusal}
+use Rattle.mosel_run.specs.Accepted.{IsAccepted, IsRefusedAt}
+use Rattle.mosel_run.specs.ReadAnswers.{IsRefusal, GivesTree, GivesRefusal}
 use Rattle.mosel_run.proofs.Refusals.{HasOnly, syntax-refusal, judged-refusal, judged-only_tree, judged-only_refusal, sound-only_refusal, handed-on}
 use Rattle.mosel_run.proofs.reader.read_source.Goals as goal
 

@@ -1,6 +1,7 @@
 -- the piece that is found is wrong
 use Rattle.std.proofs.Common.{sym, subst}
-use Rattle.mosel_run.specs.Accepted.{IsJudged, not_built}
+use Rattle.mosel_run.specs.Accepted.{not_built}
+use Rattle.mosel_run.specs.ReadAnswers.{IsJudged}
 use Rattle.mosel_run.proofs.reader.refuse_unbuilt.Goals as goal
 
 pub returns-in-Some-clause-wrong : goal.returns-in-Some-clause-wrong

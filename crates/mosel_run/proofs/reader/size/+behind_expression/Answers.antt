@@ -1,5 +1,5 @@
 -- an operator that is not built takes no more room than its operands
-use Rattle.std.proofs.Common.{◌≡◌, ◌≤◌, ◌+◌, ◌∙◌, ap, sym, arith}
+use Rattle.std.proofs.Common.{◌≡◌, ◌∙◌, ap, arith}
 use Rattle.std.proofs.lemmas.Option.{IfSome_then}
 use Rattle.mos_meaning.specs.Syntax.{expression, operation, operator_of}
 use Rattle.bim_compile.specs.Sizes.{size_of}
