@@ -10,7 +10,8 @@ use Rattle.std.specs.Str.{bytes_eq}
 use Rattle.mos_text.specs.FileName.{is_file_name}
 use Rattle.mos_words.specs.declared.words.commands.Command.{Command}
 use Rattle.mos_words.specs.declared.words.commands.Command.TheVariants.{Run}
-use Rattle.mos_words.specs.declared.words.options.OptionName.TheVariants.{Lanes}
+use Rattle.mos_words.specs.declared.words.options.OptionName.{OptionName}
+use Rattle.mos_words.specs.declared.words.options.OptionName.TheVariants.{Lanes, Budget}
 use Rattle.mos_words.specs.Words.{Word, row_of, run_options, values, is_number, number_of, is_value, setting_of, files, is_source_name, breaks_words, breaks_options, breaks_files, run_command, command_of}
 use Rattle.mos_words.specs.Fit.{IsFit}
 
@@ -47,23 +48,31 @@ one_file named h =
     let n = neither (not (list_all is_file_name named)) (not (length named == 1)) m.0 in
     picked named (holds (list_all is_file_name named) n.0) (eqb-true (length named) 1 (holds (length named == 1) n.1)) (holds (list_all is_source_name named) m.1)
 
--- 1 to 64 lanes
-some_lanes : (given : List Word) → list_all (is_value Lanes) given ≡ true → (1 ≤ setting_of Lanes given) × (setting_of Lanes given ≤ 64)
+-- a setting that the table allows, where the usual one is
+in_table : (option : OptionName) (given : List Word) → list_all (is_value option) given ≡ true
+    → (row_of option).least ≤ (row_of option).usual → (row_of option).usual ≤ (row_of option).most
+    → ((row_of option).least ≤ setting_of option given) × (setting_of option given ≤ (row_of option).most)
 unfolding is_value setting_of
-some_lanes [] h = (omega arith, omega arith)
-some_lanes (v ∷ vs) h =
-    let value = (both (is_value Lanes v) (list_all (is_value Lanes) vs) h).0 in
-    let parts = both (is_number v && nat_le 1 (number_of v)) (nat_le (number_of v) 64) value in
+in_table option [] h low high = (low, high)
+in_table option (v ∷ vs) h low high =
+    let row = row_of option in
+    let value = (both (is_value option v) (list_all (is_value option) vs) h).0 in
+    let parts = both (is_number v && nat_le row.least (number_of v)) (nat_le (number_of v) row.most) value in
     let some : (length (v ∷ vs) == 0) ≡ false = ne_eqb (length (v ∷ vs)) 0 (λ e. absurd (omega arith)) in
-    let is : setting_of Lanes (v ∷ vs) ≡ number_of v = ap (λ b. if b then 16 else number_of v) some in (
-      subst (λ (n : ℕ). 1 ≤ n) (sym is) (at_most 1 (number_of v) (both (is_number v) (nat_le 1 (number_of v)) parts.0).1),
-      subst (λ (n : ℕ). n ≤ 64) (sym is) (at_most (number_of v) 64 parts.1),
+    let is : setting_of option (v ∷ vs) ≡ number_of v = ap (λ b. if b then row.usual else number_of v) some in (
+      subst (λ (n : ℕ). row.least ≤ n) (sym is) (at_most row.least (number_of v) (both (is_number v) (nat_le row.least (number_of v)) parts.0).1),
+      subst (λ (n : ℕ). n ≤ row.most) (sym is) (at_most (number_of v) row.most parts.1),
     )
 
-lanes_given : (arguments : List Word) → breaks_options run_options arguments ≡ false → list_all (is_value Lanes) (values Lanes arguments) ≡ true
+abbrev IsGiven : OptionName → List Word → Type 0
+IsGiven option arguments = list_all (is_value option) (values option arguments) ≡ true
+
+all_given : (arguments : List Word) → breaks_options run_options arguments ≡ false → IsGiven Lanes arguments × IsGiven Budget arguments
 unfolding breaks_options
-lanes_given arguments h =
-    holds _ (neither (not (list_all (is_value Lanes) (values Lanes arguments))) false (neither _ _ h).1).0
+all_given arguments h =
+    let lanes = neither (not (list_all (is_value Lanes) (values Lanes arguments))) _ (neither _ _ h).1 in
+    let budget = neither (not (list_all (is_value Budget) (values Budget arguments))) false lanes.1 in
+    (holds _ lanes.0, holds _ budget.0)
 
 run_fits : (arguments : List Word) (command : Command) → run_command arguments ≡ Some command → IsFit command
 unfolding run_command
@@ -72,8 +81,10 @@ run_fits arguments command h =
     let outer = neither (breaks_words arguments || breaks_options run_options arguments) (breaks_files (files arguments)) c.0 in
     let inner = neither (breaks_words arguments) (breaks_options run_options arguments) outer.0 in
     let named = one_file (files arguments) outer.1 in
-    let lanes = some_lanes (values Lanes arguments) (lanes_given arguments inner.1) in
-    subst IsFit c.1 (named.0, named.1, lanes.0, lanes.1)
+    let given = all_given arguments inner.1 in
+    let lanes = in_table Lanes (values Lanes arguments) given.0 (omega arith) (omega arith) in
+    let budget = in_table Budget (values Budget arguments) given.1 (omega arith) (omega arith) in
+    subst IsFit c.1 (named.0, named.1, lanes.0, lanes.1, budget.0, budget.1)
 
 pub all_fit : (arguments : List Word) (read : Result Command WordFault) → IfOk read (λ command. run_command arguments ≡ Some command) → IfOk read IsFit
 all_fit arguments (Ok command) h = run_fits arguments command h

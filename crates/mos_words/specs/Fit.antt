@@ -6,7 +6,7 @@ use Rattle.mos_words.specs.declared.words.commands.Command.{Command}
 use Rattle.mos_words.specs.declared.words.commands.Command.TheVariants.{Run}
 use Rattle.mos_words.specs.Words.{is_source_name}
 
--- the source has the name of a source, and there are 1 to 64 lanes
+-- the source has the name of a source, and there are 1 to 64 lanes and 1 to 1,000,000,000 ticks
 abbrev pub IsFit : Command → Type 0
-IsFit (Run source lanes) =
-    (is_file_name source ≡ true) × (is_source_name source ≡ true) × (1 ≤ lanes) × (lanes ≤ 64)
+IsFit (Run source lanes budget) =
+    (is_file_name source ≡ true) × (is_source_name source ≡ true) × (1 ≤ lanes) × (lanes ≤ 64) × (1 ≤ budget) × (budget ≤ 1000000000)

@@ -5,7 +5,7 @@ use Rattle.mos_text.specs.FileName.{is_digit, is_file_name}
 use Rattle.mos_words.specs.declared.words.commands.Command.{Command}
 use Rattle.mos_words.specs.declared.words.commands.Command.TheVariants.{Run}
 use Rattle.mos_words.specs.declared.words.options.OptionName.{OptionName}
-use Rattle.mos_words.specs.declared.words.options.OptionName.TheVariants.{Lanes}
+use Rattle.mos_words.specs.declared.words.options.OptionName.TheVariants.{Lanes, Budget}
 
 -- a word, as the list of its bytes
 abbrev pub Word : Type 0
@@ -21,10 +21,11 @@ pub record OptionRow : Type 0 where
 -- the table of the options that take a number
 abbrev pub row_of : OptionName → OptionRow
 row_of Lanes = record { name = codes "lanes"; least = 1; most = 64; usual = 16 }
+row_of Budget = record { name = codes "budget"; least = 1; most = 1000000000; usual = 10000000 }
 
 -- the options of the command `run`
 abbrev pub run_options : List OptionName
-run_options = Lanes ∷ []
+run_options = Lanes ∷ Budget ∷ []
 
 abbrev pub begins_with_dash : Word → Bool
 begins_with_dash word = slice_index word 0 == 45
@@ -131,7 +132,7 @@ unfoldable pub run_command : List Word → Option Command
 run_command arguments =
     if breaks_words arguments || breaks_options run_options arguments || breaks_files (files arguments)
     then None
-    else Some (Run (slice_index_or (files arguments) 0 []) (setting_of Lanes (values Lanes arguments)))
+    else Some (Run (slice_index_or (files arguments) 0 []) (setting_of Lanes (values Lanes arguments)) (setting_of Budget (values Budget arguments)))
 
 -- the command of a list of words: the first is the program's name, the second has to be a command's
 unfoldable pub command_of : List Word → Option Command

@@ -11,7 +11,7 @@ ghost use Rattle.std.specs.Prelude.{◌≡◌, false, not, nat_lt, length, IfOk,
 ghost use Rattle.std.specs.List.{list_any, list_all};
 ghost use Rattle.mos_words.specs.Fit.{IsFit};
 ghost use Rattle.mos_words.specs.Words.{command_of, run_command, is_misshapen, has_empty_value, is_unknown, is_value, breaks_words, breaks_options, run_options, values, setting_of};
-ghost use Rattle.mos_words.specs.declared.words.options.OptionName.TheVariants.{Lanes};
+ghost use Rattle.mos_words.specs.declared.words.options.OptionName.TheVariants.{Lanes, Budget};
 ghost use Rattle.mos_words.specs.declared.words.commands.WordFault.TheVariants.{Usage};
 
 pub use commands::{Command, WordFault};
@@ -22,7 +22,7 @@ use shape::{has_empty_value, is_misshapen};
 use std::alloc::Global;
 
 /// The options of `run`.
-const RUN_OPTIONS: [OptionName; 1] = [OptionName::Lanes];
+const RUN_OPTIONS: [OptionName; 2] = [OptionName::Lanes, OptionName::Budget];
 
 /// The command that the words ask for. The first word is the program's name and is not looked at;
 /// the second is the command, `run`; the others are files and options in any mixture.
@@ -51,8 +51,11 @@ fn run_command(alloc: Global, arguments: &[Text]) -> Result<Command, WordFault>
     let Some(source) = only_source(files(alloc, arguments)?) else {
         return Err(WordFault::Usage);
     };
-    let lanes = lanes(arguments);
-    Ok(Command::Run { source, lanes })
+    Ok(Command::Run {
+        source,
+        lanes: lanes(arguments),
+        budget: budget(arguments),
+    })
 }
 
 #[tactic(auto, unfolding(crate::specs::Words::breaks_words))]
@@ -117,6 +120,14 @@ fn lanes(arguments: &[Text]) -> u32
     setting(OptionName::Lanes, arguments)
 }
 
+#[tactic(auto, unfolding(crate::specs::Words::breaks_options))]
+fn budget(arguments: &[Text]) -> u32
+    requires { breaks_options run_options arguments.now ≡ false }
+    ensures { result ≡ setting_of Budget (values Budget arguments.now) }
+{
+    setting(OptionName::Budget, arguments)
+}
+
 #[cfg(test)]
 mod tests {
     use super::*;
@@ -137,16 +148,18 @@ mod tests {
         command(alloc, &words)
     }
 
-    fn check_run(rt: &impl Abort, alloc: Global, line: &str, lanes: u32) {
+    fn check_run(rt: &impl Abort, alloc: Global, line: &str, lanes: u32, budget: u32) {
         match command_of_line(alloc, line) {
             Ok(
                 Command::Run {
                     source,
                     lanes: found,
+                    budget: ticks,
                 },
             ) => {
                 assert_eq!(rt; source.as_str(), "a.mos", "{line}");
                 assert_eq!(rt; found, lanes, "{line}");
+                assert_eq!(rt; ticks, budget, "{line}");
             }
             Err(_) => assert!(rt; false, "{line}"),
         }
@@ -164,7 +177,19 @@ mod tests {
             ("mosel run a.mos --lanes=0000000064", 64),
             ("mosel run a.mos --lanes 01", 1),
         ] {
-            check_run(&rt, rt.alloc(), line, lanes);
+            check_run(&rt, rt.alloc(), line, lanes, 10_000_000);
+        }
+    }
+
+    #[test]
+    fn budgets(rt: HostRuntime) {
+        for (line, budget) in [
+            ("mosel run a.mos --budget 1", 1),
+            ("mosel run --budget=1000000000 a.mos", 1_000_000_000),
+            ("mosel run --budget 0000000007 a.mos", 7),
+            ("mosel run --lanes 16 --budget 5 a.mos", 5),
+        ] {
+            check_run(&rt, rt.alloc(), line, 16, budget);
         }
     }
 
@@ -203,7 +228,10 @@ mod tests {
             "mosel run a.mos --lane 1",
             "mosel run a.mos --lanesx=1",
             "mosel run a.mos --help",
-            "mosel run a.mos --budget 5",
+            "mosel run a.mos --budget",
+            "mosel run a.mos --budget 0",
+            "mosel run a.mos --budget 1000000001",
+            "mosel run a.mos --budget 5 --budget=5",
             "mosel run a.mos --=1",
         ] {
             let answer = command_of_line(rt.alloc(), line);

@@ -21,6 +21,7 @@ reports : (words : List (List ℕ)) (before after : Disk) (paper paper_after : P
 reports words before after paper paper_after output ended stored r written e s = record {
   name = r.name;
   lanes = r.lanes;
+  budget = r.budget;
   runs = r.runs;
   reported = record {
     source = r.source;

@@ -15,7 +15,7 @@ use Rattle.mos_words.specs.declared.words.commands.Command.TheVariants.{Run}
 use Rattle.mosel_run.specs.declared.jobs.Output.{Output}
 use Rattle.mosel_run.specs.declared.status.Status.{Status}
 use Rattle.mosel_run.specs.declared.status.Status.TheVariants.{Done, Usage, Refused, Missing, TooLarge, FolderFault, SinkFault, MasterFailed, MasterSpent, NoMemory}
-use Rattle.mosel_run.specs.Accepted.{IsRefusedAt}
+use Rattle.mosel_run.specs.Accepted.{IsRefusedAt, IsOnlyRefusal}
 use Rattle.mosel_run.specs.Outputs.{IsOutput}
 use Rattle.mosel_run.specs.Puts.{Put}
 use Rattle.mosel_run.specs.Reported.{HasReported, EndedWell, EndedBadly, EndedSpent, EndedSomehow, AllPut, PutUpTo}
@@ -34,24 +34,27 @@ pub record Paper : Type 0 where
 abbrev pub source_limit : ℕ
 source_limit = 1048576
 
--- the words run this source on so many lanes
-abbrev pub Runs : List (List ℕ) → List ℕ → ℕ → Type 0
-Runs words name lanes = command_of words ≡ Some (Run name lanes)
+-- the words run this source on so many lanes, for so many ticks
+abbrev pub Runs : List (List ℕ) → List ℕ → ℕ → ℕ → Type 0
+Runs words name lanes budget = command_of words ≡ Some (Run name lanes budget)
 
 -- a source of the command is not accepted at this line
 pub record IsRefused (words : List (List ℕ)) (content : Option Files) (line : ℕ) (kind : Kind) (text : List ℕ) : Type 0 where
   pub name : List ℕ
   pub lanes : ℕ
+  pub budget : ℕ
   pub source : List ℕ
-  pub runs : Runs words name lanes
+  pub runs : Runs words name lanes budget
   pub source_is : Answers (known_of content name) source_limit (Bytes source)
   pub refused : IsRefusedAt source line kind
+  pub only : IsOnlyRefusal source line kind
   pub text_is : text ≡ verdict_line name line kind
 
 -- the command runs this name, whose file cannot be had: the folder answers so
 pub record IsUnread (words : List (List ℕ)) (name text line : List ℕ) : Type 0 where
   pub lanes : ℕ
-  pub runs : Runs words name lanes
+  pub budget : ℕ
+  pub runs : Runs words name lanes budget
   pub text_is : text ≡ line
 
 -- the line that is written in place of all else, with its status
@@ -70,10 +73,11 @@ IsLine words before after text status = ⊥
 pub record IsReport (words : List (List ℕ)) (content : Option Files) (output : Output) : Type 0 where
   pub name : List ℕ
   pub lanes : ℕ
+  pub budget : ℕ
   pub source : List ℕ
-  pub runs : Runs words name lanes
+  pub runs : Runs words name lanes budget
   pub source_is : Answers (known_of content name) source_limit (Bytes source)
-  pub is : IsOutput name lanes source output
+  pub is : IsOutput name lanes budget source output
 
 -- the text that the command is to write
 pub data IsText (words : List (List ℕ)) (before after : Disk) : List ℕ → Type 0 where
@@ -97,8 +101,9 @@ pub record WrotePart (words : List (List ℕ)) (before after : Disk) (paper pape
 pub record Reports (words : List (List ℕ)) (before after : Disk) (paper paper_after : Paper) (ended : Option End → Type 0) (stored : List Put → Type 0) : Type 0 where
   pub name : List ℕ
   pub lanes : ℕ
-  pub runs : Runs words name lanes
-  pub reported : HasReported name lanes before.content paper.bytes paper_after.bytes ended stored
+  pub budget : ℕ
+  pub runs : Runs words name lanes budget
+  pub reported : HasReported name lanes budget before.content paper.bytes paper_after.bytes ended stored
 
 -- memory was wanting before all was written, or before all was put; of the one name that was to be put
 -- then nothing is claimed

@@ -35,20 +35,20 @@ ExactUsage words status = command_of words ≡ None → Only Usage status
 
 -- the file is not there
 abbrev pub ExactMissing : List (List ℕ) → Option Files → Status → Type 0
-ExactMissing words content status = (name : List ℕ) (lanes : ℕ) → Runs words name lanes
+ExactMissing words content status = (name : List ℕ) (lanes budget : ℕ) → Runs words name lanes budget
     → known_of content name ≡ Absent → Only (Missing name) status
 
 -- the file is too long
 abbrev pub ExactTooLarge : List (List ℕ) → Option Files → Status → Type 0
-ExactTooLarge words content status = (name : List ℕ) (lanes : ℕ) (bytes : List ℕ) → Runs words name lanes
+ExactTooLarge words content status = (name : List ℕ) (lanes budget : ℕ) (bytes : List ℕ) → Runs words name lanes budget
     → known_of content name ≡ Holds bytes → source_limit < length bytes → Only (TooLarge name) status
 
 -- the file is there and in size, and refused
 abbrev pub ExactRefused : List (List ℕ) → Option Files → Status → Type 0
-ExactRefused words content status = (name : List ℕ) (lanes : ℕ) (source : List ℕ) (line : ℕ) (kind : Kind) → Runs words name lanes
+ExactRefused words content status = (name : List ℕ) (lanes budget : ℕ) (source : List ℕ) (line : ℕ) (kind : Kind) → Runs words name lanes budget
     → known_of content name ≡ Holds source → length source ≤ source_limit → IsRefusedAt source line kind → Only (Refused line kind) status
 
 -- the file is there, in size and accepted
 abbrev pub ExactReport : List (List ℕ) → Option Files → Status → Type 0
-ExactReport words content status = (name : List ℕ) (lanes : ℕ) (source : List ℕ) (tree : Tree) → Runs words name lanes
+ExactReport words content status = (name : List ℕ) (lanes budget : ℕ) (source : List ℕ) (tree : Tree) → Runs words name lanes budget
     → known_of content name ≡ Holds source → length source ≤ source_limit → IsAccepted source tree → IsReported status ⊎ Hides status

@@ -12,7 +12,11 @@ use Rattle.job_calls.specs.ReportExamples.{hello_entries, hello_file, entry}
 use Rattle.bim_code.specs.Tables.{image_bytes}
 use Rattle.mos_meaning.specs.Examples.{hello, hello_image}
 use Rattle.mos_meaning.specs.Syntax.{statements_of}
-use Rattle.mosel_run.specs.FirstFormLaws.{hello_tree}
+use Rattle.mos_tree.specs.declared.expr.Expr.TheVariants as expr
+use Rattle.mos_tree.specs.declared.statement.Statement.TheVariants as statement
+use Rattle.mos_tree.specs.declared.source.ModelName.TheVariants.{Quoted}
+use Rattle.mos_tree.specs.declared.source.Top.TheVariants as top
+use Rattle.mos_tree.specs.declared.source.Tree.{Tree}
 use Rattle.mosel_run.specs.Jobs.{opening_on}
 use Rattle.mosel_run.specs.Puts.{Put, puts_of}
 use Rattle.mosel_run.specs.Reported.{IsWhole, AllPut}
@@ -20,7 +24,7 @@ use Rattle.mosel_run.specs.Schedule.{schedule_of}
 
 -- the job of hello on one lane
 abbrev pub hello_opening : Opening
-hello_opening = opening_on (codes "hello.mos") (codes "model \"hello\"\nwriteln(\"hello\")\nend-model\n") 1
+hello_opening = opening_on (codes "hello.mos") (codes "model \"hello\"\nwriteln(\"hello\")\nend-model\n") 1 10000000
 
 -- its journal is that of the one-thread schedule
 abbrev pub HelloSchedule : Type 0
@@ -39,6 +43,15 @@ HelloBytes = image_bytes hello_image ≡
     ∷ 0 ∷ 0 ∷ 0 ∷ 0 ∷ 0 ∷ 0 ∷ 0 ∷ 0 ∷ 0 ∷ 0 ∷ 0 ∷ 0 ∷ 0 ∷ 0
     ∷ 0 ∷ 0 ∷ 0 ∷ 20 ∷ 1 ∷ 5 ∷ 0 ∷ 0 ∷ 0 ∷ 0 ∷ 0x1a ∷ 0x43 ∷ 4 ∷ 0 ∷ 0 ∷ 0 ∷ 1 ∷ 0x44
     ∷ 3 ∷ 0 ∷ 0 ∷ 0 ∷ 0 ∷ 0x45 ∷ []
+
+-- its tree
+abbrev pub hello_tree : Tree
+hello_tree = record {
+  line = 1;
+  name = Quoted (codes "hello");
+  heads = [];
+  tops = top.Statement (statement.Call 2 (codes "writeln") (expr.Text (codes "hello") ∷ [])) ∷ [];
+}
 
 -- the statements of its tree
 abbrev pub HelloStatements : Type 0

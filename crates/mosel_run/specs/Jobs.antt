@@ -16,13 +16,9 @@ opening_with lanes budget file = record { lanes = lanes; budget = budget; params
 abbrev pub listed : List ℕ → List ℕ → Listed
 listed name source = record { name = name; bytes = source; code = 0 }
 
--- the ticks that a run may take
-abbrev pub usual_budget : ℕ
-usual_budget = 10000000
-
--- the job of the command `run` on an accepted source
-abbrev pub opening_on : List ℕ → List ℕ → ℕ → Opening
-opening_on name source lanes = opening_with lanes usual_budget (listed name source)
+-- the job of the command `run` on an accepted source, on so many lanes and for so many ticks
+abbrev pub opening_on : List ℕ → List ℕ → ℕ → ℕ → Opening
+opening_on name source lanes budget = opening_with lanes budget (listed name source)
 
 -- what a report says of a run that ended so
 abbrev pub line_of : List ℕ → End → Ran → RunLine

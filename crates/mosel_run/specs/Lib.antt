@@ -4,13 +4,9 @@ pub mod Schedule
 pub mod Puts
 pub mod Reported
 pub mod Running
-pub mod FirstForm
-pub mod FirstFormLaws
 pub mod Accepted
-pub mod FirstReading
-pub mod Sums
-pub mod UnknownNames
-pub mod Chains
+pub mod ReadAnswers
+pub mod InSize
 pub mod Jobs
 pub mod Statuses
 pub mod Outputs

@@ -22,14 +22,14 @@ IsOwnEnd end.Spent = Unit {0}
 IsOwnEnd _ = ⊥
 
 -- the output is that of a whole job on this source
-pub record IsOutput (name : List ℕ) (lanes : ℕ) (source : List ℕ) (output : Output) : Type 0 where
+pub record IsOutput (name : List ℕ) (lanes budget : ℕ) (source : List ℕ) (output : Output) : Type 0 where
   pub tree : Tree
   pub image : Image
   pub journal : List Entry
   pub lines : List RunLine
-  pub job : IsJob (opening_on name source lanes) source tree image journal lines
+  pub job : IsJob (opening_on name source lanes budget) source tree image journal lines
   pub report : output.report ≡ report_text journal lines
-  pub puts : puts_of (opening_on name source lanes) journal (model_of tree image ∷ [])
+  pub puts : puts_of (opening_on name source lanes budget) journal (model_of tree image ∷ [])
       ≡ record { name = output.image_name; bytes = output.image } ∷ []
   pub finish : finish_of 0 journal ≡ Some output.end
   pub own : IsOwnEnd output.end

@@ -18,7 +18,7 @@ use Rattle.bim_code.specs.declared.image.Image.{Image}
 use Rattle.bim_code.specs.Limits.{FitsFields}
 use Rattle.mos_meaning.specs.Syntax.{statements_of}
 use Rattle.mos_meaning.specs.Follows.{Model, FollowsSources}
-use Rattle.mosel_run.specs.Accepted.{IsAccepted}
+use Rattle.mosel_run.specs.Accepted.{IsAccepted, IsOnlyTree}
 use Rattle.mosel_run.specs.Jobs.{opening_on}
 use Rattle.bim_compile.specs.Means.{Means}
 use Rattle.bim_compile.specs.Plain.{IsPlain}
@@ -46,6 +46,7 @@ model_of tree image = Some record { statements = statements_of tree; image = ima
 -- a whole job over one source: the journal follows it, and the image means it
 pub record IsJob (o : Opening) (source : List ℕ) (tree : Tree) (image : Image) (journal : List Entry) (lines : List RunLine) : Type 0 where
   pub accepted : IsAccepted source tree
+  pub only : IsOnlyTree source tree
   pub means : Means (statements_of tree) image
   pub fields : FitsFields image  -- its file can hold it
   pub plain : IsPlain image  -- and does
@@ -86,14 +87,14 @@ pub record PutUpTo (name : List ℕ) (before after : Option Files) (puts : List 
 
 -- the command `run` on this file has written the report of a whole job, whose run 0 ended so, and of
 -- what the job puts so much is put
-pub record HasReported (name : List ℕ) (lanes : ℕ) (content : Option Files) (sink_before sink_after : Option (List ℕ)) (ended : Option End → Type 0) (stored : List Put → Type 0) : Type 0 where
+pub record HasReported (name : List ℕ) (lanes budget : ℕ) (content : Option Files) (sink_before sink_after : Option (List ℕ)) (ended : Option End → Type 0) (stored : List Put → Type 0) : Type 0 where
   pub source : List ℕ
   pub tree : Tree
   pub image : Image
   pub journal : List Entry
   pub lines : List RunLine
   pub source_is : Answers (known_of content name) 1048576 (Bytes source)
-  pub job : IsJob (opening_on name source lanes) source tree image journal lines
+  pub job : IsJob (opening_on name source lanes budget) source tree image journal lines
   pub ends : ended (finish_of 0 journal)
   pub reported : sink_after ≡ appended sink_before (report_text journal lines)
-  pub puts : stored (puts_of (opening_on name source lanes) journal (model_of tree image ∷ []))
+  pub puts : stored (puts_of (opening_on name source lanes budget) journal (model_of tree image ∷ []))

@@ -7,10 +7,12 @@ ghost use Rattle.job_calls.specs.ReportText.{report_text};
 ghost use Rattle.job_calls.specs.Runs.{finish_of};
 ghost use Rattle.mos_meaning.specs.State.{Stuck};
 ghost use Rattle.mos_meaning.specs.Follows.{end_of};
+ghost use Rattle.mos_meaning.specs.Syntax.{statements_of};
 ghost use Rattle.mos_words.specs.Fit.{IsFit};
 ghost use Rattle.mos_words.specs.Words.{is_source_name};
 ghost use Rattle.mos_words.specs.declared.words.commands.Command.TheVariants.{Run as RunCommand};
-ghost use Rattle.mosel_run.specs.Accepted.{IsAccepted};
+ghost use Rattle.mosel_run.specs.Accepted.{IsAccepted, IsOnlyTree};
+ghost use Rattle.mosel_run.specs.InSize.{IsInSize};
 ghost use Rattle.mosel_run.specs.Jobs.{opening_on};
 ghost use Rattle.mosel_run.specs.Outputs.{IsOutput, IsOwnEnd};
 ghost use Rattle.mosel_run.specs.Puts.{image_name, puts_of};
@@ -32,9 +34,6 @@ use mos_tree::Tree;
 use sqlite_items::Items;
 use std::alloc::Global;
 
-/// The ticks that a run may take.
-const USUAL_BUDGET: u32 = 10_000_000;
-
 /// What is to be written and put.
 #[derive(Debug, Drop)]
 pub(crate) struct Output {
@@ -54,20 +53,23 @@ struct Finished {
     end: End,
 }
 
-/// Runs the source with the empty parameter text on so many lanes.
+/// Runs the source with the empty parameter text on so many lanes and for so many ticks.
 pub(crate) fn make_output(
     alloc: Global,
     name: &Text,
     lanes: u32,
+    budget: u32,
     source: &[u8],
     tree: &Tree,
 ) -> Result<Output, NoMemory>
     requires accepted { IsAccepted source.now tree.now }
+    requires only { IsOnlyTree source.now tree.now }
+    requires in_size { IsInSize (statements_of tree.now) }
     requires small { length source.now ≤ 1048576 }
-    requires fit { IsFit (RunCommand name.now lanes) }
-    ensures { IfOk result (λ output. IsOutput name.now lanes source.now output) }
+    requires fit { IsFit (RunCommand name.now lanes budget) }
+    ensures { IfOk result (λ output. IsOutput name.now lanes budget source.now output) }
 {
-    let finished = carry_out(alloc, name, lanes, source, tree)?;
+    let finished = carry_out(alloc, name, lanes, budget, source, tree)?;
     let output = output_of(alloc, name, &finished);
     discard(finished);
     output
@@ -77,22 +79,25 @@ fn carry_out(
     alloc: Global,
     name: &Text,
     lanes: u32,
+    budget: u32,
     source: &[u8],
     tree: &Tree,
 ) -> Result<Finished, NoMemory>
     requires accepted { IsAccepted source.now tree.now }
+    requires only { IsOnlyTree source.now tree.now }
+    requires in_size { IsInSize (statements_of tree.now) }
     requires small { length source.now ≤ 1048576 }
-    requires fit { IsFit (RunCommand name.now lanes) }
-    ensures job { IfOk result (λ f. IsJob (opening_on name.now source.now lanes) source.now tree.now f.image f.journal f.lines) }
-    ensures puts { IfOk result (λ f. puts_of (opening_on name.now source.now lanes) f.journal (model_of tree.now f.image ∷ []) ≡ record { name = image_name name.now; bytes = image_bytes f.image } ∷ []) }
+    requires fit { IsFit (RunCommand name.now lanes budget) }
+    ensures job { IfOk result (λ f. IsJob (opening_on name.now source.now lanes budget) source.now tree.now f.image f.journal f.lines) }
+    ensures puts { IfOk result (λ f. puts_of (opening_on name.now source.now lanes budget) f.journal (model_of tree.now f.image ∷ []) ≡ record { name = image_name name.now; bytes = image_bytes f.image } ∷ []) }
     ensures finish { IfOk result (λ f. finish_of 0 f.journal ≡ Some f.end) }
     ensures own { IfOk result (λ f. IsOwnEnd f.end) }
     ensures fields { IfOk result (λ f. FitsFields f.image) }
 {
     let image = compile(alloc, tree)?;
-    let ran = run(alloc, &image, USUAL_BUDGET)?;
+    let ran = run(alloc, &image, budget)?;
     let end = end_by(ran.halt);
-    let journal = journal(alloc, name, lanes, source, end)?;
+    let journal = journal(alloc, name, lanes, budget, source, end)?;
     let lines = lines(alloc, name, end, ran)?;
     Ok(Finished {
         image,
@@ -120,11 +125,12 @@ fn journal(
     alloc: Global,
     name: &Text,
     lanes: u32,
+    budget: u32,
     source: &[u8],
     end: End,
 ) -> Result<Items<Entry>, NoMemory>
     requires { 1 ≤ lanes }
-    ensures { IfOk result (λ journal. journal ≡ schedule_of (opening_on name.now source.now lanes) end) }
+    ensures { IfOk result (λ journal. journal ≡ schedule_of (opening_on name.now source.now lanes budget) end) }
 {
     let name = name.copy(alloc)?;
     let bytes = SharedBlob::new(alloc, Blob::new(alloc, source)?)?;
@@ -133,7 +139,7 @@ fn journal(
         bytes,
         code: 0,
     };
-    schedule(alloc, file, lanes, USUAL_BUDGET, end)
+    schedule(alloc, file, lanes, budget, end)
 }
 
 fn lines(alloc: Global, name: &Text, end: End, ran: Ran) -> Result<Items<RunLine>, NoMemory>

@@ -16,6 +16,6 @@ mod status;
 mod top;
 
 pub use examples::{hello_job, hello_model, refused_jobs, several_puts};
-pub use reader::first_form_laws;
+pub use mos_check::not_built;
 pub use status::Status;
 pub use top::tool;

@@ -36,7 +36,13 @@ pub(crate) fn prepare<F: Folder>(
     ensures later { F.faults folder.old ≤ F.faults folder.new }
 {
     match command(alloc, words) {
-        Ok(Command::Run { source, lanes }) => prepare_file(alloc, source, lanes, folder),
+        Ok(
+            Command::Run {
+                source,
+                lanes,
+                budget,
+            },
+        ) => prepare_file(alloc, source, lanes, budget, folder),
         Err(WordFault::Usage) => Ok(Prepared::Line {
             text: write_usage(alloc)?,
             status: Status::Usage,
@@ -49,15 +55,16 @@ fn prepare_file<F: Folder>(
     alloc: Global,
     name: Text,
     lanes: u32,
+    budget: u32,
     folder: &mut F,
 ) -> Result<Prepared, NoMemory>
-    requires { IsFit (RunCommand name lanes) }
-    ensures prepared { IfOk result (λ p. PreparesFile name lanes (record { content = F.content folder.old; faults = F.faults folder.old }) (record { content = F.content folder.new; faults = F.faults folder.new }) p) }
+    requires { IsFit (RunCommand name lanes budget) }
+    ensures prepared { IfOk result (λ p. PreparesFile name lanes budget (record { content = F.content folder.old; faults = F.faults folder.old }) (record { content = F.content folder.new; faults = F.faults folder.new }) p) }
     ensures content { F.content folder.new ≡ F.content folder.old }
     ensures later { F.faults folder.old ≤ F.faults folder.new }
 {
     match folder.get(alloc, &name, SOURCE_LIMIT) {
-        Got::Bytes(source) => prepare_source(alloc, name, lanes, source.as_bytes()),
+        Got::Bytes(source) => prepare_source(alloc, name, lanes, budget, source.as_bytes()),
         Got::Missing => Ok(Prepared::Line {
             text: write_missing(alloc, &name)?,
             status: Status::Missing { name },
@@ -78,15 +85,16 @@ fn prepare_source(
     alloc: Global,
     name: Text,
     lanes: u32,
+    budget: u32,
     source: &[u8],
 ) -> Result<Prepared, NoMemory>
-    requires fit { IsFit (RunCommand name lanes) }
+    requires fit { IsFit (RunCommand name lanes budget) }
     requires small { length source.now ≤ 1048576 }
-    ensures { IfOk result (λ p. PreparesSource name lanes source.now p) }
+    ensures { IfOk result (λ p. PreparesSource name lanes budget source.now p) }
 {
     match read_source(alloc, source) {
         Ok(tree) => {
-            let output = make_output(alloc, &name, lanes, source, &tree)?;
+            let output = make_output(alloc, &name, lanes, budget, source, &tree)?;
             Ok(Prepared::Report(output))
         }
         Err(ReadFault::At { line, kind }) => Ok(Prepared::Line {

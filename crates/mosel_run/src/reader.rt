@@ -1,100 +1,88 @@
-//! The reader of sources of the first form: a first line `model "name"`, then lines that are blank,
-//! `writeln(A)` or `NAME:=E`, then a line that begins with `end-model`. `E` is literals and names with
-//! `+` or `-` between them, and `A` is such a sum or a string.
-//!
-//! The form of a line is a function of its own, so that further statements are further alternatives
-//! there, and nothing here changes.
-mod argument;
-mod body;
+//! From a source to the tree of a model that can be run.
 mod fault;
-mod header;
-mod line;
-mod names;
-mod operand;
-mod string;
-mod sum;
-mod token;
+mod size;
 
-ghost use Rattle.std.specs.Prelude.{◌≤◌, length, IfOk, IfErr};
-ghost use Rattle.mosel_run.specs.Accepted.{IsAccepted};
-ghost use Rattle.mosel_run.specs.Chains.{HaveChains};
-ghost use Rattle.mosel_run.specs.FirstForm.{IsSource};
-ghost use Rattle.mosel_run.specs.FirstFormLaws.{OneTree, OneFaultyLine, TreeOrFaultyLine, NeverBoth, OneAccepted, OneRefusal, AcceptedOrRefused, NeverAcceptedAndRefused, IsRefusal, hello_source, hello_tree};
-ghost use Rattle.mosel_run.specs.FirstReading.{reading_of, Reads};
+ghost use Rattle.std.specs.Prelude.{◌≡◌, ◌≤◌, ℕ, length, IfOk, OnOk, IfErr, None};
+ghost use Rattle.mos_text.specs.declared.kind.Kind.{Kind as kind_type};
+ghost use Rattle.mos_tree.specs.declared.source.Tree.{Tree as tree_type};
+ghost use Rattle.mos_meaning.specs.Syntax.{statements_of};
+ghost use Rattle.mos_check.specs.NotBuilt.{unbuilt_of};
+ghost use Rattle.mosel_run.specs.Accepted.{IsAccepted, IsRefusedAt, IsSound, IsChecked};
+ghost use Rattle.mosel_run.specs.ReadAnswers.{IsRefusal, IsJudged, GivesTree, GivesRefusal};
+ghost use Rattle.mosel_run.specs.InSize.{IsInSize};
+ghost use Rattle.mosel_run.specs.declared.reader.fault.ReadFault.TheVariants.{At};
 
-use body::{first_line, read_body, syntax_at};
 pub use fault::ReadFault;
-use header::model_name;
-use mos_text::Kind;
-use mos_tree::{ModelName, Tree};
-use names::first_unknown;
-use sqlite_items::Items;
+use mos_check::{check, not_built};
+use mos_parse::parse;
+use mos_text::NoMemory;
+use mos_tree::{Tree, Verdict};
+use size::is_in_size;
 use std::alloc::Global;
 
-/// The tree of a source, or why and where it is refused: at its first line that is not of the form,
-/// or, where all are, at the first name that no earlier line assigned. Nothing behind `end-model` is
-/// read. A source has at most 1,048,576 bytes.
+/// The tree of a source, or why and where it is refused: at its first fault of tokens or grammar;
+/// where it has none, at its first piece of a form that cannot be run; and where all can, at the first
+/// that uses a name without a value, or leaves or continues a loop where there is none. A source has
+/// at most 1,048,576 bytes.
 pub fn read_source(alloc: Global, source: &[u8]) -> Result<Tree, ReadFault>
     requires { length source.now ≤ 1048576 }
-
-    // Each source is accepted with one tree, or refused at one line for one kind.
-    ensures tree { IfOk result (λ tree. IsAccepted source.now tree) }
+    ensures tree { IfOk result (IsAccepted source.now) }
     ensures refusal { IfErr result (IsRefusal source.now) }
+
+    // What is true of the source is the answer, but for want of memory.
+    ensures only_tree { (tree : tree_type) → IsAccepted source.now tree → GivesTree result tree }
+    ensures only_refusal { (line : ℕ) (kind : kind_type) → IsRefusedAt source.now line kind → GivesRefusal result line kind }
+
+    ensures in_size { IfOk result (λ tree. IsInSize (statements_of tree)) }
 {
-    let tree = read_form(alloc, source)?;
-    match first_unknown(alloc, tree.tops.as_slice())? {
-        None => Ok(tree),
-        Some((line, name)) => Err(ReadFault::At {
-            line,
-            kind: Kind::Unknown(name),
-        }),
+    let tree = parse(alloc, source)?;
+    judge(alloc, &tree)?;
+    Ok(tree)
+}
+
+/// Refuses a tree that cannot be run; for want of memory too where it is too large, which no source
+/// of at most 1,048,576 bytes has.
+fn judge(alloc: Global, tree: &Tree) -> Result<(), ReadFault>
+    ensures sound { OnOk result (IsSound tree.now) }
+    ensures wrong { IfErr result (IsJudged tree.now) }
+    ensures in_size { OnOk result (IsInSize (statements_of tree.now)) }
+{
+    refuse_unbuilt(alloc, tree)?;
+    refuse_unchecked(alloc, tree)?;
+    if is_in_size(tree) {
+        return Ok(());
+    }
+    Err(ReadFault::NoMemory)
+}
+
+/// Refuses a tree with a piece of a form that cannot be run.
+fn refuse_unbuilt(alloc: Global, tree: &Tree) -> Result<(), ReadFault>
+    ensures built { OnOk result (unbuilt_of tree.now ≡ None) }
+    ensures wrong { IfErr result (IsJudged tree.now) }
+{
+    match not_built(alloc, tree)? {
+        Some(verdict) => Err(fault_of(verdict)),
+        None => Ok(()),
     }
 }
 
-/// The tree of a source of the form, or its faulty line.
-fn read_form(alloc: Global, source: &[u8]) -> Result<Tree, ReadFault>
-    requires { length source.now ≤ 1048576 }
-    ensures form { IfOk result (λ tree. IsSource source.now tree) }
-    ensures chains { IfOk result (λ tree. HaveChains tree.tops) }
-    ensures refusal { IfErr result (IsRefusal source.now) }
+/// Refuses a tree, of forms that can be run, in which the check finds a fault.
+fn refuse_unchecked(alloc: Global, tree: &Tree) -> Result<(), ReadFault>
+    ensures known { OnOk result (IsChecked tree.now) }
+    ensures wrong { IfErr result (λ fault. unbuilt_of tree.now ≡ None → IsJudged tree.now fault) }
 {
-    read_lines(alloc, source)
+    check(alloc, tree)?;
+    Ok(())
 }
 
-#[tactic(auto, unfolding(crate::specs::FirstReading::reading_of))]
-fn read_lines(alloc: Global, source: &[u8]) -> Result<Tree, ReadFault>
-    requires { length source.now ≤ 1048576 }
-    ensures { Reads (reading_of source.now) result }
+fn fault_of(verdict: Verdict) -> ReadFault
+    ensures { result ≡ At verdict.line verdict.kind }
 {
-    let (line, more) = first_line(source);
-    let Some(name) = model_name(alloc, line)? else {
-        return Err(syntax_at(1));
-    };
-    let Some(more) = more else {
-        return Err(syntax_at(1));
-    };
-    let tops = read_body(alloc, more)?;
-    Ok(Tree {
-        line: 1,
-        name: ModelName::Quoted(name),
-        heads: Items::new(alloc),
-        tops,
-    })
+    ReadFault::At {
+        line: verdict.line,
+        kind: verdict.kind,
+    }
 }
-
-/// The laws of the form: each source has one tree or one faulty line, and not both; and it is
-/// accepted with one tree, or refused at one line for one kind, and not both.
-pub fn first_form_laws()
-    ensures one_tree { OneTree }
-    ensures one_line { OneFaultyLine }
-    ensures either { TreeOrFaultyLine }
-    ensures never_both { NeverBoth }
-    ensures one_accepted { OneAccepted }
-    ensures one_refusal { OneRefusal }
-    ensures accepted_or_refused { AcceptedOrRefused }
-    ensures not_both { NeverAcceptedAndRefused }
-    ensures example { IsSource hello_source hello_tree }
-{}
 
 #[cfg(test)]
 mod tests;

@@ -9,6 +9,8 @@ pub enum Command {
         source: Text,
         /// The number of lanes, 1 to 64.
         lanes: u32,
+        /// The ticks that a run may take, 1 to 1,000,000,000.
+        budget: u32,
     },
 }
 

@@ -12,6 +12,8 @@ use mos_text::Text;
 pub enum OptionName {
     /// `--lanes`: the number of lanes.
     Lanes,
+    /// `--budget`: the ticks that a run may take.
+    Budget,
 }
 
 /// The row of an option in the table.
@@ -35,6 +37,12 @@ fn row(option: OptionName) -> TableRow
             least: 1,
             most: 64,
             usual: 16,
+        },
+        OptionName::Budget => TableRow {
+            name: b"budget",
+            least: 1,
+            most: 1_000_000_000,
+            usual: 10_000_000,
         },
     }
 }

@@ -1,3 +1,5 @@
+use mos_check::CheckFault;
+use mos_parse::SyntaxFault;
 use mos_text::{Kind, NoMemory};
 
 /// Why a source has given no tree.
@@ -16,5 +18,33 @@ impl From<NoMemory> for ReadFault {
 
     fn from(_refused: NoMemory) -> ReadFault {
         ReadFault::NoMemory
+    }
+}
+
+impl From<SyntaxFault> for ReadFault {
+    ghost use Rattle.std.specs.Prelude.{◌≡◌};
+    ghost use Rattle.mosel_run.specs.ReadAnswers.{of_syntax};
+
+    ghost from_gives = { λ found fault. fault ≡ of_syntax found };
+
+    fn from(found: SyntaxFault) -> ReadFault {
+        match found {
+            SyntaxFault::At { line, kind } => ReadFault::At { line, kind },
+            SyntaxFault::NoMemory => ReadFault::NoMemory,
+        }
+    }
+}
+
+impl From<CheckFault> for ReadFault {
+    ghost use Rattle.std.specs.Prelude.{◌≡◌};
+    ghost use Rattle.mosel_run.specs.ReadAnswers.{of_check};
+
+    ghost from_gives = { λ found fault. fault ≡ of_check found };
+
+    fn from(found: CheckFault) -> ReadFault {
+        match found {
+            CheckFault::At { line, kind } => ReadFault::At { line, kind },
+            CheckFault::NoMemory => ReadFault::NoMemory,
+        }
     }
 }

@@ -6,7 +6,7 @@ use Rattle.bim_code.specs.Code.{code_bytes}
 use Rattle.bim_code.specs.Tables.{constant_bytes, heading_bytes, image_bytes}
 use Rattle.mos_tree.specs.declared.expr.Expr.TheVariants as expr
 use Rattle.mos_meaning.specs.Syntax.{Effect, Expression, first, done, write, one_more, nothing}
-use Rattle.mosel_run.proofs.SumChains.{effect_of_writeln, expression_of_text}
+use Rattle.mosel_run.proofs.Layers.{effect_of_writeln, expression_of_text}
 use Rattle.mosel_run.proofs.examples.hello_model.Goals as goal
 
 pub returns-clause-statements : goal.returns-clause-statements

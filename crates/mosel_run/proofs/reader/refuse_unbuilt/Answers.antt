@@ -1,0 +1,10 @@
+-- the piece that is found is wrong
+use Rattle.std.proofs.Common.{sym, subst}
+use Rattle.mosel_run.specs.Accepted.{not_built}
+use Rattle.mosel_run.specs.ReadAnswers.{IsJudged}
+use Rattle.mosel_run.proofs.reader.refuse_unbuilt.Goals as goal
+
+pub returns-in-Some-clause-wrong : goal.returns-in-Some-clause-wrong
+returns-in-Some-clause-wrong c =
+    let h = rw c.in-Some.is at c.in_ok-verdict.ensures in
+    subst (IsJudged c.args.tree.now) (sym c.fault_of.ensures) (not_built c.args.tree.now c.in-Some.verdict.line c.in-Some.verdict.kind h.1)
