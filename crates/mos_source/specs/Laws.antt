@@ -1,9 +1,10 @@
 -- Laws of sources and faulty pieces.
 
-use Rattle.std.specs.Prelude.{◌≡◌, ◌⊎◌, List, ◌++◌}
+use Rattle.std.specs.Prelude.{◌≡◌, ◌⊎◌, ℕ, List, ◌++◌}
 use Rattle.mos_form.specs.declared.form.PieceForm.{PieceForm}
 use Rattle.mos_source.specs.Sources.{Source, IsSource, tree_of}
 use Rattle.mos_source.specs.Faults.{IsFaulty}
+use Rattle.mos_source.specs.Productions.{Rule, Reading, Reads, BreaksAt}
 
 -- pieces have at most one tree
 abbrev pub HaveOneTree : Type 0
@@ -24,3 +25,15 @@ HasFault pieces = (before : List PieceForm) × (after : List PieceForm) × (piec
 -- pieces have a tree or a faulty piece
 abbrev pub HaveOneOfBoth : Type 0
 HaveOneOfBoth = (pieces : List PieceForm) → ((x : Source) × IsSource pieces x) ⊎ HasFault pieces
+
+-- the productions break at the faulty piece alone
+abbrev pub ProductionsBreakThere : Type 0
+ProductionsBreakThere = (before after : List PieceForm) → BreaksAt (before ++ after) after → IsFaulty before after
+
+-- the productions break at each faulty piece
+abbrev pub ProductionsBreak : Type 0
+ProductionsBreak = (before after : List PieceForm) → IsFaulty before after → BreaksAt (before ++ after) after
+
+-- a production reads pieces in one way
+abbrev pub ProductionsReadOneWay : Type 0
+ProductionsReadOneWay = (rule : Rule) (depth : ℕ) (pieces : List PieceForm) (one other : Reading) → Reads rule depth pieces one → Reads rule depth pieces other → one ≡ other

@@ -1,5 +1,6 @@
 //! Laws of sources, as contracts of calls that do nothing.
 ghost use Rattle.mos_source.specs.Laws.{HaveOneTree, HaveOneFault, HaveNotBoth, HaveOneOfBoth};
+ghost use Rattle.mos_source.specs.Laws.{ProductionsReadOneWay, ProductionsBreakThere, ProductionsBreak};
 
 /// Pieces have at most one tree and at most one faulty piece, and always one of both and never both.
 pub fn pieces_are_read_one_way()
@@ -7,4 +8,12 @@ pub fn pieces_are_read_one_way()
     ensures one_fault { HaveOneFault }
     ensures not_both { HaveNotBoth }
     ensures one_of_both { HaveOneOfBoth }
+{}
+
+/// The productions of the grammar name the faulty piece, too: it is the first one that they cannot
+/// take, each read with the number of blocks that are open.
+pub fn pieces_break_by_productions()
+    ensures one_way { ProductionsReadOneWay }
+    ensures there { ProductionsBreakThere }
+    ensures each { ProductionsBreak }
 {}

@@ -15,7 +15,7 @@ mod place;
 mod reader;
 
 pub use fault::PieceFault;
-pub use laws::pieces_are_read_one_way;
+pub use laws::{pieces_are_read_one_way, pieces_break_by_productions};
 pub use reader::source;
 
 #[cfg(test)]
