@@ -4,6 +4,7 @@ pub mod Completing
 pub mod Ends
 pub mod Held
 pub mod Naming
+pub mod OneWay
 pub mod Progress
 pub mod Reading
 pub mod Roles
