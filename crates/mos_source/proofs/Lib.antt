@@ -1,3 +1,4 @@
+pub mod Behind
 pub mod Complete
 pub mod CompleteSource
 pub mod Completing
@@ -11,4 +12,5 @@ pub mod Roles
 pub mod Sound
 pub mod SoundStep
 pub mod Steps
+pub mod Waits
 pub mod Whole

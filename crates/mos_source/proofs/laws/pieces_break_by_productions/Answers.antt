@@ -1,3 +1,5 @@
+use Rattle.mos_source.proofs.Waits.{left-is, begins-is}
+use Rattle.mos_source.proofs.Behind.{read-on, read-none}
 use Rattle.mos_source.proofs.OneWay.{one-way}
 use Rattle.mos_source.proofs.laws.pieces_break_by_productions.Goals as goal
 
