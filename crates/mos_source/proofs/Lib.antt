@@ -2,6 +2,7 @@ pub mod Behind
 pub mod Complete
 pub mod CompleteSource
 pub mod Completing
+pub mod Counted
 pub mod Ends
 pub mod Held
 pub mod Naming

@@ -1,3 +1,4 @@
+use Rattle.mos_source.proofs.Counted.{fails, counts}
 use Rattle.mos_source.proofs.Waits.{left-is, begins-is}
 use Rattle.mos_source.proofs.Behind.{read-on, read-none}
 use Rattle.mos_source.proofs.OneWay.{one-way}
