@@ -26,20 +26,20 @@ use Rattle.mos_source.proofs.Naming.{room, step-none}
 
 -- ---- roles of pieces that open a block
 
-abbrev may_open : Option Role → Bool
+abbrev pub may_open : Option Role → Bool
 may_open None = true
 may_open (Some Opens) = true
 may_open (Some _) = false
 
-abbrev may_not_open : Option Role → Bool
+abbrev pub may_not_open : Option Role → Bool
 may_not_open (Some Opens) = false
 may_not_open _ = true
 
-abbrev is_start : Place → Bool
+abbrev pub is_start : Place → Bool
 is_start p.Start = true
 is_start _ = false
 
-frame-no-start : (frame : Frame) → is_start (frame_place frame) ≡ false
+pub frame-no-start : (frame : Frame) → is_start (frame_place frame) ≡ false
 frame-no-start (g.Routine heading parts) = routine-no-start heading.result
   where
     routine-no-start : (typ : Option _) → is_start (routine_place typ) ≡ false
@@ -48,7 +48,7 @@ frame-no-start (g.Routine heading parts) = routine-no-start heading.result
 frame-no-start _ = refl
 
 -- the pieces that open a block do nothing else, and no other piece opens one
-opens-so : (place : Place) (x : Mould) → is_start place ≡ false → choose (opens_block x) (may_open (role_at place x)) (may_not_open (role_at place x)) ≡ true
+pub opens-so : (place : Place) (x : Mould) → is_start place ≡ false → choose (opens_block x) (may_open (role_at place x)) (may_not_open (role_at place x)) ≡ true
 unfolding role_at
 opens-so p.Start x s = let no : ⊥ = cc in absurd no
 opens-so p.Heads m.Unknown s = refl
@@ -90,14 +90,14 @@ only-opens : (role : Role) → may_open (Some role) ≡ true → role ≡ Opens
 only-opens Opens h = refl
 only-opens _ h = cc
 
-unknown-nowhere : (place : Place) → role_at place m.Unknown ≡ None
+pub unknown-nowhere : (place : Place) → role_at place m.Unknown ≡ None
 unfolding role_at
 unknown-nowhere p.Start = refl
 unknown-nowhere _ = refl
 
 -- ---- the form that counts
 
-counts-own : (depth : ℕ) (x : PieceForm) (found : Kind) → own_limit x.form ≡ Some found → form_at depth x ≡ m.Unknown
+pub counts-own : (depth : ℕ) (x : PieceForm) (found : Kind) → own_limit x.form ≡ Some found → form_at depth x ≡ m.Unknown
 unfolding form_at
 counts-own depth x found o = rw o refl
 
@@ -105,17 +105,17 @@ counts-deep : (depth : ℕ) (x : PieceForm) → own_limit x.form ≡ None → op
 unfolding form_at
 counts-deep depth x o b d = rw (o, b, d) refl
 
-counts-fits : (depth : ℕ) (x : PieceForm) → own_limit x.form ≡ None → opens_block (mould_of x.form) ≡ true → nat_le limit depth ≡ false → form_at depth x ≡ mould_of x.form
+pub counts-fits : (depth : ℕ) (x : PieceForm) → own_limit x.form ≡ None → opens_block (mould_of x.form) ≡ true → nat_le limit depth ≡ false → form_at depth x ≡ mould_of x.form
 unfolding form_at
 counts-fits depth x o b d = rw (o, b, d) refl
 
-counts-other : (depth : ℕ) (x : PieceForm) → own_limit x.form ≡ None → opens_block (mould_of x.form) ≡ false → form_at depth x ≡ mould_of x.form
+pub counts-other : (depth : ℕ) (x : PieceForm) → own_limit x.form ≡ None → opens_block (mould_of x.form) ≡ false → form_at depth x ≡ mould_of x.form
 unfolding form_at
 counts-other depth x o b = rw (o, b) refl
 
 -- ---- refused
 
-pub Fails : Stack → PieceForm → Type 0
+unfoldable pub Fails : Stack → PieceForm → Type 0
 Fails k x = (wrong : Kind) × (step limit k x ≡ Err wrong)
 
 fails-own-in : (role : Option Role) (k : Stack) (line : ℕ) (form : Form) (found : Kind) → own_limit form ≡ Some found → (wrong : Kind) × (step_in limit role line form k ≡ Err wrong)
@@ -145,7 +145,7 @@ pub fails-none : (k : Stack) (x : PieceForm) → role_at (place_of k) (mould_of 
 unfolding Fails
 fails-none k x r = (kind.Syntax, step-none limit k x r)
 
-as-mould : (place : Place) (depth : ℕ) (x : PieceForm) (role : Option Role) → form_at depth x ≡ mould_of x.form → role_at place (form_at depth x) ≡ role → role_at place (mould_of x.form) ≡ role
+pub as-mould : (place : Place) (depth : ℕ) (x : PieceForm) (role : Option Role) → form_at depth x ≡ mould_of x.form → role_at place (form_at depth x) ≡ role → role_at place (mould_of x.form) ≡ role
 as-mould place depth x role e r = ap (role_at place) (sym e) ∙ r
 
 fails-by : (frame : Frame) (k : Stack) (x : PieceForm) (own : Option Kind) (open_ deep : Bool) → own_limit x.form ≡ own → opens_block (mould_of x.form) ≡ open_ → nat_le limit (length k) ≡ deep → role_at (frame_place frame) (form_at (length k) x) ≡ None → Fails (frame ∷ k) x
@@ -165,7 +165,7 @@ pub record Counts (frame : Frame) (k : Stack) (x : PieceForm) (role : Role) : Ty
   pub is : form_at (length k) x ≡ mould_of x.form
   pub block : block_limit limit role (suc (length k)) ≡ None
 
-not-known : (place : Place) (x : Mould) (role : Role) → x ≡ m.Unknown → role_at place x ≡ Some role → ⊥
+pub not-known : (place : Place) (x : Mould) (role : Role) → x ≡ m.Unknown → role_at place x ≡ Some role → ⊥
 not-known place x role e r =
     let none : role_at place x ≡ None = ap (role_at place) e ∙ unknown-nowhere place in
     cc

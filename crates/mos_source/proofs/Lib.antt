@@ -1,8 +1,10 @@
 pub mod Behind
+pub mod Broken
 pub mod Complete
 pub mod CompleteSource
 pub mod Completing
 pub mod Counted
+pub mod Descent
 pub mod Ends
 pub mod Held
 pub mod Naming
@@ -10,6 +12,7 @@ pub mod OneWay
 pub mod Progress
 pub mod Reading
 pub mod Roles
+pub mod Shapes
 pub mod Sound
 pub mod SoundStep
 pub mod Steps

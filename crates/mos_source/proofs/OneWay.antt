@@ -8,10 +8,10 @@ use Rattle.mos_source.specs.Productions.{Rule, one, block, ◌~◌, ◌or◌, op
 pub never : (b : Bool) → b ≡ true → b ≡ false → ⊥
 never b t f = cc
 
-took-broke : (xs ys : List PieceForm) → took xs ≡ broke ys → ⊥
+pub took-broke : (xs ys : List PieceForm) → took xs ≡ broke ys → ⊥
 took-broke xs ys e = cc
 
-took-same : (xs ys : List PieceForm) → took xs ≡ took ys → xs ≡ ys
+pub took-same : (xs ys : List PieceForm) → took xs ≡ took ys → xs ≡ ys
 took-same xs ys e = cc
 
 -- the other reading, form by form, from what is known of the parts
