@@ -22,7 +22,7 @@ use Rattle.mos_source.proofs.Progress.{progress, sample, sample-mould, sample-li
 
 -- ---- a mould that may stand
 
-room : (deep : ℕ) (role : Role) (n : ℕ) → n ≤ deep → block_limit deep role n ≡ None
+pub room : (deep : ℕ) (role : Role) (n : ℕ) → n ≤ deep → block_limit deep role n ≡ None
 room deep Opens n h = block-fits deep n h
 room deep GoesOn n h = refl
 room deep Stands n h = refl
@@ -49,7 +49,7 @@ could-stand before top mould role held r =
 
 -- ---- a mould that may not
 
-step-none : (deep : ℕ) (k : Stack) (x : PieceForm) → role_at (place_of k) (mould_of x.form) ≡ None → step deep k x ≡ Err kind.Syntax
+pub step-none : (deep : ℕ) (k : Stack) (x : PieceForm) → role_at (place_of k) (mould_of x.form) ≡ None → step deep k x ≡ Err kind.Syntax
 unfolding step
 step-none deep k x r = rw r refl
 

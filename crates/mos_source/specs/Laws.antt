@@ -1,11 +1,12 @@
 -- Laws of sources and faulty pieces.
 
-use Rattle.std.specs.Prelude.{◌≡◌, ◌⊎◌, List, ◌++◌}
+use Rattle.std.specs.Prelude.{◌≡◌, ◌⊎◌, ℕ, List, ◌++◌}
 use Rattle.mos_form.specs.declared.form.PieceForm.{PieceForm}
 use Rattle.mos_tree.specs.Texts.{texts_of_tree}
 use Rattle.mos_form.specs.Texts.{texts_of_pieces}
 use Rattle.mos_source.specs.Sources.{Source, IsSource, spell_source, tree_of}
 use Rattle.mos_source.specs.Faults.{IsFaulty}
+use Rattle.mos_source.specs.Productions.{Rule, Reading, Reads, BreaksAt}
 
 -- pieces have at most one tree
 abbrev pub HaveOneTree : Type 0
@@ -30,3 +31,15 @@ HaveOneOfBoth = (pieces : List PieceForm) → ((x : Source) × IsSource pieces x
 -- the names and texts of a tree are those of its pieces, in order
 abbrev pub TreesHaveTheirTexts : Type 0
 TreesHaveTheirTexts = (x : Source) → texts_of_tree (tree_of x) ≡ texts_of_pieces (spell_source x)
+
+-- the productions break at the faulty piece alone
+abbrev pub ProductionsBreakThere : Type 0
+ProductionsBreakThere = (before after : List PieceForm) → BreaksAt (before ++ after) after → IsFaulty before after
+
+-- the productions break at each faulty piece
+abbrev pub ProductionsBreak : Type 0
+ProductionsBreak = (before after : List PieceForm) → IsFaulty before after → BreaksAt (before ++ after) after
+
+-- a production reads pieces in one way
+abbrev pub ProductionsReadOneWay : Type 0
+ProductionsReadOneWay = (rule : Rule) (depth : ℕ) (pieces : List PieceForm) (one other : Reading) → Reads rule depth pieces one → Reads rule depth pieces other → one ≡ other

@@ -4,5 +4,6 @@ pub mod Laws
 pub mod Limits
 pub mod Machine
 pub mod Places
+pub mod Productions
 pub mod Sources
 pub mod Statements

@@ -1,5 +1,6 @@
 //! Laws of sources, as contracts of calls that do nothing.
 ghost use Rattle.mos_source.specs.Laws.{HaveOneTree, HaveOneFault, HaveNotBoth, HaveOneOfBoth, TreesHaveTheirTexts};
+ghost use Rattle.mos_source.specs.Laws.{ProductionsReadOneWay, ProductionsBreakThere, ProductionsBreak};
 
 /// Pieces have at most one tree and at most one faulty piece, and always one of both and never both.
 pub fn pieces_are_read_one_way()
@@ -12,4 +13,12 @@ pub fn pieces_are_read_one_way()
 /// The names and texts of a tree are those of the pieces that spell it, in order.
 pub fn sources_have_their_texts()
     ensures { TreesHaveTheirTexts }
+{}
+
+/// The productions of the grammar name the faulty piece, too: it is the first one that they cannot
+/// take, each read with the number of blocks that are open.
+pub fn pieces_break_by_productions()
+    ensures one_way { ProductionsReadOneWay }
+    ensures there { ProductionsBreakThere }
+    ensures each { ProductionsBreak }
 {}

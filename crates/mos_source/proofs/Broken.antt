@@ -1,0 +1,169 @@
+use Rattle.std.proofs.Common.{◌≡◌, ◌≢◌, ℕ, ◌≤◌, Bool, true, false, ◌⊎◌, inl, inr, List, [], ◌∷◌, ◌++◌, length, Option, Some, None, Ok, Err, refl, sym, ◌∙◌, ap, subst, arith}
+use Rattle.std.specs.Prelude.{is_some}
+use Rattle.std.proofs.lemmas.List.{append_cancel_left, append_cancel_right}
+use Rattle.mos_text.specs.declared.kind.Kind.{Kind}
+use Rattle.mos_text.specs.declared.kind.Kind.TheVariants as kind
+use Rattle.mos_tree.specs.declared.source.Tree.{Tree}
+use Rattle.mos_form.specs.declared.form.Form.TheVariants as f
+use Rattle.mos_form.specs.declared.form.Mould.{Mould}
+use Rattle.mos_form.specs.declared.form.Mould.TheVariants as m
+use Rattle.mos_form.specs.declared.form.PieceForm.{PieceForm}
+use Rattle.mos_source.specs.declared.frame.Frame.{Frame}
+use Rattle.mos_source.specs.declared.frame.Frame.TheVariants as g
+use Rattle.mos_source.specs.declared.frame.Part.{Part}
+use Rattle.mos_source.specs.declared.frame.Part.TheVariants as part
+use Rattle.mos_source.specs.declared.place.Place.TheVariants as p
+use Rattle.mos_source.specs.declared.place.Role.{Role}
+use Rattle.mos_source.specs.declared.place.Role.TheVariants.{Opens}
+use Rattle.mos_form.specs.Forms.{mould_of}
+use Rattle.mos_source.specs.Limits.{own_limit}
+use Rattle.mos_source.specs.Places.{role_at}
+use Rattle.mos_source.specs.Sources.{Source, IsSource, tree_of, limit}
+use Rattle.mos_source.specs.Faults.{IsFaulty}
+use Rattle.mos_source.specs.Laws.{ProductionsBreakThere, ProductionsBreak}
+use Rattle.mos_source.specs.Productions.{source, opens_block, form_at, Reading, took, broke, Reads, BreaksAt}
+use Rattle.mos_source.specs.Machine.{Stack, frame_place, enter, add_part, finished, done, stopped, at_end, step, run}
+use Rattle.mos_source.proofs.Steps.{step-role, run-step}
+use Rattle.mos_source.proofs.Held.{is_model}
+use Rattle.mos_source.proofs.Sound.{some_stack}
+use Rattle.mos_source.proofs.SoundStep.{sound}
+use Rattle.mos_source.proofs.Progress.{progress}
+use Rattle.mos_source.proofs.Whole.{Found, run-found, Stop, run-stopped, begins, is-stuck}
+use Rattle.mos_source.proofs.Reading.{one-fault, not-both}
+use Rattle.mos_source.proofs.OneWay.{one-way, took-broke, took-same}
+use Rattle.mos_source.proofs.Behind.{read-none}
+use Rattle.mos_source.proofs.Waits.{opened_place, waits-firm, is_end}
+use Rattle.mos_source.proofs.Counted.{unknown-nowhere, counts-own, counts-fits, counts-other, not-known, as-mould, Fails, fails-own, fails-none}
+use Rattle.mos_source.proofs.Shapes.{At, opened-at, Adds, is_source}
+use Rattle.mos_source.proofs.Descent.{Live, ReadAt, broken, taken, Reader, led, on, none-begins, read-block}
+
+-- The productions name the faulty piece.
+
+-- pieces read by the productions and by the reader
+data ReadSource (pieces : List PieceForm) : Type 0 where
+  breaks : (left : List PieceForm) (wrong : Kind) → Reads source 0 pieces (broke left) → run limit [] pieces ≡ stopped wrong left → ReadSource pieces
+  ends : (tree : Tree) → Reads source 0 pieces (took []) → run limit [] pieces ≡ done tree → ReadSource pieces
+  goes_on : (x : PieceForm) (xs : List PieceForm) (wrong : Kind) → Reads source 0 pieces (took (x ∷ xs)) → run limit [] pieces ≡ stopped wrong (x ∷ xs) → ReadSource pieces
+
+-- ---- the first piece
+
+start-form : (open_ : Bool) (x : PieceForm) → own_limit x.form ≡ None → opens_block (mould_of x.form) ≡ open_ → form_at 0 x ≡ mould_of x.form
+start-form true x o b = counts-fits 0 x o b refl
+start-form false x o b = counts-other 0 x o b
+
+start-fails : (own : Option Kind) (x : PieceForm) → own_limit x.form ≡ own → role_at p.Start (form_at 0 x) ≡ None → Fails [] x
+start-fails (Some found) x o r = fails-own [] x found o
+start-fails None x o r = fails-none [] x (as-mould p.Start 0 x None (start-form (opens_block (mould_of x.form)) x o refl) r)
+
+start-own : (own : Option Kind) (x : PieceForm) (role : Role) → own_limit x.form ≡ own → role_at p.Start (form_at 0 x) ≡ Some role → own_limit x.form ≡ None
+start-own (Some found) x role o r = absurd (not-known p.Start (form_at 0 x) role (counts-own 0 x found o) r)
+start-own None x role o r = o
+
+start-model : (x : Mould) (role : Role) → role_at p.Start x ≡ Some role → (x ≡ m.Model) × (role ≡ Opens)
+unfolding role_at
+start-model m.Model role r = (refl, cc)
+start-model _ role r = let no : ⊥ = cc in absurd no
+
+-- ---- behind a whole source
+
+ended : (x : Part) (next : Stack) → is_source x ≡ true → add_part x [] ≡ some_stack next → (tree : Tree) × (next ≡ g.End tree ∷ [])
+ended (part.Source tree) next k e = (tree, cc)
+ended _ next k e = let no : ⊥ = cc in absurd no
+
+end-nowhere : (x : Mould) → role_at p.End x ≡ None
+unfolding role_at
+end-nowhere m.Unknown = refl
+end-nowhere _ = refl
+
+behind-source : (pieces : List PieceForm) (tree : Tree) (left : List PieceForm) → Reads source 0 pieces (took left) → run limit [] pieces ≡ run limit (g.End tree ∷ []) left → ReadSource pieces
+unfolding Fails
+behind-source pieces tree [] reads runs = ends tree reads runs
+behind-source pieces tree (x ∷ xs) reads runs =
+    let failed : Fails (g.End tree ∷ []) x = fails-none (g.End tree ∷ []) x (end-nowhere (mould_of x.form)) in
+    goes_on x xs failed.0 reads (runs ∙ rw failed.1 refl)
+
+-- ---- the whole source
+
+from-heads : (x : PieceForm) (xs : List PieceForm) (next : Stack) → form_at 0 x ≡ m.Model → role_at p.Start (form_at 0 x) ≡ Some Opens → run limit [] (x ∷ xs) ≡ run limit next xs → ReadAt (opened_place (form_at 0 x)) [] next xs → ReadSource (x ∷ xs)
+from-heads x xs next h r ran (broken left wrong reads stops) = breaks left wrong (on Opens p.Start 0 x xs (broke left) refl r reads) (ran ∙ stops)
+from-heads x xs next h r ran (taken left there reads runs adds live less) =
+    let model : is_model (opened_place (form_at 0 x)) ≡ true = ap (λ z. is_model (opened_place z)) h in
+    let end : (tree : Tree) × (there ≡ g.End tree ∷ []) = ended adds.part there (adds.kind ∙ model) adds.is in
+    behind-source (x ∷ xs) end.0 left (on Opens p.Start 0 x xs (took left) refl r reads) (ran ∙ runs ∙ ap (λ z. run limit z left) end.1)
+
+from-model : (x : PieceForm) (xs : List PieceForm) → form_at 0 x ≡ m.Model → role_at p.Start (form_at 0 x) ≡ Some Opens → ReadSource (x ∷ xs)
+unfolding Reader Live
+from-model x xs h r =
+    let own : own_limit x.form ≡ None = start-own (own_limit x.form) x Opens refl r in
+    let is : form_at 0 x ≡ mould_of x.form = start-form (opens_block (mould_of x.form)) x own refl in
+    let here : role_at p.Start (mould_of x.form) ≡ Some Opens = as-mould p.Start 0 x (Some Opens) is r in
+    let goes : (next : Stack) × (enter Opens x.line x.form [] ≡ some_stack next) = progress limit [] [] x.line x.form Opens refl here own in
+    let stepped : step limit [] x ≡ Ok goes.0 = step-role limit [] x Opens goes.0 here own refl goes.1 in
+    let at : At [] (opened_place (form_at 0 x)) goes.0 = subst (λ z. At [] (opened_place z) goes.0) (sym is) (opened-at x.line x.form [] goes.0 goes.1) in
+    let inner : ReadAt (opened_place (form_at 0 x)) [] goes.0 xs = led (length xs) (opened_place (form_at 0 x)) [] goes.0 xs (read-block (length xs)) (omega arith) (ap (λ z. is_end (opened_place z)) h) (x ∷ [], sound limit [] goes.0 x [] refl stepped) at in
+    from-heads x xs goes.0 h r (run-step limit [] goes.0 x xs stepped) inner
+
+from-role : (role : Option Role) (x : PieceForm) (xs : List PieceForm) → role_at p.Start (form_at 0 x) ≡ role → ReadSource (x ∷ xs)
+unfolding Fails
+from-role None x xs r =
+    let failed : Fails [] x = start-fails (own_limit x.form) x refl r in
+    breaks (x ∷ xs) failed.0 (read-none source 0 (x ∷ xs) refl (none-begins p.Start (form_at 0 x) refl r)) (rw failed.1 refl)
+from-role (Some role) x xs r =
+    let both : (form_at 0 x ≡ m.Model) × (role ≡ Opens) = start-model (form_at 0 x) role r in
+    from-model x xs both.0 (subst (λ z. role_at p.Start (form_at 0 x) ≡ Some z) both.1 r)
+
+read-source : (pieces : List PieceForm) → ReadSource pieces
+read-source [] = breaks [] kind.Syntax (read-none source 0 [] refl (none-begins p.Start m.Unknown refl (unknown-nowhere p.Start))) refl
+read-source (x ∷ xs) = from-role (role_at p.Start (form_at 0 x)) x xs refl
+
+-- ---- the faulty piece
+
+stopped-faulty : (pieces before after : List PieceForm) (wrong : Kind) → pieces ≡ before ++ after → run limit [] pieces ≡ stopped wrong after → IsFaulty before after
+stopped-faulty pieces before after wrong cut e =
+    let it : Stop limit [] [] pieces wrong after = run-stopped limit pieces [] [] wrong after (λ deeper h. refl) e in
+    let same : it.before ≡ before = append_cancel_right it.before before after (sym it.cut ∙ cut) in
+    subst (λ z. IsFaulty z after) same
+    (record {
+      begun = begins it.before it.top (it.held limit (omega arith));
+      stuck = is-stuck it.before it.top after wrong (it.goes limit (omega arith)) it.stuck;
+    })
+
+broke-same : (xs ys : List PieceForm) → broke xs ≡ broke ys → xs ≡ ys
+broke-same xs ys e = cc
+
+stopped-there : (pieces before after left : List PieceForm) (wrong : Kind) → pieces ≡ before ++ after → left ≡ after → run limit [] pieces ≡ stopped wrong left → IsFaulty before after
+stopped-there pieces before after left wrong cut same e = stopped-faulty pieces before after wrong cut (subst (λ z. run limit [] pieces ≡ stopped wrong z) same e)
+
+breaks-there : (pieces before after : List PieceForm) → pieces ≡ before ++ after → ReadSource pieces → BreaksAt pieces after → IsFaulty before after
+breaks-there pieces before after cut (breaks left wrong reads e) (inl there) = stopped-there pieces before after left wrong cut (broke-same left after (one-way source 0 pieces (broke left) (broke after) reads there)) e
+breaks-there pieces before after cut (breaks left wrong reads e) (inr there) = absurd (took-broke after left (one-way source 0 pieces (took after) (broke left) there.0 reads))
+breaks-there pieces before after cut (ends tree reads e) (inl there) = absurd (took-broke [] after (one-way source 0 pieces (took []) (broke after) reads there))
+breaks-there pieces before after cut (ends tree reads e) (inr there) = absurd (there.1 (took-same after [] (one-way source 0 pieces (took after) (took []) there.0 reads)))
+breaks-there pieces before after cut (goes_on x xs wrong reads e) (inl there) = absurd (took-broke (x ∷ xs) after (one-way source 0 pieces (took (x ∷ xs)) (broke after) reads there))
+breaks-there pieces before after cut (goes_on x xs wrong reads e) (inr there) = stopped-there pieces before after (x ∷ xs) wrong cut (took-same (x ∷ xs) after (one-way source 0 pieces (took (x ∷ xs)) (took after) reads there.0)) e
+
+pub productions-break-there : ProductionsBreakThere
+productions-break-there before after there = breaks-there (before ++ after) before after refl (read-source (before ++ after)) there
+
+-- the piece at which the reader stopped is the faulty one
+is-there : (pieces before after left : List PieceForm) (wrong : Kind) → pieces ≡ before ++ after → IsFaulty before after → run limit [] pieces ≡ stopped wrong left → left ≡ after
+is-there pieces before after left wrong cut faulty e =
+    let it : Stop limit [] [] pieces wrong left = run-stopped limit pieces [] [] wrong left (λ deeper h. refl) e in
+    let mine : IsFaulty it.before left = stopped-faulty pieces it.before left wrong it.cut e in
+    let same : it.before ≡ before = one-fault it.before left before after (sym it.cut ∙ cut) mine faulty in
+    append_cancel_left before left after (ap (λ z. z ++ left) (sym same) ∙ sym it.cut ∙ cut)
+
+more-there : (x : PieceForm) (xs after : List PieceForm) → x ∷ xs ≡ after → after ≢ []
+more-there x xs after e none = cc
+
+breaks-each : (pieces before after : List PieceForm) → pieces ≡ before ++ after → ReadSource pieces → IsFaulty before after → BreaksAt pieces after
+breaks-each pieces before after cut (breaks left wrong reads e) faulty = inl (subst (λ z. Reads source 0 pieces (broke z)) (is-there pieces before after left wrong cut faulty e) reads)
+breaks-each pieces before after cut (ends tree reads e) faulty =
+    let it : Found limit pieces tree = run-found limit pieces [] [] tree refl e in
+    absurd (not-both before after it.source (record { exact = sym cut ∙ it.exact; within = it.within }) faulty)
+breaks-each pieces before after cut (goes_on x xs wrong reads e) faulty =
+    let same : x ∷ xs ≡ after = is-there pieces before after (x ∷ xs) wrong cut faulty e in
+    inr (subst (λ z. Reads source 0 pieces (took z)) same reads, more-there x xs after same)
+
+pub productions-break : ProductionsBreak
+productions-break before after faulty = breaks-each (before ++ after) before after refl (read-source (before ++ after)) faulty

@@ -1,0 +1,231 @@
+use Rattle.std.proofs.Common.{◌≡◌, ℕ, zero, suc, ◌≤◌, Bool, true, false, List, [], ◌∷◌, ◌++◌, length, Option, Some, None, Ok, Err, refl, sym, ◌∙◌, ap, subst, arith}
+use Rattle.std.specs.Prelude.{is_some}
+use Rattle.mos_text.specs.declared.kind.Kind.{Kind}
+use Rattle.mos_text.specs.declared.kind.Kind.TheVariants as kind
+use Rattle.mos_form.specs.declared.form.Mould.{Mould}
+use Rattle.mos_form.specs.declared.form.Mould.TheVariants as m
+use Rattle.mos_form.specs.declared.form.PieceForm.{PieceForm}
+use Rattle.mos_source.specs.declared.frame.Frame.{Frame}
+use Rattle.mos_source.specs.declared.place.Place.{Place}
+use Rattle.mos_source.specs.declared.place.Place.TheVariants as p
+use Rattle.mos_source.specs.declared.place.Role.{Role}
+use Rattle.mos_source.specs.declared.place.Role.TheVariants.{Opens, GoesOn, Stands, Closes}
+use Rattle.mos_form.specs.Forms.{mould_of}
+use Rattle.mos_source.specs.Limits.{own_limit}
+use Rattle.mos_source.specs.Places.{role_at}
+use Rattle.mos_source.specs.Sources.{limit}
+use Rattle.mos_source.specs.Productions.{opens_block, form_at, front, Reading, took, broke, Reads}
+use Rattle.mos_source.specs.Machine.{Stack, frame_place, enter, step, stopped, at_end, run}
+use Rattle.mos_source.proofs.Steps.{step-role, run-step}
+use Rattle.mos_source.proofs.Held.{is_model, Holds}
+use Rattle.mos_source.proofs.Sound.{some_stack}
+use Rattle.mos_source.proofs.SoundStep.{sound}
+use Rattle.mos_source.proofs.Progress.{progress}
+use Rattle.mos_source.proofs.Behind.{Then, inside, outside, ReadsLeft, choose, behind, may_begin, within, within_then, rest, whole, read-on, read-none}
+use Rattle.mos_source.proofs.Waits.{waits, opened_place, gone_place, place_after, left_opened, left_after, left_at, is_end, waits-firm, left-is, begins-is}
+use Rattle.mos_source.proofs.Counted.{may_open, may_not_open, is_start, frame-no-start, opens-so, unknown-nowhere, Counts, Fails, fails, counts}
+use Rattle.mos_source.proofs.Shapes.{At, opened-at, gone-at, Adds, stands-adds, closes-adds, is_looped, adds-at, adds-ends, unfinished}
+
+-- The rest of the innermost open block is read by the productions as the reader reads it.
+
+-- some pieces led to these blocks
+unfoldable pub Live : Stack → Type 0
+Live k = (before : List PieceForm) × Holds limit k before
+
+-- the rest of a block at this place, the innermost one of `top`, with these blocks round it
+pub data ReadAt (place : Place) (k top : Stack) (xs : List PieceForm) : Type 0 where
+  broken : (left : List PieceForm) (wrong : Kind) → Reads (waits place) (length k) xs (broke left) → run limit top xs ≡ stopped wrong left → ReadAt place k top xs
+  taken : (left : List PieceForm) (next : Stack) → Reads (waits place) (length k) xs (took left) → run limit top xs ≡ run limit next left → Adds k (is_model place) next → Live next → length left ≤ length xs → ReadAt place k top xs
+
+-- ---- facts of places
+
+-- what pieces open is no model and not the end
+opened-block : (x : Mould) → opens_block x ≡ true → (is_end (opened_place x) ≡ false) × (is_model (opened_place x) ≡ false)
+opened-block m.Parameters h = (refl, refl)
+opened-block m.Declarations h = (refl, refl)
+opened-block m.RecordOf h = (refl, refl)
+opened-block m.Procedure h = (refl, refl)
+opened-block m.Function h = (refl, refl)
+opened-block m.If h = (refl, refl)
+opened-block m.Case h = (refl, refl)
+opened-block m.Forall h = (refl, refl)
+opened-block m.While h = (refl, refl)
+opened-block m.Repeat h = (refl, refl)
+opened-block m.Do h = (refl, refl)
+opened-block m.Initializations h = (refl, refl)
+opened-block _ h = let no : ⊥ = cc in absurd no
+
+chosen-so : (b c : Bool) → choose b c false ≡ true → b ≡ true
+chosen-so true c h = refl
+chosen-so false c h = cc
+
+opening : (place : Place) (x : Mould) → is_start place ≡ false → role_at place x ≡ Some Opens → opens_block x ≡ true
+opening place x s r = chosen-so (opens_block x) (may_open (role_at place x)) (ap (λ z. choose (opens_block x) (may_open (role_at place x)) (may_not_open z)) (sym r) ∙ opens-so place x s)
+
+gone-end : (place : Place) (x : Mould) → is_end (gone_place place x) ≡ is_end place
+gone-end p.Arm m.Else = refl
+gone-end p.Arm _ = refl
+gone-end p.Choice m.Alternative = refl
+gone-end p.Choice m.Else = refl
+gone-end p.Choice _ = refl
+gone-end _ x = refl
+
+gone-model : (place : Place) (x : Mould) → is_model (gone_place place x) ≡ is_model place
+gone-model p.Arm m.Else = refl
+gone-model p.Arm _ = refl
+gone-model p.Choice m.Alternative = refl
+gone-model p.Choice m.Else = refl
+gone-model p.Choice _ = refl
+gone-model _ x = refl
+
+after-end : (place : Place) → is_end (place_after place) ≡ is_end place
+after-end p.Heads = refl
+after-end _ = refl
+
+after-model : (place : Place) → is_model (place_after place) ≡ is_model place
+after-model p.Heads = refl
+after-model _ = refl
+
+left-opened : (place inner : Place) → is_start place ≡ false → is_looped place ≡ false → left_opened place inner ≡ within_then (waits inner) (waits (place_after place))
+left-opened p.Start inner s l = let no : ⊥ = cc in absurd no
+left-opened p.Looped inner s l = let no : ⊥ = cc in absurd no
+left-opened _ inner s l = refl
+
+left-opened-loop : (place inner : Place) → is_looped place ≡ true → left_opened place inner ≡ within (waits inner)
+left-opened-loop p.Looped inner l = refl
+left-opened-loop _ inner l = let no : ⊥ = cc in absurd no
+
+left-after : (place : Place) → is_looped place ≡ false → left_after place ≡ rest (waits (place_after place))
+left-after p.Looped l = let no : ⊥ = cc in absurd no
+left-after _ l = refl
+
+left-after-loop : (place : Place) → is_looped place ≡ true → left_after place ≡ whole
+left-after-loop p.Looped l = refl
+left-after-loop _ l = let no : ⊥ = cc in absurd no
+
+loop-no-model : (place : Place) → is_looped place ≡ true → is_model place ≡ false
+loop-no-model p.Looped l = refl
+loop-no-model _ l = let no : ⊥ = cc in absurd no
+
+-- ---- a piece and what is read behind it
+
+-- the rest of the block reads the piece and what is left behind it
+pub on : (role : Role) (place : Place) (depth : ℕ) (x : PieceForm) (xs : List PieceForm) (end : Reading) → is_end place ≡ false → role_at place (form_at depth x) ≡ Some role → ReadsLeft (left_at (Some role) place (form_at depth x)) depth xs end → Reads (waits place) depth (x ∷ xs) end
+on role place depth x xs end h r reads =
+    let same : left_at (Some role) place (form_at depth x) ≡ behind (waits place) (form_at depth x) = ap (λ z. left_at z place (form_at depth x)) (sym r) ∙ sym (left-is place (form_at depth x) h) in
+    read-on (waits place) depth x xs end (subst (λ z. ReadsLeft z depth xs end) same reads)
+
+pub none-begins : (place : Place) (x : Mould) → is_end place ≡ false → role_at place x ≡ None → may_begin (waits place) x ≡ false
+none-begins place x h r = begins-is place x h ∙ ap is_some r
+
+-- a block that goes on is read to its end
+further : (place next_place : Place) (k top next : Stack) (zs ys : List PieceForm) → run limit top zs ≡ run limit next ys → ((end : Reading) → Reads (waits next_place) (length k) ys end → Reads (waits place) (length k) zs end) → is_model next_place ≡ is_model place → length ys ≤ length zs → ReadAt next_place k next ys → ReadAt place k top zs
+further place next_place k top next zs ys ran go model shorter (broken left wrong reads stops) = broken left wrong (go (broke left) reads) (ran ∙ stops)
+further place next_place k top next zs ys ran go model shorter (taken left there reads runs adds live small) = taken left there (go (took left) reads) (ran ∙ runs) (subst (λ z. Adds k z there) model adds) live (omega (arith, shorter, small))
+
+-- the block is read from the place to which a piece or a part led
+unfoldable pub Reader : ℕ → Type 0
+Reader n = (frame : Frame) (k : Stack) (xs : List PieceForm) → length xs ≤ n → is_end (frame_place frame) ≡ false → Live (frame ∷ k) → ReadAt (frame_place frame) k (frame ∷ k) xs
+
+pub led : (n : ℕ) (place : Place) (k next : Stack) (xs : List PieceForm) → Reader n → length xs ≤ n → is_end place ≡ false → Live next → At k place next → ReadAt place k next xs
+unfolding Reader
+led n place k next xs read small h live at =
+    let live_at : Live (at.frame ∷ k) = subst Live at.is live in
+    let there : ReadAt (frame_place at.frame) k (at.frame ∷ k) xs = read at.frame k xs small (ap is_end at.there ∙ h) live_at in
+    subst (λ z. ReadAt place k z xs) (sym at.is) (subst (λ z. ReadAt z k (at.frame ∷ k) xs) at.there there)
+
+-- ---- a piece in its role
+
+-- the piece is taken
+record Taken (frame : Frame) (k : Stack) (x : PieceForm) (xs : List PieceForm) (role : Role) : Type 0 where
+  next : Stack
+  entered : enter role x.line x.form (frame ∷ k) ≡ some_stack next
+  runs : run limit (frame ∷ k) (x ∷ xs) ≡ run limit next xs
+  live : Live next
+  is : form_at (length k) x ≡ mould_of x.form
+
+takes : (frame : Frame) (k : Stack) (x : PieceForm) (xs : List PieceForm) (role : Role) → role_at (frame_place frame) (form_at (length k) x) ≡ Some role → Live (frame ∷ k) → Taken frame k x xs role
+unfolding Live
+takes frame k x xs role r live =
+    let c : Counts frame k x role = counts frame k x role r in
+    let here : role_at (frame_place frame) (mould_of x.form) ≡ Some role = ap (role_at (frame_place frame)) (sym c.is) ∙ r in
+    let goes : (next : Stack) × (enter role x.line x.form (frame ∷ k) ≡ some_stack next) = progress limit (frame ∷ k) live.0 x.line x.form role live.1 here c.own in
+    let stepped : step limit (frame ∷ k) x ≡ Ok goes.0 = step-role limit (frame ∷ k) x role goes.0 here c.own c.block goes.1 in
+    record {
+      next = goes.0;
+      entered = goes.1;
+      runs = run-step limit (frame ∷ k) goes.0 x xs stepped;
+      live = (live.0 ++ x ∷ [], sound limit (frame ∷ k) goes.0 x live.0 live.1 stepped);
+      is = c.is;
+    }
+
+At-here : Frame → Stack → PieceForm → List PieceForm → Type 0
+At-here frame k x xs = ReadAt (frame_place frame) k (frame ∷ k) (x ∷ xs)
+
+read-none-there : (frame : Frame) (k : Stack) (x : PieceForm) (xs : List PieceForm) → is_end (frame_place frame) ≡ false → role_at (frame_place frame) (form_at (length k) x) ≡ None → At-here frame k x xs
+unfolding At-here Fails
+read-none-there frame k x xs h r =
+    let failed : Fails (frame ∷ k) x = fails frame k x r in
+    broken (x ∷ xs) failed.0 (read-none (waits (frame_place frame)) (length k) (x ∷ xs) (waits-firm (frame_place frame)) (none-begins (frame_place frame) (form_at (length k) x) h r)) (rw failed.1 refl)
+
+read-closes : (frame : Frame) (k : Stack) (x : PieceForm) (xs : List PieceForm) → is_end (frame_place frame) ≡ false → role_at (frame_place frame) (form_at (length k) x) ≡ Some Closes → Taken frame k x xs Closes → At-here frame k x xs
+unfolding At-here
+read-closes frame k x xs h r t = taken xs t.next (on Closes (frame_place frame) (length k) x xs (took xs) h r refl) t.runs (closes-adds x.line x.form frame k t.next t.entered) t.live (omega arith)
+
+read-goes : (n : ℕ) (frame : Frame) (k : Stack) (x : PieceForm) (xs : List PieceForm) → Reader n → length xs ≤ n → is_end (frame_place frame) ≡ false → role_at (frame_place frame) (form_at (length k) x) ≡ Some GoesOn → Taken frame k x xs GoesOn → At-here frame k x xs
+unfolding At-here
+read-goes n frame k x xs read small h r t =
+    let place : Place = gone_place (frame_place frame) (form_at (length k) x) in
+    let at : At k place t.next = subst (λ z. At k (gone_place (frame_place frame) z) t.next) (sym t.is) (gone-at x.line x.form frame k t.next t.entered) in
+    let there : ReadAt place k t.next xs = led n place k t.next xs read small (gone-end (frame_place frame) (form_at (length k) x) ∙ h) t.live at in
+    further (frame_place frame) place k (frame ∷ k) t.next (x ∷ xs) xs t.runs (λ end reads. on GoesOn (frame_place frame) (length k) x xs end h r reads) (gone-model (frame_place frame) (form_at (length k) x)) (omega arith) there
+
+-- behind a whole part of the block
+read-after : (n : ℕ) (loop : Bool) (frame : Frame) (k : Stack) (zs ys : List PieceForm) (next : Stack) → Reader n → is_looped (frame_place frame) ≡ loop → is_end (frame_place frame) ≡ false → length ys ≤ n → length ys ≤ length zs → run limit (frame ∷ k) zs ≡ run limit next ys → Live next → Adds (frame ∷ k) false next → (is_looped (frame_place frame) ≡ true → Reads (waits (frame_place frame)) (length k) zs (took ys)) → (is_looped (frame_place frame) ≡ false → (end : Reading) → Reads (waits (place_after (frame_place frame))) (length k) ys end → Reads (waits (frame_place frame)) (length k) zs end) → ReadAt (frame_place frame) k (frame ∷ k) zs
+read-after n true frame k zs ys next read l h small shorter ran live adds ends goes =
+    taken ys next (ends l) ran (subst (λ z. Adds k z next) (sym (loop-no-model (frame_place frame) l)) (adds-ends frame k next l adds)) live shorter
+read-after n false frame k zs ys next read l h small shorter ran live adds ends goes =
+    let there : ReadAt (place_after (frame_place frame)) k next ys = led n (place_after (frame_place frame)) k next ys read small (after-end (frame_place frame) ∙ h) live (adds-at frame k next l adds) in
+    further (frame_place frame) (place_after (frame_place frame)) k (frame ∷ k) next zs ys ran (goes l) (after-model (frame_place frame)) shorter there
+
+read-stands : (n : ℕ) (frame : Frame) (k : Stack) (x : PieceForm) (xs : List PieceForm) → Reader n → length xs ≤ n → is_end (frame_place frame) ≡ false → role_at (frame_place frame) (form_at (length k) x) ≡ Some Stands → Taken frame k x xs Stands → At-here frame k x xs
+unfolding At-here
+read-stands n frame k x xs read small h r t =
+    read-after n (is_looped (frame_place frame)) frame k (x ∷ xs) xs t.next read refl h small (omega arith) t.runs t.live (stands-adds x.line x.form (frame ∷ k) t.next t.entered)
+    (λ l. on Stands (frame_place frame) (length k) x xs (took xs) h r (subst (λ z. ReadsLeft z (length k) xs (took xs)) (sym (left-after-loop (frame_place frame) l)) refl))
+    (λ l end reads. on Stands (frame_place frame) (length k) x xs end h r (subst (λ z. ReadsLeft z (length k) xs end) (sym (left-after (frame_place frame) l)) reads))
+
+-- the block that a piece opened breaks, or is read to its end
+opens-breaks : (loop : Bool) (frame : Frame) (k : Stack) (x : PieceForm) (xs left : List PieceForm) → is_looped (frame_place frame) ≡ loop → is_end (frame_place frame) ≡ false → role_at (frame_place frame) (form_at (length k) x) ≡ Some Opens → Reads (waits (opened_place (form_at (length k) x))) (suc (length k)) xs (broke left) → Reads (waits (frame_place frame)) (length k) (x ∷ xs) (broke left)
+opens-breaks true frame k x xs left l h r reads = on Opens (frame_place frame) (length k) x xs (broke left) h r (subst (λ z. ReadsLeft z (length k) xs (broke left)) (sym (left-opened-loop (frame_place frame) (opened_place (form_at (length k) x)) l)) reads)
+opens-breaks false frame k x xs left l h r reads = on Opens (frame_place frame) (length k) x xs (broke left) h r (subst (λ z. ReadsLeft z (length k) xs (broke left)) (sym (left-opened (frame_place frame) (opened_place (form_at (length k) x)) (frame-no-start frame) l)) (inside left reads))
+
+opens-inner : (n : ℕ) (frame : Frame) (k : Stack) (x : PieceForm) (xs : List PieceForm) (next : Stack) → Reader n → length xs ≤ n → is_end (frame_place frame) ≡ false → role_at (frame_place frame) (form_at (length k) x) ≡ Some Opens → is_model (opened_place (form_at (length k) x)) ≡ false → run limit (frame ∷ k) (x ∷ xs) ≡ run limit next xs → ReadAt (opened_place (form_at (length k) x)) (frame ∷ k) next xs → At-here frame k x xs
+unfolding At-here
+opens-inner n frame k x xs next read small h r model ran (broken left wrong reads stops) = broken left wrong (opens-breaks (is_looped (frame_place frame)) frame k x xs left refl h r reads) (ran ∙ stops)
+opens-inner n frame k x xs next read small h r model ran (taken left there reads runs adds live less) =
+    read-after n (is_looped (frame_place frame)) frame k (x ∷ xs) left there read refl h (omega (arith, small, less)) (omega (arith, less)) (ran ∙ runs) live (subst (λ z. Adds (frame ∷ k) z there) model adds)
+    (λ l. on Opens (frame_place frame) (length k) x xs (took left) h r (subst (λ z. ReadsLeft z (length k) xs (took left)) (sym (left-opened-loop (frame_place frame) (opened_place (form_at (length k) x)) l)) reads))
+    (λ l end more. on Opens (frame_place frame) (length k) x xs end h r (subst (λ z. ReadsLeft z (length k) xs end) (sym (left-opened (frame_place frame) (opened_place (form_at (length k) x)) (frame-no-start frame) l)) (outside left end reads more)))
+
+read-opens : (n : ℕ) (frame : Frame) (k : Stack) (x : PieceForm) (xs : List PieceForm) → Reader n → length xs ≤ n → is_end (frame_place frame) ≡ false → role_at (frame_place frame) (form_at (length k) x) ≡ Some Opens → Taken frame k x xs Opens → At-here frame k x xs
+read-opens n frame k x xs read small h r t =
+    let place : Place = opened_place (form_at (length k) x) in
+    let block : (is_end place ≡ false) × (is_model place ≡ false) = opened-block (form_at (length k) x) (opening (frame_place frame) (form_at (length k) x) (frame-no-start frame) r) in
+    let at : At (frame ∷ k) place t.next = subst (λ z. At (frame ∷ k) (opened_place z) t.next) (sym t.is) (opened-at x.line x.form (frame ∷ k) t.next t.entered) in
+    opens-inner n frame k x xs t.next read small h r block.1 t.runs (led n place (frame ∷ k) t.next xs read small block.0 t.live at)
+
+read-role : (n : ℕ) (role : Option Role) (frame : Frame) (k : Stack) (x : PieceForm) (xs : List PieceForm) → Reader n → length xs ≤ n → is_end (frame_place frame) ≡ false → role_at (frame_place frame) (form_at (length k) x) ≡ role → Live (frame ∷ k) → At-here frame k x xs
+read-role n None frame k x xs read small h r live = read-none-there frame k x xs h r
+read-role n (Some Opens) frame k x xs read small h r live = read-opens n frame k x xs read small h r (takes frame k x xs Opens r live)
+read-role n (Some GoesOn) frame k x xs read small h r live = read-goes n frame k x xs read small h r (takes frame k x xs GoesOn r live)
+read-role n (Some Stands) frame k x xs read small h r live = read-stands n frame k x xs read small h r (takes frame k x xs Stands r live)
+read-role n (Some Closes) frame k x xs read small h r live = read-closes frame k x xs h r (takes frame k x xs Closes r live)
+
+-- ---- every block
+
+pub read-block : (n : ℕ) (frame : Frame) (k : Stack) (xs : List PieceForm) → length xs ≤ n → is_end (frame_place frame) ≡ false → Live (frame ∷ k) → ReadAt (frame_place frame) k (frame ∷ k) xs
+unfolding Reader At-here
+read-block n frame k [] small h live = broken [] kind.Syntax (read-none (waits (frame_place frame)) (length k) [] (waits-firm (frame_place frame)) (none-begins (frame_place frame) m.Unknown h (unknown-nowhere (frame_place frame)))) (ap at_end (unfinished frame k h))
+read-block zero frame k (x ∷ xs) small h live = absurd (omega (arith, small))
+read-block (suc n) frame k (x ∷ xs) small h live = read-role n (role_at (frame_place frame) (form_at (length k) x)) frame k x xs (λ f j ys l e v. read-block n f j ys l e v) (omega (arith, small)) h refl live

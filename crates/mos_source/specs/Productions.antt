@@ -1,0 +1,221 @@
+-- The grammar of a source over the forms of its pieces, and the first piece that a production cannot take.
+
+use Rattle.std.specs.Prelude.{◌≡◌, ◌≢◌, ℕ, suc, Bool, true, false, ◌||◌, ◌&&◌, nat_eq, nat_le, if◌then◌else◌, ◌⊎◌, List, [], ◌∷◌, is_some}
+use Rattle.mos_form.specs.declared.form.Mould.{Mould}
+use Rattle.mos_form.specs.declared.form.Mould.TheVariants as m
+use Rattle.mos_form.specs.declared.form.PieceForm.{PieceForm}
+use Rattle.mos_form.specs.Forms.{mould_of}
+use Rattle.mos_source.specs.Limits.{own_limit}
+use Rattle.mos_source.specs.Sources.{limit}
+
+infixr 30 ◌~◌
+infixr 20 ◌or◌
+
+-- ---- the grammar
+
+-- parts of a production; `a ~ b` is one part behind the other
+pub data Rule : Type 0 where
+  one : Mould → Rule  -- one piece of this form
+  block : Mould → Rule → Rule  -- a piece that opens a block, and what stands behind it in the block
+  ◌~◌ : Rule → Rule → Rule
+  ◌or◌ : Rule → Rule → Rule  -- a choice
+  optional : Rule → Rule
+  many : Rule → Rule
+  statement : Rule  -- a statement, by its name
+
+-- heads of a model
+abbrev pub head : Rule
+head = one m.Uses or one m.Options
+
+-- behind `parameters`
+abbrev pub parameters_block : Rule
+parameters_block = many (one m.Definition) ~ one m.EndParameters
+
+-- behind `NAME = record`
+abbrev pub record_block : Rule
+record_block = many (one m.Typed) ~ one m.EndRecord
+
+abbrev pub item : Rule
+item = one m.Definition or one m.Typed or block m.RecordOf record_block
+
+-- behind `declarations`
+abbrev pub declarations_block : Rule
+declarations_block = many item ~ one m.EndDeclarations
+
+abbrev pub declarations : Rule
+declarations = block m.Declarations declarations_block
+
+-- behind the heading of a procedure
+abbrev pub procedure_block : Rule
+procedure_block = many (declarations or statement) ~ one m.EndProcedure
+
+-- behind the heading of a function
+abbrev pub function_block : Rule
+function_block = many (declarations or statement) ~ one m.EndFunction
+
+abbrev pub routine : Rule
+routine = block m.Procedure procedure_block or block m.Function function_block
+
+abbrev pub top : Rule
+top = block m.Parameters parameters_block or declarations or routine or one m.Forward or statement
+
+-- behind the heads of a model
+abbrev pub tops : Rule
+tops = many top ~ one m.EndModel
+
+-- behind `model`
+abbrev pub heads : Rule
+heads = many head ~ tops
+
+abbrev pub source : Rule
+source = one m.Model ~ heads
+
+abbrev pub otherwise : Rule
+otherwise = one m.Else ~ many statement
+
+-- behind `if .. then`
+abbrev pub if_block : Rule
+if_block = many statement ~ many (one m.Elif ~ many statement) ~ optional otherwise ~ one m.EndIf
+
+-- behind `case .. of`
+abbrev pub case_block : Rule
+case_block = many (one m.Alternative ~ statement) ~ optional otherwise ~ one m.EndCase
+
+-- behind `repeat`
+abbrev pub repeat_block : Rule
+repeat_block = many statement ~ one m.Until
+
+-- behind `do`
+abbrev pub do_block : Rule
+do_block = many statement ~ one m.EndDo
+
+-- behind `initializations`; a name alone is a row of one label
+abbrev pub initializations_block : Rule
+initializations_block = many (one m.Bare or one m.Labels) ~ one m.EndInitializations
+
+-- what a statement is; one piece is an assignment, a list that is filled, a call, `break` or `next`
+abbrev pub statement_is : Rule
+statement_is = one m.Simple or one m.Bare or block m.If if_block or block m.Case case_block or block m.Forall statement or block m.While statement or block m.Repeat repeat_block or block m.Do do_block or block m.Initializations initializations_block
+
+-- ---- forms
+
+-- each form has a number of its own
+abbrev pub number_of : Mould → ℕ
+number_of m.Unknown = 0
+number_of m.Model = 1
+number_of m.Uses = 2
+number_of m.Options = 3
+number_of m.EndModel = 4
+number_of m.Parameters = 5
+number_of m.EndParameters = 6
+number_of m.Declarations = 7
+number_of m.EndDeclarations = 8
+number_of m.Definition = 9
+number_of m.Typed = 10
+number_of m.RecordOf = 11
+number_of m.EndRecord = 12
+number_of m.Procedure = 13
+number_of m.Function = 14
+number_of m.EndProcedure = 15
+number_of m.EndFunction = 16
+number_of m.Forward = 17
+number_of m.Simple = 18
+number_of m.Bare = 19
+number_of m.If = 20
+number_of m.Elif = 21
+number_of m.Else = 22
+number_of m.EndIf = 23
+number_of m.Case = 24
+number_of m.Alternative = 25
+number_of m.EndCase = 26
+number_of m.Forall = 27
+number_of m.While = 28
+number_of m.Repeat = 29
+number_of m.Until = 30
+number_of m.Do = 31
+number_of m.EndDo = 32
+number_of m.Initializations = 33
+number_of m.Labels = 34
+number_of m.EndInitializations = 35
+
+abbrev pub same : Mould → Mould → Bool
+same a b = nat_eq (number_of a) (number_of b)
+
+-- the pieces that open a block
+abbrev pub opens_block : Mould → Bool
+opens_block m.Parameters = true
+opens_block m.Declarations = true
+opens_block m.RecordOf = true
+opens_block m.Procedure = true
+opens_block m.Function = true
+opens_block m.If = true
+opens_block m.Case = true
+opens_block m.Forall = true
+opens_block m.While = true
+opens_block m.Repeat = true
+opens_block m.Do = true
+opens_block m.Initializations = true
+opens_block _ = false
+
+-- whether a piece inside so many open blocks breaks a limit
+abbrev pub breaks_limit : ℕ → PieceForm → Bool
+breaks_limit depth x = is_some (own_limit x.form) || (opens_block (mould_of x.form) && nat_le limit depth)
+
+-- the form that counts inside so many open blocks: a piece that breaks a limit has none
+unfoldable pub form_at : ℕ → PieceForm → Mould
+form_at depth x = if breaks_limit depth x then m.Unknown else mould_of x.form
+
+-- the form of the first piece; where there is no piece, there is no form
+abbrev pub front : ℕ → List PieceForm → Mould
+front depth [] = m.Unknown
+front depth (x ∷ xs) = form_at depth x
+
+-- whether a part begins with a piece of this form, if it is known of statements. No part that is
+-- chosen or entered begins with one that may be missing
+abbrev pub begins_if : Bool → Rule → Mould → Bool
+begins_if named (one form) x = same form x
+begins_if named (block form rest) x = same form x
+begins_if named (a ~ b) x = begins_if named a x
+begins_if named (a or b) x = begins_if named a x || begins_if named b x
+begins_if named (optional a) x = begins_if named a x
+begins_if named (many a) x = begins_if named a x
+begins_if named statement x = named
+
+-- whether a part begins with a piece of this form; no statement begins with a statement
+abbrev pub begins : Rule → Mould → Bool
+begins rule x = begins_if (begins_if false statement_is x) rule x
+
+-- ---- what a production takes
+
+-- a production took pieces, and these are left; or it broke, and these are left from the faulty one on
+pub data Reading : Type 0 where
+  took : List PieceForm → Reading
+  broke : List PieceForm → Reading
+
+-- so a production that stands inside `depth` open blocks reads pieces
+pub data Reads : Rule → ℕ → List PieceForm → Reading → Type 0 where
+  -- one piece is taken where it has its form, and breaks where it is not there or has another form
+  takes : (form : Mould) (depth : ℕ) (x : PieceForm) (xs : List PieceForm) → same form (form_at depth x) ≡ true → Reads (one form) depth (x ∷ xs) (took xs)
+  breaks : (form : Mould) (depth : ℕ) (pieces : List PieceForm) → same form (front depth pieces) ≡ false → Reads (one form) depth pieces (broke pieces)
+  -- behind the piece that opens a block the depth is one more
+  opens : (form : Mould) (rest : Rule) (depth : ℕ) (x : PieceForm) (xs : List PieceForm) (end : Reading) → same form (form_at depth x) ≡ true → Reads rest (suc depth) xs end → Reads (block form rest) depth (x ∷ xs) end
+  opens_not : (form : Mould) (rest : Rule) (depth : ℕ) (pieces : List PieceForm) → same form (front depth pieces) ≡ false → Reads (block form rest) depth pieces (broke pieces)
+  -- a sequence breaks where its first part does
+  breaks_first : (a b : Rule) (depth : ℕ) (pieces left : List PieceForm) → Reads a depth pieces (broke left) → Reads (a ~ b) depth pieces (broke left)
+  -- a sequence whose first part takes pieces reads on behind these
+  goes_on : (a b : Rule) (depth : ℕ) (pieces between : List PieceForm) (end : Reading) → Reads a depth pieces (took between) → Reads b depth between end → Reads (a ~ b) depth pieces end
+  -- a choice reads as the part does that begins with the first piece, and breaks there if there is none
+  as_first : (a b : Rule) (depth : ℕ) (pieces : List PieceForm) (end : Reading) → begins a (front depth pieces) ≡ true → Reads a depth pieces end → Reads (a or b) depth pieces end
+  as_second : (a b : Rule) (depth : ℕ) (pieces : List PieceForm) (end : Reading) → begins a (front depth pieces) ≡ false → begins b (front depth pieces) ≡ true → Reads b depth pieces end → Reads (a or b) depth pieces end
+  as_none : (a b : Rule) (depth : ℕ) (pieces : List PieceForm) → begins a (front depth pieces) ≡ false → begins b (front depth pieces) ≡ false → Reads (a or b) depth pieces (broke pieces)
+  -- an optional or repeated part is entered exactly where the next piece has the form of its first piece
+  entered : (a : Rule) (depth : ℕ) (pieces : List PieceForm) (end : Reading) → begins a (front depth pieces) ≡ true → Reads a depth pieces end → Reads (optional a) depth pieces end
+  missing : (a : Rule) (depth : ℕ) (pieces : List PieceForm) → begins a (front depth pieces) ≡ false → Reads (optional a) depth pieces (took pieces)
+  again : (a : Rule) (depth : ℕ) (pieces : List PieceForm) (end : Reading) → begins a (front depth pieces) ≡ true → Reads (a ~ many a) depth pieces end → Reads (many a) depth pieces end
+  no_more : (a : Rule) (depth : ℕ) (pieces : List PieceForm) → begins a (front depth pieces) ≡ false → Reads (many a) depth pieces (took pieces)
+  by_name : (depth : ℕ) (pieces : List PieceForm) (end : Reading) → Reads statement_is depth pieces end → Reads statement depth pieces end
+
+-- the first of the pieces behind is the one at which a source breaks, or one that stands behind a whole
+-- source. The tokens of a text end with the first `end-model`, so there is none of these in a text
+abbrev pub BreaksAt : List PieceForm → List PieceForm → Type 0
+BreaksAt pieces after = Reads source 0 pieces (broke after) ⊎ (Reads source 0 pieces (took after) × (after ≢ []))
