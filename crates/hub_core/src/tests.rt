@@ -1,6 +1,6 @@
 //! Every row of the hub's table, in small jobs: each call with the reply that it gets.
 use crate::{Held, Hub, can_open};
-use job_calls::{Call, End, Listed};
+use job_calls::{Call, End, Listed, Way};
 use mos_text::{Blob, NoMemory, SharedBlob, Text};
 use sqlite_items::Items;
 use std::alloc::Global;
@@ -8,8 +8,13 @@ use std::process::Abort;
 use std::test::Fail;
 
 mod events;
+mod fitting;
+mod limits;
 mod models;
 mod pipes;
+mod random;
+mod reading;
+mod stopping;
 
 fn text(alloc: Global, text: &str) -> Result<Text, NoMemory> {
     Ok(Text::from_string(String::from_str(alloc, text)?))
@@ -102,6 +107,122 @@ fn running(rt: &impl Abort, alloc: Global) -> Result<Hub, Fail> {
     Ok(hub)
 }
 
+/// A call in short: of the model 1, the pipe p, the block x.
+#[derive(Clone, Copy)]
+enum Step {
+    Claim,
+    Finish(i32),
+    Run,
+    Stop,
+    Status,
+    Wait,
+    Next,
+    Peek,
+    IsEmpty,
+    /// An event of class 2 for the child.
+    Send(i32),
+    /// An event of class 2 for the one that started the caller.
+    Tell(i32),
+    Read,
+    Write(u8),
+    OpenToRead,
+    OpenToWrite,
+    /// So many bytes of this value.
+    Put(usize, u8),
+    Take,
+    Close,
+}
+
+fn event_call(to: Option<u32>, value: i32) -> Call {
+    Call::Send {
+        to,
+        class: 2,
+        value,
+    }
+}
+
+fn run_call(alloc: Global) -> Result<Call, Fail> {
+    let params = text(alloc, "")?;
+    Ok(Call::Run { model: 1, params })
+}
+
+fn read_call(alloc: Global) -> Result<Call, Fail> {
+    let name = text(alloc, "shmem:x")?;
+    Ok(Call::Read { name })
+}
+
+fn write_call(alloc: Global, byte: u8) -> Result<Call, Fail> {
+    let name = text(alloc, "shmem:x")?;
+    let bytes = SharedBlob::new(alloc, Blob::new(alloc, &[byte])?)?;
+    Ok(Call::Write { name, bytes })
+}
+
+fn open_call(alloc: Global, way: Way) -> Result<Call, Fail> {
+    let name = text(alloc, "p")?;
+    Ok(Call::PipeOpen { name, way })
+}
+
+fn put_call(alloc: Global, many: usize, byte: u8) -> Result<Call, Fail> {
+    let name = text(alloc, "p")?;
+    let bytes = Blob::from_vec(vec![in alloc; byte; many]?);
+    Ok(Call::PipePut { name, bytes })
+}
+
+fn take_call(alloc: Global) -> Result<Call, Fail> {
+    let name = text(alloc, "p")?;
+    Ok(Call::PipeTake { name })
+}
+
+fn close_call(alloc: Global) -> Result<Call, Fail> {
+    let name = text(alloc, "p")?;
+    Ok(Call::PipeClose { name })
+}
+
+fn pipe_call(alloc: Global, step: Step) -> Result<Call, Fail> {
+    match step {
+        Step::OpenToRead => open_call(alloc, Way::Reads),
+        Step::OpenToWrite => open_call(alloc, Way::Writes),
+        Step::Put(many, byte) => put_call(alloc, many, byte),
+        Step::Take => take_call(alloc),
+        _ => close_call(alloc),
+    }
+}
+
+/// The call in full.
+fn call_of(alloc: Global, step: Step) -> Result<Call, Fail> {
+    match step {
+        Step::Claim => Ok(Call::Claim),
+        Step::Finish(code) => Ok(Call::Finish(End::Code(code))),
+        Step::Run => run_call(alloc),
+        Step::Stop => Ok(Call::Stop { model: 1 }),
+        Step::Status => Ok(Call::Status { model: 1 }),
+        Step::Wait => Ok(Call::Wait),
+        Step::Next => Ok(Call::Next),
+        Step::Peek => Ok(Call::Peek),
+        Step::IsEmpty => Ok(Call::IsEmpty),
+        Step::Send(value) => Ok(event_call(Some(1), value)),
+        Step::Tell(value) => Ok(event_call(None, value)),
+        Step::Read => read_call(alloc),
+        Step::Write(byte) => write_call(alloc, byte),
+        _ => pipe_call(alloc, step),
+    }
+}
+
+/// A row of a table: the caller, the call, and what is answered.
+type Row = ((u32, Option<u32>), Step, &'static str);
+
+/// Makes the calls one after the other.
+fn play(rt: &impl Abort, alloc: Global, hub: &mut Hub, rows: &[Row]) -> Result<(), Fail> {
+    for (caller, step, want) in rows {
+        let call = call_of(alloc, *step)?;
+        expect(rt, alloc, hub, *caller, call, want)?;
+    }
+    Ok(())
+}
+
 const MASTER: (u32, Option<u32>) = (0, Some(0));
 
 const CHILD: (u32, Option<u32>) = (1, Some(1));
+
+/// Lane 1 by itself.
+const LANE: (u32, Option<u32>) = (1, None);

@@ -54,7 +54,7 @@ plain log run _ _ (outcome.put name bytes j) = (refl, refl, inl refl)
 plain log run _ _ (outcome.took_all name) = (refl, refl, inl refl)
 plain log run _ _ (outcome.ended name a b) = (refl, refl, inl refl)
 
-not_given : (reply : Reply) (k : ℕ) → is_given reply ≡ false → claims k reply ≡ false
+pub not_given : (reply : Reply) (k : ℕ) → is_given reply ≡ false → claims k reply ≡ false
 not_given (Claimed run source params) k e = absurd (false_true (sym e))
 not_given reply k e = refl
 
@@ -296,7 +296,7 @@ least_by log g all from many k le go false is e =
     let here : from ≡ k = ap unwrap e in
     (omega (arith, here, more, le), omega (arith, more, le))
 
-least : (log : List Entry) (g : ℕ) → ((k : ℕ) → is_claimed k log ≡ nat_lt k g) → (from many k : ℕ) → from ≤ g
+pub least : (log : List Entry) (g : ℕ) → ((k : ℕ) → is_claimed k log ≡ nat_lt k g) → (from many k : ℕ) → from ≤ g
     → first_unclaimed log from many ≡ Some k → (k ≡ g) × (g < from + many)
 least log g all from zero k le e = absurd (none_is_some k e)
 least log g all from (suc many) k le e =

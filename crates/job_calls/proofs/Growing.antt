@@ -67,3 +67,24 @@ legal_cut [] after e h = opens refl h.0
 legal_cut (x ∷ xs) after e h =
     let r = on_cut (x ∷ []) xs after e h.1 in
     follows (h.0, r.0) r.1
+
+-- what holds of an opening, and of each legal journal with one more entry, holds of every legal journal
+pub legal_grow : (P : List Entry → Type 0) → ((e : Entry) → IsOpening e → P (e ∷ []))
+    → ((log : List Entry) (e : Entry) → IsLegal log → P log → Follows log e → P (log ++ e ∷ []))
+    → (journal : List Entry) → IsLegal journal → P journal
+legal_grow P first step journal h =
+    (legal_induct (λ log. IsLegal log × P log)
+    (λ e o. ((o, tt), first e o))
+    (λ log e p f. (legal_more log e p.0 f, step log e p.0 p.1 f)) journal h).1
+
+-- entries that follow on, cut in two: the first ones follow on alone, and the others behind them
+on_split : (log xs ys : List Entry) → FollowOn log (xs ++ ys) → FollowOn log xs × FollowOn (log ++ xs) ys
+on_split log [] ys h = (tt, subst (λ b. FollowOn b ys) (sym (append-nil log)) h)
+on_split log (x ∷ xs) ys h =
+    let r = on_split (log ++ x ∷ []) xs ys h.1 in
+    ((h.0, r.0), subst (λ b. FollowOn b ys) (append_assoc log (x ∷ []) xs) r.1)
+
+pub legal_split : (xs : List Entry) (y : Entry) (ys zs : List Entry) → IsLegal ((xs ++ y ∷ ys) ++ zs)
+    → IsLegal (xs ++ y ∷ ys) × FollowOn (xs ++ y ∷ ys) zs
+legal_split [] y ys zs h = let r = on_split (y ∷ []) ys zs h.1 in ((h.0, r.0), r.1)
+legal_split (x ∷ xs) y ys zs h = let r = on_split (x ∷ []) (xs ++ y ∷ ys) zs h.1 in ((h.0, r.0), r.1)

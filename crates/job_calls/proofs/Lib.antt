@@ -7,3 +7,5 @@ pub mod Lists
 pub mod Taking
 pub mod Piping
 pub mod Listing
+pub mod Holding
+pub mod Ending

@@ -1,8 +1,8 @@
 -- Lists: what stands at a place, and what was last given.
 
-use Rattle.std.proofs.Common.{◌≡◌, ℕ, suc, ◌+◌, List, [], ◌∷◌, ◌++◌, Option, Some, None, refl, sym, ap, ◌∙◌, length, arith}
+use Rattle.std.proofs.Common.{◌≡◌, ℕ, suc, ◌+◌, Bool, true, false, ◌||◌, List, [], ◌∷◌, ◌++◌, Option, Some, None, refl, sym, ap, ◌∙◌, length, arith}
 use Rattle.std.specs.Prelude.{slice_get, is_some}
-use Rattle.std.specs.List.{enumerate_from}
+use Rattle.std.specs.List.{enumerate_from, list_any}
 use Rattle.job_calls.specs.Runs.{later, last_given}
 use Rattle.job_calls.proofs.Outcomes.{false_true}
 
@@ -63,3 +63,22 @@ same_cut (a ∷ xs) (b ∷ ys) us vs x y e l =
     let rest = same_cut xs ys us vs x y (ap tail_of e) (omega (arith, l)) in
     let h : a ≡ b = ap (head_or a) e in
     (ap (λ z. z ∷ xs) h ∙ ap (λ zs. b ∷ zs) rest.0, rest.1)
+
+-- a list cut at one that passes
+pub record AnyCut {A : Type 0} (test : A → Bool) (xs : List A) : Type 0 where
+  pub before : List A
+  pub at : A
+  pub after : List A
+  pub cut : xs ≡ before ++ at ∷ after
+  pub passes : test at ≡ true
+
+cut_here : {A : Type 0} (test : A → Bool) (x : A) (xs : List A) (b : Bool) → test x ≡ b → (b || list_any test xs) ≡ true
+    → (list_any test xs ≡ true → AnyCut test xs) → AnyCut test (x ∷ xs)
+cut_here test x xs true is e go = record { before = []; at = x; after = xs; cut = refl; passes = is }
+cut_here test x xs false is e go =
+    let c = go e in
+    record { before = x ∷ c.before; at = c.at; after = c.after; cut = ap (λ ys. x ∷ ys) c.cut; passes = c.passes }
+
+pub any_cut : {A : Type 0} (test : A → Bool) (xs : List A) → list_any test xs ≡ true → AnyCut test xs
+any_cut test [] e = absurd (false_true e)
+any_cut test (x ∷ xs) e = cut_here test x xs (test x) refl e (any_cut test xs)

@@ -119,7 +119,7 @@ write_is log name place q =
       last = c.last;
     }
 
-session-snoc : (name : List ℕ) (log : List Entry) (e : Entry) (b : Bool) → opens Reads name e ≡ b
+pub session-snoc : (name : List ℕ) (log : List Entry) (e : Entry) (b : Bool) → opens Reads name e ≡ b
     → session name (log ++ e ∷ []) ≡ later (session name log) (if b then Some (length log) else None)
 session-snoc name log e b is =
     let zero_more : 0 + length log ≡ length log = omega arith in
@@ -128,7 +128,7 @@ session-snoc name log e b is =
     ∙ ap (λ o. later (session name log) (if o then Some (0 + length log) else None)) is
     ∙ ap (λ n. later (session name log) (if b then Some n else None)) zero_more
 
-abbrev part_of : Option ℕ → List Entry → List Entry
+abbrev pub part_of : Option ℕ → List Entry → List Entry
 part_of o journal = option_map_or (λ place. drop (place + 1) journal) o []
 
 -- a session that begins has no entries yet

@@ -1,9 +1,11 @@
 -- The laws of legal journals: what users rely on, whatever runs call and however many lanes there are.
 
-use Rattle.std.specs.Prelude.{◌≡◌, ◌≢◌, ◌<◌, ℕ, ℤ, pos, true, false, ◌&&◌, List, ◌∷◌, ◌++◌, Option, Some, None, ◌⊎◌, filter, map, length, codes}
+use Rattle.std.specs.Prelude.{◌≡◌, ◌≢◌, ◌<◌, ℕ, ℤ, pos, Bool, true, false, ◌&&◌, List, ◌∷◌, ◌++◌, Option, Some, None, ◌⊎◌, filter, map, length, codes}
 use Rattle.std.specs.List.{list_any}
+use Rattle.std.specs.Str.{bytes_eq}
 use Rattle.job_calls.specs.declared.call.Call.{Call}
 use Rattle.job_calls.specs.declared.call.Call.TheVariants.{Finish, Send, Read, Write, PipeTake}
+use Rattle.job_calls.specs.declared.call.Way.TheVariants.{Reads}
 use Rattle.job_calls.specs.declared.end.End.{End}
 use Rattle.job_calls.specs.declared.reply.Reply.{Reply}
 use Rattle.job_calls.specs.declared.reply.Reply.TheVariants.{Took, Queued, Found, Bytes, PipeEnd, Unit as Accepted}
@@ -13,7 +15,7 @@ use Rattle.job_calls.specs.Files.{data_of}
 use Rattle.job_calls.specs.Models.{parent_of, exit_code}
 use Rattle.job_calls.specs.Events.{arrivals, is_took}
 use Rattle.job_calls.specs.Blocks.{writes}
-use Rattle.job_calls.specs.Pipes.{in_session, put_in, taken_in}
+use Rattle.job_calls.specs.Pipes.{opens, in_session, put_in, taken_in}
 use Rattle.job_calls.specs.Legal.{IsLegal}
 
 -- a legal journal never has 1,100,000 entries
@@ -99,11 +101,32 @@ TakenOnce =
     (before between after : List Entry) (e f : Entry) → IsLegal (before ++ e ∷ between ++ f ∷ after)
     → is_took e.reply ≡ true → is_took f.reply ≡ true → place_taken e.reply ≢ place_taken f.reply
 
--- what was taken out of a pipe's session so far is a beginning of what was put into it
+-- entries of one session of the pipe: they stand behind an opening to read, with no other such opening among them; the
+-- whole session is the longest such part
+pub record IsSession (journal : List Entry) (name : List ℕ) (part : List Entry) : Type 0 where
+  pub before : List Entry
+  pub opening : Entry
+  pub after : List Entry
+  pub cut : journal ≡ (before ++ opening ∷ part) ++ after
+  pub begins : opens Reads name opening ≡ true
+  pub goes_on : list_any (opens Reads name) part ≡ false
+
+-- what was taken out of a pipe in a session is a beginning of what was put into it in that session
 abbrev pub PipedInOrder : Type 0
 PipedInOrder =
-    (journal : List Entry) → IsLegal journal → (name : List ℕ)
-    → (rest : List ℕ) × (put_in name (in_session name journal) ≡ taken_in name (in_session name journal) ++ rest)
+    (journal : List Entry) → IsLegal journal → (name : List ℕ) (part : List Entry) → IsSession journal name part
+    → (rest : List ℕ) × (put_in name part ≡ taken_in name part ++ rest)
+
+-- a take out of the pipe was answered with its end
+abbrev pub is_pipe_end : List ℕ → Call → Reply → Bool
+is_pipe_end name (PipeTake taken) PipeEnd = bytes_eq taken name
+is_pipe_end name _ _ = false
+
+-- where the end of a pipe was told, all was taken that was ever put into the session, before that or later
+abbrev pub PipedWhole : Type 0
+PipedWhole =
+    (journal : List Entry) → IsLegal journal → (name : List ℕ) (part : List Entry) → IsSession journal name part
+    → list_any (λ e. is_pipe_end name e.call e.reply) part ≡ true → put_in name part ≡ taken_in name part
 
 -- a name of a block in memory is no file's
 abbrev pub BlocksAreNotListed : Type 0

@@ -1,13 +1,11 @@
 -- Worked examples of the runs of a journal, and of replies that fit a call.
 
-use Rattle.std.specs.Prelude.{◌≡◌, ℕ, List, [], ◌∷◌, Option, Some, pos, negsuc, codes}
+use Rattle.std.specs.Prelude.{◌≡◌, List, [], ◌∷◌, Some, pos, negsuc, codes}
 use Rattle.mos_text.specs.declared.fault_kind.FaultKind.TheVariants.{Overflow, NotLoaded}
-use Rattle.job_calls.specs.declared.call.Call.{Call}
 use Rattle.job_calls.specs.declared.call.Call.TheVariants.{Open, Claim, Finish, Compile, Load, Run, Wait, Next, Status}
 use Rattle.job_calls.specs.declared.end.End.TheVariants as end
 use Rattle.job_calls.specs.declared.entry.Entry.{Entry}
 use Rattle.job_calls.specs.declared.entry.Listed.{Listed}
-use Rattle.job_calls.specs.declared.reply.Reply.{Reply}
 use Rattle.job_calls.specs.declared.reply.Reply.TheVariants.{Opened, Claimed, Done, Code, Loaded, Started, Took, Number, Halt, Fault, Unit as Acknowledged}
 use Rattle.job_calls.specs.Words.{run_count}
 use Rattle.job_calls.specs.Runs.{source_of, params_of, calls_of, replies_of, finish_of}

@@ -1,5 +1,5 @@
 //! What holds of every legal journal: functions that do nothing, whose contracts are the laws.
-ghost use Rattle.job_calls.specs.Laws.{FewEntries, RepliesAreTrue, TakenInOrder, TakenOnce, PipedInOrder, BlocksAreNotListed};
+ghost use Rattle.job_calls.specs.Laws.{FewEntries, RepliesAreTrue, TakenInOrder, TakenOnce, PipedInOrder, PipedWhole, BlocksAreNotListed};
 
 /// A legal journal has fewer than 1,100,000 entries, so that a place always fits 32 bits.
 pub fn few_entries()
@@ -23,9 +23,14 @@ pub fn taken_once()
     ensures { TakenOnce }
 {}
 
-/// What was taken out of a pipe's session is a beginning of what was put into it.
+/// In each session of a pipe, what was taken is a beginning of what was put.
 pub fn piped_in_order()
     ensures { PipedInOrder }
+{}
+
+/// Where a reader was told the end of a pipe, it had taken all that is ever put into that session.
+pub fn piped_whole()
+    ensures { PipedWhole }
 {}
 
 /// No file is listed under the name of a block in memory, so that what is read there was written.

@@ -1,5 +1,5 @@
 -- by computing, and by the ranges of the types
-use Rattle.std.proofs.Common.{refl, arith, rules}
+use Rattle.std.proofs.Common.{arith, rules}
 use Rattle.job_calls.proofs.journals.replies_that_fit.Goals as goal
 
 pub returns-clause-fitting : goal.returns-clause-fitting

@@ -1,0 +1,87 @@
+//! Calls that do not fit, one for each condition.
+use super::{CHILD, LANE, MASTER, Row, Step, hub, loaded, play, running};
+use std::test::Fail;
+
+const NO_LANE: &[Row] = &[
+    ((2, None), Step::Claim, "unfit"),
+    ((2, Some(0)), Step::Wait, "unfit"),
+    (MASTER, Step::Wait, "unfit"),
+];
+
+#[test]
+fn only_lanes_of_the_job_call(rt: HostRuntime) -> Result<(), Fail> {
+    let alloc = rt.alloc();
+    let mut hub = hub(&rt, alloc, 2)?;
+    play(&rt, alloc, &mut hub, NO_LANE)
+}
+
+const NOT_CLAIMED: &[Row] = &[
+    (MASTER, Step::Run, "Started { run: 1 }"),
+    (CHILD, Step::Wait, "unfit"),
+    ((0, Some(1)), Step::Wait, "unfit"),
+    (LANE, Step::Wait, "unfit"),
+    (CHILD, Step::Claim, "unfit"),
+];
+
+#[test]
+fn a_run_calls_once_it_is_claimed(rt: HostRuntime) -> Result<(), Fail> {
+    let alloc = rt.alloc();
+    let mut hub = loaded(&rt, alloc, 2)?;
+    play(&rt, alloc, &mut hub, NOT_CLAIMED)
+}
+
+const HELD: &[Row] = &[
+    (LANE, Step::Claim, "unfit"),
+    ((1, Some(0)), Step::IsEmpty, "unfit"),
+    ((0, Some(1)), Step::IsEmpty, "unfit"),
+    (CHILD, Step::Finish(0), "Unit"),
+    (CHILD, Step::IsEmpty, "unfit"),
+    (CHILD, Step::Finish(0), "unfit"),
+    (LANE, Step::Claim, "not yet"),
+    (MASTER, Step::Finish(0), "Unit"),
+    (LANE, Step::Claim, "Done"),
+    (LANE, Step::Claim, "unfit"),
+];
+
+#[test]
+fn a_lane_holds_one_run_at_a_time(rt: HostRuntime) -> Result<(), Fail> {
+    let alloc = rt.alloc();
+    let mut hub = running(&rt, alloc)?;
+    play(&rt, alloc, &mut hub, HELD)
+}
+
+const OVER: &[Row] = &[
+    (MASTER, Step::Stop, "Unit"),
+    (CHILD, Step::Wait, "Halt"),
+    (CHILD, Step::Wait, "unfit"),
+    (CHILD, Step::Finish(0), "Unit"),
+    (MASTER, Step::Read, "Fault(NoFile)"),
+    (MASTER, Step::Wait, "unfit"),
+    (MASTER, Step::Finish(0), "Unit"),
+];
+
+#[test]
+fn a_run_that_is_over_only_finishes(rt: HostRuntime) -> Result<(), Fail> {
+    let alloc = rt.alloc();
+    let mut hub = running(&rt, alloc)?;
+    play(&rt, alloc, &mut hub, OVER)
+}
+
+const ENDS: &[Row] = &[
+    (CHILD, Step::OpenToRead, "Session { place: Place(6) }"),
+    (MASTER, Step::Close, "unfit"),
+    (MASTER, Step::OpenToWrite, "Session { place: Place(6) }"),
+    (CHILD, Step::Put(1, 0), "unfit"),
+    (MASTER, Step::Take, "unfit"),
+    (CHILD, Step::Close, "Unit"),
+    (CHILD, Step::Close, "unfit"),
+    (MASTER, Step::Close, "Unit"),
+    (MASTER, Step::Put(1, 0), "unfit"),
+];
+
+#[test]
+fn only_holders_use_the_ends_of_a_pipe(rt: HostRuntime) -> Result<(), Fail> {
+    let alloc = rt.alloc();
+    let mut hub = running(&rt, alloc)?;
+    play(&rt, alloc, &mut hub, ENDS)
+}
