@@ -1,2 +1,8 @@
+pub mod Cells
+pub mod Cuts
+pub mod Fixed
 pub mod Forms
+pub mod Heads
+pub mod Lists
 pub mod Phrases
+pub mod Telling

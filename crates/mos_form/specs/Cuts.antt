@@ -1,0 +1,21 @@
+-- Where the words of a piece part.
+
+use Rattle.std.specs.Prelude.{Bool, true, false, List, [], ◌∷◌, Option, Some, None}
+use Rattle.mos_tree.specs.declared.statement.Assignment.{Assignment}
+use Rattle.mos_tree.specs.declared.statement.Assignment.TheVariants as assignment
+use Rattle.mos_scan.specs.declared.token.TokenKind.TheVariants as t
+use Rattle.mos_scan.specs.declared.token.TokenKind.{TokenKind}
+use Rattle.mos_scan.specs.declared.reading.Word.{Word}
+use Rattle.mos_scan.specs.declared.reading.Word.TheVariants as w
+
+-- what a word assigns, if it does
+abbrev pub operator_of : Word → Option Assignment
+operator_of (w.Key t.Assign) = Some assignment.Set
+operator_of (w.Key t.AddAssign) = Some assignment.Add
+operator_of (w.Key t.TakeAssign) = Some assignment.Take
+operator_of _ = None
+
+-- the one word `record`
+abbrev pub is_record : List Word → Bool
+is_record (w.Key t.Record ∷ []) = true
+is_record _ = false
