@@ -1,1 +1,4 @@
+pub mod Keyed
+pub mod Opening
+pub mod Parting
 pub mod Telling

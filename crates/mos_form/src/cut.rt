@@ -11,7 +11,7 @@ ghost use Rattle.mos_form.specs.Cuts as spec;
 
 use mos_scan::{TokenKind, Word};
 use mos_text::Text;
-use mos_tree::Assignment;
+use mos_tree::{Assignment, Direction};
 
 /// The first word, and the others.
 pub(crate) fn first(words: &[Word]) -> Option<(&Word, &[Word])>
@@ -58,19 +58,48 @@ pub(crate) fn enclosed(words: &[Word], opens: TokenKind, closes: TokenKind) -> O
     }
 }
 
+/// The name that the word is.
+fn name_of(word: &Word) -> Option<&Text>
+    ensures { MatchOption result ((name : List ℕ) → word.now ≡ w.Name name → ⊥) (λ name. word.now ≡ w.Name name.now) }
+{
+    match word {
+        Word::Name(name) => Some(name),
+        _ => None,
+    }
+}
+
+/// The first word, where it is a name, and the others.
+pub(crate) fn first_name(words: &[Word]) -> Option<(&Text, &[Word])>
+    ensures { MatchOption result ((name : List ℕ) (rest : List word_type) → words.now ≡ w.Name name ∷ rest → ⊥) (λ p. words.now ≡ w.Name p.0.now ∷ p.1.now) }
+{
+    match first(words) {
+        Some((Word::Name(name), rest)) => Some((name, rest)),
+        _ => None,
+    }
+}
+
+/// The first word, where it is a token, and the others.
+pub(crate) fn first_key(words: &[Word]) -> Option<(TokenKind, &[Word])>
+    ensures { MatchOption result ((kind : kind_type) (rest : List word_type) → words.now ≡ w.Key kind ∷ rest → ⊥) (λ p. words.now ≡ w.Key p.0 ∷ p.1.now) }
+{
+    match first(words) {
+        Some((Word::Key(kind), rest)) => Some((*kind, rest)),
+        _ => None,
+    }
+}
+
 /// A part that ends in a field: the words between its brackets, and the field.
 pub(crate) fn before_field(words: &[Word]) -> Option<(&[Word], &Text)>
     ensures { MatchOption result ((inside : List word_type) (field : List ℕ) → words.now ≡ inside ++ w.Key t.CloseRound ∷ w.Key t.Dot ∷ w.Name field ∷ [] → ⊥) (λ p. words.now ≡ p.0.now ++ w.Key t.CloseRound ∷ w.Key t.Dot ∷ w.Name p.1.now ∷ []) }
 {
-    match last(words) {
-        Some((Word::Name(field), before)) => match before_last(before, TokenKind::Dot) {
-            Some(before) => match before_last(before, TokenKind::CloseRound) {
-                Some(inside) => Some((inside, field)),
-                None => None,
-            },
+    let (word, before) = last(words)?;
+    let field = name_of(word)?;
+    match before_last(before, TokenKind::Dot) {
+        Some(target) => match before_last(target, TokenKind::CloseRound) {
+            Some(inside) => Some((inside, field)),
             None => None,
         },
-        _ => None,
+        None => None,
     }
 }
 
@@ -141,6 +170,17 @@ pub(crate) fn operator_of(word: &Word) -> Option<Assignment>
         Word::Key(TokenKind::Assign) => Some(Assignment::Set),
         Word::Key(TokenKind::AddAssign) => Some(Assignment::Add),
         Word::Key(TokenKind::TakeAssign) => Some(Assignment::Take),
+        _ => None,
+    }
+}
+
+/// The way that the word says.
+pub(crate) fn direction_of(word: &Word) -> Option<Direction>
+    ensures { result ≡ spec.direction_of word.now }
+{
+    match word {
+        Word::Key(TokenKind::From) => Some(Direction::From),
+        Word::Key(TokenKind::To) => Some(Direction::To),
         _ => None,
     }
 }

@@ -6,7 +6,7 @@ ghost use Rattle.mos_form.specs.Fixed as fixed;
 ghost use Rattle.mos_form.specs.Phrases.{Phrase, answer};
 ghost use Rattle.mos_form.specs.Telling as spec;
 
-use crate::cut::{before_result, first};
+use crate::cut::{before_result, first, first_name, is_key};
 use crate::expressions::refused;
 use crate::form::{Form, Mould};
 use mos_scan::{TokenKind, Word};
@@ -99,9 +99,9 @@ fn function_of(
 pub(crate) fn procedure(alloc: Global, forward: bool, words: &[Word]) -> Result<Form, NoMemory>
     ensures { IfOk result (spec.TellsPiece (fixed.lead forward t.Procedure words.now)) }
 {
-    match first(words) {
-        Some((Word::Name(name), formals)) => procedure_of(alloc, forward, name, formals),
-        _ => Ok(Form::Unknown),
+    match first_name(words) {
+        Some((name, formals)) => procedure_of(alloc, forward, name, formals),
+        None => Ok(Form::Unknown),
     }
 }
 
@@ -122,9 +122,9 @@ fn after_name(alloc: Global, forward: bool, name: &Text, words: &[Word]) -> Resu
 pub(crate) fn function(alloc: Global, forward: bool, words: &[Word]) -> Result<Form, NoMemory>
     ensures { IfOk result (spec.TellsPiece (fixed.lead forward t.Function words.now)) }
 {
-    match first(words) {
-        Some((Word::Name(name), rest)) => after_name(alloc, forward, name, rest),
-        _ => Ok(Form::Unknown),
+    match first_name(words) {
+        Some((name, rest)) => after_name(alloc, forward, name, rest),
+        None => Ok(Form::Unknown),
     }
 }
 
@@ -133,8 +133,15 @@ pub(crate) fn forward(alloc: Global, words: &[Word]) -> Result<Form, NoMemory>
     ensures { IfOk result (spec.TellsPiece (w.Key t.Forward ∷ words.now)) }
 {
     match first(words) {
-        Some((Word::Key(TokenKind::Procedure), rest)) => procedure(alloc, true, rest),
-        Some((Word::Key(TokenKind::Function), rest)) => function(alloc, true, rest),
-        _ => Ok(Form::Unknown),
+        Some((word, rest)) => {
+            if is_key(word, TokenKind::Procedure) {
+                procedure(alloc, true, rest)
+            } else if is_key(word, TokenKind::Function) {
+                function(alloc, true, rest)
+            } else {
+                Ok(Form::Unknown)
+            }
+        }
+        None => Ok(Form::Unknown),
     }
 }

@@ -7,7 +7,10 @@ ghost use Rattle.mos_form.specs.Fixed as fixed;
 ghost use Rattle.mos_form.specs.Telling as spec;
 
 use crate::cells::cell_assignment;
-use crate::cut::{before_field, before_last, enclosed, first, is_record, operator_of, parted};
+use crate::cut::{
+    before_field, before_last, direction_of, enclosed, first, first_key, first_name, is_key,
+    is_record, operator_of, parted,
+};
 use crate::expressions::{
     alternative, assignment, call, definition, filling, forall, guarded, initializations, typed_as,
 };
@@ -17,7 +20,7 @@ use crate::headings::{forward, function, model, options, procedure};
 use crate::lists::{labels, uses};
 use mos_scan::{TokenKind, Word};
 use mos_text::{NoMemory, Text};
-use mos_tree::{Assignment, Direction, Reference};
+use mos_tree::{Assignment, Reference};
 use mos_typing::{expressions_have_plain_words, names};
 use std::alloc::Global;
 
@@ -37,10 +40,12 @@ pub fn form_of(alloc: Global, words: &[Word]) -> Result<Form, NoMemory>
 fn other(alloc: Global, words: &[Word]) -> Result<Form, NoMemory>
     ensures { IfOk result (spec.TellsPiece words.now) }
 {
-    match first(words) {
-        Some((Word::Key(kind), rest)) => keyed(alloc, *kind, rest),
-        Some((Word::Name(name), rest)) => named(alloc, words, name, rest),
-        _ => Ok(Form::Unknown),
+    match first_key(words) {
+        Some((kind, rest)) => keyed(alloc, kind, rest),
+        None => match first_name(words) {
+            Some((name, rest)) => named(alloc, words, name, rest),
+            None => Ok(Form::Unknown),
+        },
     }
 }
 
@@ -123,9 +128,11 @@ fn data_block(alloc: Global, rest: &[Word]) -> Result<Form, NoMemory>
     ensures { IfOk result (spec.TellsPiece (w.Key t.Initializations ∷ rest.now)) }
 {
     match first(rest) {
-        Some((Word::Key(TokenKind::From), name)) => initializations(alloc, Direction::From, name),
-        Some((Word::Key(TokenKind::To), name)) => initializations(alloc, Direction::To, name),
-        _ => Ok(Form::Unknown),
+        Some((word, name)) => match direction_of(word) {
+            Some(direction) => initializations(alloc, direction, name),
+            None => Ok(Form::Unknown),
+        },
+        None => Ok(Form::Unknown),
     }
 }
 
@@ -214,9 +221,9 @@ fn set_variable(
 fn dotted(alloc: Global, name: &Text, behind: &[Word]) -> Result<Form, NoMemory>
     ensures { IfOk result (spec.TellsPiece (w.Name name.now ∷ w.Key t.Dot ∷ behind.now)) }
 {
-    match first(behind) {
-        Some((Word::Name(field), rest)) => after_field(alloc, name, field, rest),
-        _ => Ok(Form::Unknown),
+    match first_name(behind) {
+        Some((field, rest)) => after_field(alloc, name, field, rest),
+        None => Ok(Form::Unknown),
     }
 }
 
@@ -300,8 +307,14 @@ fn listed(alloc: Global, words: &[Word]) -> Result<Form, NoMemory>
     ensures { IfOk result (spec.TellsList words.now) }
 {
     match parted(words) {
-        Some((before, Word::Key(TokenKind::Colon), behind)) => typed(alloc, before, behind),
-        _ => labels(alloc, words),
+        Some((before, word, behind)) => {
+            if is_key(word, TokenKind::Colon) {
+                typed(alloc, before, behind)
+            } else {
+                labels(alloc, words)
+            }
+        }
+        None => labels(alloc, words),
     }
 }
 
