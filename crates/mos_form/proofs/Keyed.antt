@@ -19,13 +19,13 @@ use Rattle.mos_form.specs.declared.form.Guard.TheVariants as guard
 use Rattle.mos_form.specs.declared.head.Head.{Head}
 use Rattle.mos_form.specs.declared.head.Head.TheVariants as h
 use Rattle.mos_form.specs.Heads.{head_of}
-use Rattle.mos_form.specs.Cuts.{direction_of}
+use Rattle.mos_form.specs.Cuts.{direction_of, operator_of}
 use Rattle.mos_form.specs.Fixed.{guard_word, around}
 use Rattle.mos_form.specs.Phrases.{Target, to_result, Phrase, assign, if_then, elif_then, case_of, forall_in, while_so, until_so, initializations, direction_word, operator_word, words_of, IsWell, IsPhrase, answer}
 use Rattle.mos_form.specs.Telling.{Tells, told, untold, by_height, IsAlternative, IsOther, TellsOne, TellsIndex, TellsPiece, assigned}
 use Rattle.mos_form.proofs.Telling.{embed_ok}
 use Rattle.mos_form.proofs.Opening.{head_is, key_head}
-use Rattle.mos_form.proofs.Parting.{operator_known, operator_none}
+use Rattle.mos_form.proofs.Parting.{operator_known, operator_same, operator_none, zero_max}
 
 pub tail_same : (a b : Word) (xs ys : List Word) → a ∷ xs ≡ b ∷ ys → xs ≡ ys
 tail_same a b xs ys e = cc
@@ -198,3 +198,27 @@ result_back : (rest : List Word) (p : Phrase) → IsPhrase (w.Key t.Returned ∷
     → (op : Assignment) × (s : Syntax) × IsGrouped s × (rest ≡ operator_word op ∷ spell s) × (p ≡ assign to_result op s)
 result_back rest (assign to_result op s) k e = (op, s, k.well.1, tail_same (w.Key t.Returned) (w.Key t.Returned) rest (operator_word op ∷ spell s) k.exact, refl)
 result_back rest _ k e = absurd cc
+
+result_answer : (op : Assignment) (s : Syntax) → answer (assign to_result op s) ≡ by_height (height s) (assigned reference.Returned op (tree s))
+result_answer op s = ap (λ n. by_height n (assigned reference.Returned op (tree s))) (zero_max (height s))
+
+pub result_piece : {E : Type 0} (op : Assignment) (x : Word) (rest value : List Word) → Some op ≡ operator_of x → rest ≡ x ∷ value → (r : Result Form E)
+    → IfOk r (TellsOne (assigned reference.Returned op) value) → IfOk r (TellsPiece (w.Key t.Returned ∷ rest))
+result_piece op x rest value is e r k =
+    embed_ok (IsSpelled value) (λ s. by_height (height s) (assigned reference.Returned op (tree s))) (IsOther (w.Key t.Returned ∷ rest)) answer (assign to_result op)
+    (λ s m. (record { well = (tt, m.grouped); exact = ap (λ z. w.Key t.Returned ∷ z) (e ∙ ap (λ z. z ∷ value) (operator_known x op is) ∙ ap (λ z. operator_word op ∷ z) m.exact) }, λ z. z))
+    (λ p m. let q = result_back rest p m.0 (key_head t.Returned rest p m.1 m.0.exact) in
+        let both : x ∷ value ≡ operator_word q.0 ∷ spell q.1 = sym e ∙ q.3 in
+        (q.1, record { grouped = q.2; exact = tail_same x (operator_word q.0) value (spell q.1) both }, q.4 ∙ ap (λ z. assign to_result z q.1) (operator_same x op q.0 is cc)))
+    (result_answer op) r k
+
+pub no_result : (x : Word) (rest value : List Word) → None ≡ operator_of x → rest ≡ x ∷ value → TellsPiece (w.Key t.Returned ∷ rest) f.Unknown
+no_result x rest value is e = no_piece (w.Key t.Returned ∷ rest)
+    (λ p m. let q = result_back rest p m.0 (key_head t.Returned rest p m.1 m.0.exact) in
+        let both : x ∷ value ≡ operator_word q.0 ∷ spell q.1 = sym e ∙ q.3 in
+        operator_none x is q.0 cc)
+
+pub empty_result : (rest : List Word) → rest ≡ [] → TellsPiece (w.Key t.Returned ∷ rest) f.Unknown
+empty_result rest e = no_piece (w.Key t.Returned ∷ rest)
+    (λ p m. let q = result_back rest p m.0 (key_head t.Returned rest p m.1 m.0.exact) in
+        let both : [] ≡ operator_word q.0 ∷ spell q.1 = sym e ∙ q.3 in cc)

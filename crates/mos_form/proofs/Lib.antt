@@ -1,4 +1,6 @@
+pub mod Exactly
 pub mod Keyed
 pub mod Opening
 pub mod Parting
+pub mod Routines
 pub mod Telling

@@ -1,6 +1,6 @@
 -- Words that are cut in one way only.
 
-use Rattle.std.proofs.Common.{◌≡◌, ℕ, suc, ◌+◌, Bool, true, false, ◌&&◌, cond, eqb, List, [], ◌∷◌, ◌++◌, length, take, drop, min, Option, Some, None, refl, sym, ◌∙◌, ap, subst, arith}
+use Rattle.std.proofs.Common.{◌≡◌, ℕ, suc, ◌+◌, Bool, true, false, ◌&&◌, cond, eqb, List, [], ◌∷◌, ◌++◌, length, take, drop, min, max, Option, Some, None, refl, sym, ◌∙◌, ap, subst, arith}
 use Rattle.std.specs.List.{list_all, prefix_len}
 use Rattle.std.proofs.lemmas.Bool.{eqb-true}
 use Rattle.std.proofs.lemmas.List.{append_assoc, take-append-drop}
@@ -176,3 +176,9 @@ parted_some xs front rest behind x n m e f b r s =
 
 pub parted_none : (xs rest : List Word) (n m : ℕ) → n ≡ prefix_len is_plain xs → m ≡ min n (length xs) → rest ≡ drop m xs → rest ≡ [] → ArePlain xs
 parted_none xs rest n m e f r s = all_plain xs (ap (λ z. drop z xs) (sym (same_length xs n m e f)) ∙ sym r ∙ s)
+
+pub operator_same : (x : Word) (a b : Assignment) → Some a ≡ operator_of x → x ≡ operator_word b → b ≡ a
+operator_same x a b e q = let r : Some a ≡ Some b = e ∙ ap operator_of q ∙ operator_read b in cc
+
+pub zero_max : (h : ℕ) → max 0 h ≡ h
+zero_max h = omega arith
