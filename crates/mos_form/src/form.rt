@@ -201,7 +201,7 @@ fn keyword_mould(word: Keyword) -> Mould
     }
 }
 
-fn guard_mould(word: Guard) -> Mould
+pub(crate) fn guard_mould(word: Guard) -> Mould
     ensures { result ≡ spec.guard_mould word }
 {
     match word {

@@ -1,0 +1,237 @@
+-- Pieces without expressions.
+
+use Rattle.std.proofs.Common.{◌≡◌, ℕ, nat_le, List, [], ◌∷◌, ◌++◌, Option, Some, None, Result, Ok, Err, IfOk, refl, sym, ◌∙◌, ap, subst}
+use Rattle.std.proofs.lemmas.List.{append_assoc}
+use Rattle.mos_tree.specs.declared.source.ModelName.TheVariants as named
+use Rattle.mos_tree.specs.declared.statement.Label.{Label}
+use Rattle.mos_scan.specs.declared.token.TokenKind.{TokenKind}
+use Rattle.mos_scan.specs.declared.token.TokenKind.TheVariants as t
+use Rattle.mos_scan.specs.declared.reading.Word.{Word}
+use Rattle.mos_scan.specs.declared.reading.Word.TheVariants as w
+use Rattle.mos_expr.specs.Grammar.{Names, one_name, and_name, list_of_names}
+use Rattle.mos_form.specs.declared.form.Form.{Form}
+use Rattle.mos_form.specs.declared.form.Form.TheVariants as f
+use Rattle.mos_form.specs.declared.form.Keyword.{Keyword}
+use Rattle.mos_form.specs.declared.form.Keyword.TheVariants as keyword
+use Rattle.mos_form.specs.declared.head.Head.TheVariants as h
+use Rattle.mos_form.specs.declared.lists.TextMode.TheVariants as x
+use Rattle.mos_form.specs.declared.lists.LabelMode.TheVariants as l
+use Rattle.mos_form.specs.Fixed as fixed
+use Rattle.mos_form.specs.Forms.{mould_of}
+use Rattle.mos_form.specs.Heads.{head_of}
+use Rattle.mos_form.specs.Lists.{read_texts, read_labels, uses, uses_of}
+use Rattle.mos_form.specs.Lists as lists
+use Rattle.mos_form.specs.Phrases.{to_result, Labels, last_label, and_label, Phrase, word, break_word, next_word, model_text, model_name, uses_modules, options_name, definition, typed, record_of, procedure, function, forward_procedure, forward_function, assign, fill, call, bare, if_then, elif_then, case_of, alternative, forall_in, while_so, until_so, initializations, labels, token_of, text_words, label_words, labels_of, words_of, form_of, tallest, answer}
+use Rattle.mos_form.specs.Telling.{Tells, told, untold, IsOther, TellsPiece}
+use Rattle.mos_form.proofs.Telling.{on_bool, tell_as}
+use Rattle.mos_form.proofs.Opening.{head_is, key_head}
+use Rattle.mos_form.proofs.Keyed.{tail_same}
+
+-- ---- the form of a piece is never that of none
+
+form_known : (p : Phrase) → form_of p ≡ f.Unknown → ⊥
+form_known (word a) e = cc
+form_known break_word e = cc
+form_known next_word e = cc
+form_known (model_text a) e = cc
+form_known (model_name a) e = cc
+form_known (uses_modules a) e = cc
+form_known (options_name a) e = cc
+form_known (definition a b) e = cc
+form_known (typed a b) e = cc
+form_known (record_of a) e = cc
+form_known (procedure a b) e = cc
+form_known (function a b c) e = cc
+form_known (forward_procedure a b) e = cc
+form_known (forward_function a b c) e = cc
+form_known (assign a b c) e = cc
+form_known (fill a b) e = cc
+form_known (call a b) e = cc
+form_known (bare a) e = cc
+form_known (if_then a) e = cc
+form_known (elif_then a) e = cc
+form_known (case_of a) e = cc
+form_known (alternative a) e = cc
+form_known (forall_in a) e = cc
+form_known (while_so a) e = cc
+form_known (until_so a) e = cc
+form_known (initializations a b) e = cc
+form_known (labels a) e = cc
+
+pub known : (p : Phrase) → answer p ≡ f.Unknown → ⊥
+known p e = on_bool (nat_le (tallest p) 500)
+    (λ b. let q : form_of p ≡ f.Unknown = sym (rw b refl) ∙ e in form_known p q)
+    (λ b. let q : f.TooHigh (mould_of (form_of p)) ≡ f.Unknown = sym (rw b refl) ∙ e in cc)
+
+-- a piece with this form, or the form of none
+pub data Exists (Is : Phrase → Type 0) (form : Form) : Type 0 where
+  exists : (p : Phrase) → Is p → answer p ≡ form → Exists Is form
+  lacks : form ≡ f.Unknown → Exists Is form
+
+-- the form that every piece of the words has
+pub fixed_form : (Is : Phrase → Type 0) (form : Form) → ((p : Phrase) → Is p → answer p ≡ form) → Exists Is form → Tells Phrase Is answer form
+fixed_form Is form only (exists p k e) = tell_as Is answer form p k e only
+fixed_form Is form only (lacks e) = subst (Tells Phrase Is answer) (sym e) (untold (λ p k. known p (only p k ∙ e)))
+
+pub ok_form : {E : Type 0} (r : Result Form E) (form : Form) (P : Form → Type 0) → IfOk r (λ z. z ≡ form) → P form → IfOk r P
+ok_form (Ok z) form P e k = subst P (sym e) k
+ok_form (Err z) form P e k = tt
+
+-- ---- `model`, `options`
+
+model_answer : (rest : List Word) (p : Phrase) → w.Key t.Model ∷ rest ≡ words_of p → head_is p ≡ Some h.Model → answer p ≡ fixed.model rest
+model_answer rest (model_text n) e k = ap fixed.model (sym (tail_same (w.Key t.Model) (w.Key t.Model) rest (w.Text n ∷ []) e))
+model_answer rest (model_name n) e k = ap fixed.model (sym (tail_same (w.Key t.Model) (w.Key t.Model) rest (w.Name n ∷ []) e))
+model_answer rest (assign to_result op s) e k = absurd cc
+model_answer rest _ e k = absurd cc
+
+model_exists : (rest : List Word) → Exists (IsOther (w.Key t.Model ∷ rest)) (fixed.model rest)
+model_exists (w.Text n ∷ []) = exists (model_text n) (record { well = tt; exact = refl }, λ z. z) refl
+model_exists (w.Name n ∷ []) = exists (model_name n) (record { well = tt; exact = refl }, λ z. z) refl
+model_exists _ = lacks refl
+
+pub model_piece : (rest : List Word) → TellsPiece (w.Key t.Model ∷ rest) (fixed.model rest)
+model_piece rest = fixed_form (IsOther (w.Key t.Model ∷ rest)) (fixed.model rest) (λ p m. model_answer rest p m.0.exact (key_head t.Model rest p m.1 m.0.exact)) (model_exists rest)
+
+options_answer : (rest : List Word) (p : Phrase) → w.Key t.Options ∷ rest ≡ words_of p → head_is p ≡ Some h.Options → answer p ≡ fixed.options rest
+options_answer rest (options_name n) e k = ap fixed.options (sym (tail_same (w.Key t.Options) (w.Key t.Options) rest (w.Name n ∷ []) e))
+options_answer rest (assign to_result op s) e k = absurd cc
+options_answer rest _ e k = absurd cc
+
+options_exists : (rest : List Word) → Exists (IsOther (w.Key t.Options ∷ rest)) (fixed.options rest)
+options_exists (w.Name n ∷ []) = exists (options_name n) (record { well = tt; exact = refl }, λ z. z) refl
+options_exists _ = lacks refl
+
+pub options_piece : (rest : List Word) → TellsPiece (w.Key t.Options ∷ rest) (fixed.options rest)
+options_piece rest = fixed_form (IsOther (w.Key t.Options ∷ rest)) (fixed.options rest) (λ p m. options_answer rest p m.0.exact (key_head t.Options rest p m.1 m.0.exact)) (options_exists rest)
+
+-- ---- one token
+
+keyword_single : (x : Keyword) → f.Keyword x ≡ fixed.single (token_of x) []
+keyword_single keyword.EndModel = refl
+keyword_single keyword.Parameters = refl
+keyword_single keyword.EndParameters = refl
+keyword_single keyword.Declarations = refl
+keyword_single keyword.EndDeclarations = refl
+keyword_single keyword.EndRecord = refl
+keyword_single keyword.EndProcedure = refl
+keyword_single keyword.EndFunction = refl
+keyword_single keyword.Else = refl
+keyword_single keyword.EndIf = refl
+keyword_single keyword.EndCase = refl
+keyword_single keyword.Repeat = refl
+keyword_single keyword.Do = refl
+keyword_single keyword.EndDo = refl
+keyword_single keyword.EndInitializations = refl
+
+single_answer : (kind : TokenKind) (rest : List Word) (p : Phrase) → w.Key kind ∷ rest ≡ words_of p → head_is p ≡ Some h.Single → answer p ≡ fixed.single kind rest
+single_answer kind rest (word x) e k =
+    let q : kind ≡ token_of x = cc in
+    let r : rest ≡ [] = cc in
+    keyword_single x ∙ ap (λ z. fixed.single z []) (sym q) ∙ ap (fixed.single kind) (sym r)
+single_answer kind rest break_word e k =
+    let q : kind ≡ t.Break = cc in
+    let r : rest ≡ [] = cc in
+    ap (λ z. fixed.single z []) (sym q) ∙ ap (fixed.single kind) (sym r)
+single_answer kind rest next_word e k =
+    let q : kind ≡ t.Next = cc in
+    let r : rest ≡ [] = cc in
+    ap (λ z. fixed.single z []) (sym q) ∙ ap (fixed.single kind) (sym r)
+single_answer kind rest (assign to_result op s) e k = absurd cc
+single_answer kind rest _ e k = absurd cc
+
+single_exists : (kind : TokenKind) (rest : List Word) → Exists (IsOther (w.Key kind ∷ rest)) (fixed.single kind rest)
+single_exists kind (y ∷ rest) = lacks refl
+single_exists t.EndModel [] = exists (word keyword.EndModel) (record { well = tt; exact = refl }, λ z. z) refl
+single_exists t.Parameters [] = exists (word keyword.Parameters) (record { well = tt; exact = refl }, λ z. z) refl
+single_exists t.EndParameters [] = exists (word keyword.EndParameters) (record { well = tt; exact = refl }, λ z. z) refl
+single_exists t.Declarations [] = exists (word keyword.Declarations) (record { well = tt; exact = refl }, λ z. z) refl
+single_exists t.EndDeclarations [] = exists (word keyword.EndDeclarations) (record { well = tt; exact = refl }, λ z. z) refl
+single_exists t.EndRecord [] = exists (word keyword.EndRecord) (record { well = tt; exact = refl }, λ z. z) refl
+single_exists t.EndProcedure [] = exists (word keyword.EndProcedure) (record { well = tt; exact = refl }, λ z. z) refl
+single_exists t.EndFunction [] = exists (word keyword.EndFunction) (record { well = tt; exact = refl }, λ z. z) refl
+single_exists t.Else [] = exists (word keyword.Else) (record { well = tt; exact = refl }, λ z. z) refl
+single_exists t.EndIf [] = exists (word keyword.EndIf) (record { well = tt; exact = refl }, λ z. z) refl
+single_exists t.EndCase [] = exists (word keyword.EndCase) (record { well = tt; exact = refl }, λ z. z) refl
+single_exists t.Repeat [] = exists (word keyword.Repeat) (record { well = tt; exact = refl }, λ z. z) refl
+single_exists t.Do [] = exists (word keyword.Do) (record { well = tt; exact = refl }, λ z. z) refl
+single_exists t.EndDo [] = exists (word keyword.EndDo) (record { well = tt; exact = refl }, λ z. z) refl
+single_exists t.EndInitializations [] = exists (word keyword.EndInitializations) (record { well = tt; exact = refl }, λ z. z) refl
+single_exists t.Break [] = exists break_word (record { well = tt; exact = refl }, λ z. z) refl
+single_exists t.Next [] = exists next_word (record { well = tt; exact = refl }, λ z. z) refl
+single_exists _ [] = lacks refl
+
+pub single_piece : (kind : TokenKind) (rest : List Word) → head_of kind ≡ h.Single → TellsPiece (w.Key kind ∷ rest) (fixed.single kind rest)
+single_piece kind rest e = fixed_form (IsOther (w.Key kind ∷ rest)) (fixed.single kind rest)
+    (λ p m. single_answer kind rest p m.0.exact (key_head kind rest p m.1 m.0.exact ∙ ap (λ z. Some z) e)) (single_exists kind rest)
+
+-- ---- `uses`
+
+abbrev some_texts : List (List ℕ) → Option (List (List ℕ))
+some_texts found = Some found
+
+texts_read : (ns : Names) (found : List (List ℕ)) → read_texts x.Want found (text_words ns) ≡ some_texts (found ++ list_of_names ns)
+texts_read (one_name n) found = refl
+texts_read (and_name n ns) found = texts_read ns (found ++ n ∷ []) ∙ ap some_texts (append_assoc found (n ∷ []) (list_of_names ns))
+
+abbrev AreTexts : List Word → List (List ℕ) → List (List ℕ) → Type 0
+AreTexts words found all = (ns : Names) × (words ≡ text_words ns) × (all ≡ found ++ list_of_names ns)
+
+texts_known : (words : List Word) (found all : List (List ℕ)) → read_texts x.Want found words ≡ some_texts all → AreTexts words found all
+texts_known (w.Text n ∷ []) found all e = (one_name n, refl, cc)
+texts_known (w.Text n ∷ w.Key t.Comma ∷ rest) found all e =
+    let q = texts_known rest (found ++ n ∷ []) all e in
+    (and_name n q.0, ap (λ z. w.Text n ∷ w.Key t.Comma ∷ z) q.1, q.2 ∙ append_assoc found (n ∷ []) (list_of_names q.0))
+texts_known _ found all e = absurd cc
+
+uses_answer : (rest : List Word) (p : Phrase) → w.Key t.Uses ∷ rest ≡ words_of p → head_is p ≡ Some h.Uses → answer p ≡ uses rest
+uses_answer rest (uses_modules ns) e k =
+    sym (ap uses (tail_same (w.Key t.Uses) (w.Key t.Uses) rest (text_words ns) e) ∙ ap uses_of (texts_read ns []))
+uses_answer rest (assign to_result op s) e k = absurd cc
+uses_answer rest _ e k = absurd cc
+
+uses_found : (rest : List Word) (read : Option (List (List ℕ))) → read_texts x.Want [] rest ≡ read → Exists (IsOther (w.Key t.Uses ∷ rest)) (uses_of read)
+uses_found rest None e = lacks refl
+uses_found rest (Some all) e =
+    let q = texts_known rest [] all e in
+    exists (uses_modules q.0) (record { well = tt; exact = ap (λ z. w.Key t.Uses ∷ z) q.1 }, λ z. z) (ap f.Uses (sym q.2))
+
+pub uses_piece : (rest : List Word) → TellsPiece (w.Key t.Uses ∷ rest) (uses rest)
+uses_piece rest = fixed_form (IsOther (w.Key t.Uses ∷ rest)) (uses rest) (λ p m. uses_answer rest p m.0.exact (key_head t.Uses rest p m.1 m.0.exact)) (uses_found rest (read_texts x.Want [] rest) refl)
+
+-- ---- labels
+
+abbrev some_labels : List Label → Option (List Label)
+some_labels found = Some found
+
+pub labels_read : (xs : Labels) (found : List Label) → read_labels l.Want found (label_words xs) ≡ some_labels (found ++ labels_of xs)
+labels_read (last_label n None) found = refl
+labels_read (last_label n (Some y)) found = refl
+labels_read (and_label n None xs) found = labels_read xs (lists.add found n None) ∙ ap some_labels (append_assoc found (record { name = n; shown = None } ∷ []) (labels_of xs))
+labels_read (and_label n (Some y) xs) found = labels_read xs (lists.add found n (Some y)) ∙ ap some_labels (append_assoc found (record { name = n; shown = Some y } ∷ []) (labels_of xs))
+
+abbrev pub AreLabels : List Word → List Label → List Label → Type 0
+AreLabels words found all = (xs : Labels) × (words ≡ label_words xs) × (all ≡ found ++ labels_of xs)
+
+pub labels_known : (words : List Word) (found all : List Label) → read_labels l.Want found words ≡ some_labels all → AreLabels words found all
+labels_known (w.Name n ∷ []) found all e = (last_label n None, refl, cc)
+labels_known (w.Name n ∷ w.Key t.As ∷ w.Text y ∷ []) found all e = (last_label n (Some y), refl, cc)
+labels_known (w.Name n ∷ w.Key t.Comma ∷ rest) found all e =
+    let q = labels_known rest (lists.add found n None) all e in
+    (and_label n None q.0, ap (λ z. w.Name n ∷ w.Key t.Comma ∷ z) q.1, q.2 ∙ append_assoc found (record { name = n; shown = None } ∷ []) (labels_of q.0))
+labels_known (w.Name n ∷ w.Key t.As ∷ w.Text y ∷ w.Key t.Comma ∷ rest) found all e =
+    let q = labels_known rest (lists.add found n (Some y)) all e in
+    (and_label n (Some y) q.0, ap (λ z. w.Name n ∷ w.Key t.As ∷ w.Text y ∷ w.Key t.Comma ∷ z) q.1, q.2 ∙ append_assoc found (record { name = n; shown = Some y } ∷ []) (labels_of q.0))
+labels_known _ found all e = absurd cc
+
+pub head_model : (kind : TokenKind) → h.Model ≡ head_of kind → kind ≡ t.Model
+head_model t.Model e = refl
+head_model _ e = absurd cc
+
+pub head_uses : (kind : TokenKind) → h.Uses ≡ head_of kind → kind ≡ t.Uses
+head_uses t.Uses e = refl
+head_uses _ e = absurd cc
+
+pub head_options : (kind : TokenKind) → h.Options ≡ head_of kind → kind ≡ t.Options
+head_options t.Options e = refl
+head_options _ e = absurd cc

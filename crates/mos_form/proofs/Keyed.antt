@@ -1,0 +1,224 @@
+-- Pieces that begin with a token, from what stands behind it.
+
+use Rattle.std.proofs.Common.{◌≡◌, ℕ, List, [], ◌∷◌, ◌++◌, Option, Some, None, Result, Ok, Err, IfOk, refl, sym, ◌∙◌, ap, subst}
+use Rattle.std.proofs.lemmas.List.{append_cancel_right}
+use Rattle.mos_tree.specs.declared.statement.Assignment.{Assignment}
+use Rattle.mos_tree.specs.declared.statement.Direction.{Direction}
+use Rattle.mos_tree.specs.declared.statement.Direction.TheVariants as direction
+use Rattle.mos_tree.specs.declared.statement.Reference.TheVariants as reference
+use Rattle.mos_scan.specs.declared.token.TokenKind.{TokenKind}
+use Rattle.mos_scan.specs.declared.token.TokenKind.TheVariants as t
+use Rattle.mos_scan.specs.declared.reading.Word.{Word}
+use Rattle.mos_scan.specs.declared.reading.Word.TheVariants as w
+use Rattle.mos_expr.specs.Grammar.{Syntax, Over, IsSpelled, IsIndexSpelled, IsGrouped, spell, spell_over, height, height_over, tree, index_of}
+use Rattle.mos_typing.specs.Typing.{key, in_brackets}
+use Rattle.mos_form.specs.declared.form.Form.{Form}
+use Rattle.mos_form.specs.declared.form.Form.TheVariants as f
+use Rattle.mos_form.specs.declared.form.Guard.{Guard}
+use Rattle.mos_form.specs.declared.form.Guard.TheVariants as guard
+use Rattle.mos_form.specs.declared.head.Head.{Head}
+use Rattle.mos_form.specs.declared.head.Head.TheVariants as h
+use Rattle.mos_form.specs.Heads.{head_of}
+use Rattle.mos_form.specs.Cuts.{direction_of, operator_of}
+use Rattle.mos_form.specs.Fixed.{guard_word, around}
+use Rattle.mos_form.specs.Phrases.{Target, to_result, Phrase, assign, if_then, elif_then, case_of, forall_in, while_so, until_so, initializations, direction_word, operator_word, words_of, IsWell, IsPhrase, answer}
+use Rattle.mos_form.specs.Telling.{Tells, told, untold, by_height, IsAlternative, IsOther, TellsOne, TellsIndex, TellsPiece, assigned}
+use Rattle.mos_form.proofs.Telling.{embed_ok}
+use Rattle.mos_form.proofs.Opening.{head_is, key_head}
+use Rattle.mos_form.proofs.Parting.{operator_known, operator_same, operator_none, zero_max}
+
+pub tail_same : (a b : Word) (xs ys : List Word) → a ∷ xs ≡ b ∷ ys → xs ≡ ys
+tail_same a b xs ys e = cc
+
+pub brackets_same : (a b : List Word) → in_brackets a ≡ in_brackets b → a ≡ b
+brackets_same a b e = append_cancel_right a b (key t.CloseRound) cc
+
+-- words that are none
+pub no_piece : (words : List Word) → ((p : Phrase) → IsOther words p → ⊥) → TellsPiece words f.Unknown
+no_piece words none = untold none
+
+-- the same words
+pub same_words : {E : Type 0} (a b : List Word) (r : Result Form E) → a ≡ b → IfOk r (TellsPiece b) → IfOk r (TellsPiece a)
+same_words a b r e k = subst (λ z. IfOk r (TellsPiece z)) (sym e) k
+
+pub same_words_form : (a b : List Word) (form : Form) → a ≡ b → TellsPiece b form → TellsPiece a form
+same_words_form a b form e k = subst (λ z. TellsPiece z form) (sym e) k
+
+-- ---- a guard and its condition
+
+abbrev guard_phrase : Guard → Syntax → Phrase
+guard_phrase guard.If s = if_then s
+guard_phrase guard.Elif s = elif_then s
+guard_phrase guard.Case s = case_of s
+guard_phrase guard.While s = while_so s
+guard_phrase guard.Until s = until_so s
+
+guard_words : (g : Guard) (s : Syntax) → words_of (guard_phrase g s) ≡ w.Key (guard_word g) ∷ around g (spell s)
+guard_words guard.If s = refl
+guard_words guard.Elif s = refl
+guard_words guard.Case s = refl
+guard_words guard.While s = refl
+guard_words guard.Until s = refl
+
+guard_answer : (g : Guard) (s : Syntax) → answer (guard_phrase g s) ≡ by_height (height s) (f.Guarded g (tree s))
+guard_answer guard.If s = refl
+guard_answer guard.Elif s = refl
+guard_answer guard.Case s = refl
+guard_answer guard.While s = refl
+guard_answer guard.Until s = refl
+
+guard_well : (g : Guard) (s : Syntax) → IsGrouped s → IsWell (guard_phrase g s)
+guard_well guard.If s k = k
+guard_well guard.Elif s k = k
+guard_well guard.Case s k = k
+guard_well guard.While s k = k
+guard_well guard.Until s k = k
+
+guard_grouped : (g : Guard) (s : Syntax) → IsWell (guard_phrase g s) → IsGrouped s
+guard_grouped guard.If s k = k
+guard_grouped guard.Elif s k = k
+guard_grouped guard.Case s k = k
+guard_grouped guard.While s k = k
+guard_grouped guard.Until s k = k
+
+guard_other : (g : Guard) (s : Syntax) → IsAlternative (guard_phrase g s) → ⊥
+guard_other guard.If s k = k
+guard_other guard.Elif s k = k
+guard_other guard.Case s k = k
+guard_other guard.While s k = k
+guard_other guard.Until s k = k
+
+guard_head : (g : Guard) → Some (head_of (guard_word g)) ≡ Some (h.Guarded g)
+guard_head guard.If = refl
+guard_head guard.Elif = refl
+guard_head guard.Case = refl
+guard_head guard.While = refl
+guard_head guard.Until = refl
+
+around_same : (g : Guard) (a b : List Word) → around g a ≡ around g b → a ≡ b
+around_same guard.If a b e = append_cancel_right a b (key t.Then) e
+around_same guard.Elif a b e = append_cancel_right a b (key t.Then) e
+around_same guard.Case a b e = append_cancel_right a b (key t.Of) e
+around_same guard.While a b e = brackets_same a b e
+around_same guard.Until a b e = e
+
+abbrev IsGuard : Guard → Phrase → Type 0
+IsGuard g p = (s : Syntax) × (p ≡ guard_phrase g s)
+
+guard_back : (g : Guard) (p : Phrase) → head_is p ≡ Some (h.Guarded g) → IsGuard g p
+guard_back g (if_then s) e = let q : guard.If ≡ g = cc in (s, subst (λ z. if_then s ≡ guard_phrase z s) q refl)
+guard_back g (elif_then s) e = let q : guard.Elif ≡ g = cc in (s, subst (λ z. elif_then s ≡ guard_phrase z s) q refl)
+guard_back g (case_of s) e = let q : guard.Case ≡ g = cc in (s, subst (λ z. case_of s ≡ guard_phrase z s) q refl)
+guard_back g (while_so s) e = let q : guard.While ≡ g = cc in (s, subst (λ z. while_so s ≡ guard_phrase z s) q refl)
+guard_back g (until_so s) e = let q : guard.Until ≡ g = cc in (s, subst (λ z. until_so s ≡ guard_phrase z s) q refl)
+guard_back g (assign to_result op s) e = absurd cc
+guard_back g _ e = absurd cc
+
+-- a piece with this guard has a condition
+guard_spelled : (g : Guard) (rest : List Word) (p : Phrase) → IsOther (w.Key (guard_word g) ∷ rest) p → (s : Syntax) × IsGrouped s × (rest ≡ around g (spell s)) × (p ≡ guard_phrase g s)
+guard_spelled g rest p k =
+    let q = guard_back g p (key_head (guard_word g) rest p k.1 k.0.exact ∙ guard_head g) in
+    let m = subst (IsPhrase (w.Key (guard_word g) ∷ rest)) q.1 k.0 in
+    (q.0, guard_grouped g q.0 m.well, tail_same (w.Key (guard_word g)) (w.Key (guard_word g)) rest (around g (spell q.0)) (m.exact ∙ guard_words g q.0), q.1)
+
+pub guard_piece : {E : Type 0} (g : Guard) (rest inside : List Word) → rest ≡ around g inside → (r : Result Form E) → IfOk r (TellsOne (λ x. f.Guarded g x) inside) → IfOk r (TellsPiece (w.Key (guard_word g) ∷ rest))
+guard_piece g rest inside e r k =
+    embed_ok (IsSpelled inside) (λ s. by_height (height s) (f.Guarded g (tree s))) (IsOther (w.Key (guard_word g) ∷ rest)) answer (guard_phrase g)
+    (λ s m. (record { well = guard_well g s m.grouped; exact = ap (λ z. w.Key (guard_word g) ∷ z) (e ∙ ap (around g) m.exact) ∙ sym (guard_words g s) }, guard_other g s))
+    (λ p m. let q = guard_spelled g rest p m in (q.0, record { grouped = q.1; exact = around_same g inside (spell q.0) (sym e ∙ q.2) }, q.3))
+    (guard_answer g) r k
+
+pub no_guard : (g : Guard) (rest : List Word) → ((inside : List Word) → rest ≡ around g inside → ⊥) → TellsPiece (w.Key (guard_word g) ∷ rest) f.Unknown
+no_guard g rest none = no_piece (w.Key (guard_word g) ∷ rest) (λ p m. let q = guard_spelled g rest p m in none (spell q.0) q.2)
+
+-- ---- `forall`
+
+forall_back : (rest : List Word) (p : Phrase) → IsPhrase (w.Key t.Forall ∷ rest) p → head_is p ≡ Some h.Forall → (i : Over) × IsIndexSpelled (spell_over i) i × (rest ≡ in_brackets (spell_over i)) × (p ≡ forall_in i)
+forall_back rest (forall_in i) k e = (i, record { grouped = k.well; exact = refl }, tail_same (w.Key t.Forall) (w.Key t.Forall) rest (in_brackets (spell_over i)) k.exact, refl)
+forall_back rest (assign to_result op s) k e = absurd cc
+forall_back rest _ k e = absurd cc
+
+pub forall_piece : {E : Type 0} (rest inside : List Word) → rest ≡ in_brackets inside → (r : Result Form E) → IfOk r (TellsIndex (λ x. f.Forall x) inside) → IfOk r (TellsPiece (w.Key t.Forall ∷ rest))
+forall_piece rest inside e r k =
+    embed_ok (IsIndexSpelled inside) (λ i. by_height (height_over i) (f.Forall (index_of i))) (IsOther (w.Key t.Forall ∷ rest)) answer forall_in
+    (λ i m. (record { well = m.grouped; exact = ap (λ z. w.Key t.Forall ∷ z) (e ∙ ap in_brackets m.exact) }, λ z. z))
+    (λ p m. let q = forall_back rest p m.0 (key_head t.Forall rest p m.1 m.0.exact) in
+        (q.0, record { grouped = q.1.grouped; exact = brackets_same inside (spell_over q.0) (sym e ∙ q.2) }, q.3))
+    (λ i. refl) r k
+
+pub no_forall : (rest : List Word) → ((inside : List Word) → rest ≡ in_brackets inside → ⊥) → TellsPiece (w.Key t.Forall ∷ rest) f.Unknown
+no_forall rest none = no_piece (w.Key t.Forall ∷ rest)
+    (λ p m. let q = forall_back rest p m.0 (key_head t.Forall rest p m.1 m.0.exact) in none (spell_over q.0) q.2)
+
+-- ---- `initializations`
+
+data_back : (rest : List Word) (p : Phrase) → IsPhrase (w.Key t.Initializations ∷ rest) p → head_is p ≡ Some h.Initializations
+    → (d : Direction) × (s : Syntax) × IsGrouped s × (rest ≡ direction_word d ∷ spell s) × (p ≡ initializations d s)
+data_back rest (initializations d s) k e = (d, s, k.well, tail_same (w.Key t.Initializations) (w.Key t.Initializations) rest (direction_word d ∷ spell s) k.exact, refl)
+data_back rest (assign to_result op s) k e = absurd cc
+data_back rest _ k e = absurd cc
+
+direction_known : (x : Word) (d : Direction) → Some d ≡ direction_of x → x ≡ direction_word d
+direction_known (w.Key t.From) d e = let q : d ≡ direction.From = cc in rw q refl
+direction_known (w.Key t.To) d e = let q : d ≡ direction.To = cc in rw q refl
+direction_known _ d e = absurd cc
+
+direction_read : (d : Direction) → direction_of (direction_word d) ≡ Some d
+direction_read direction.From = refl
+direction_read direction.To = refl
+
+direction_same : (x : Word) (a b : Direction) → Some a ≡ direction_of x → x ≡ direction_word b → b ≡ a
+direction_same x a b e q = let r : Some a ≡ Some b = e ∙ ap direction_of q ∙ direction_read b in cc
+
+pub data_piece : {E : Type 0} (d : Direction) (x : Word) (rest name : List Word) → Some d ≡ direction_of x → rest ≡ x ∷ name → (r : Result Form E)
+    → IfOk r (TellsOne (λ x. f.Initializations d x) name) → IfOk r (TellsPiece (w.Key t.Initializations ∷ rest))
+data_piece d x rest name is e r k =
+    embed_ok (IsSpelled name) (λ s. by_height (height s) (f.Initializations d (tree s))) (IsOther (w.Key t.Initializations ∷ rest)) answer (initializations d)
+    (λ s m. (record { well = m.grouped; exact = ap (λ z. w.Key t.Initializations ∷ z) (e ∙ ap (λ z. z ∷ name) (direction_known x d is) ∙ ap (λ z. direction_word d ∷ z) m.exact) }, λ z. z))
+    (λ p m. let q = data_back rest p m.0 (key_head t.Initializations rest p m.1 m.0.exact) in
+        let both : x ∷ name ≡ direction_word q.0 ∷ spell q.1 = sym e ∙ q.3 in
+        (q.1, record { grouped = q.2; exact = tail_same x (direction_word q.0) name (spell q.1) both }, q.4 ∙ ap (λ z. initializations z q.1) (direction_same x d q.0 is cc)))
+    (λ s. refl) r k
+
+pub no_data : (x : Word) (rest name : List Word) → None ≡ direction_of x → rest ≡ x ∷ name → TellsPiece (w.Key t.Initializations ∷ rest) f.Unknown
+no_data x rest name is e = no_piece (w.Key t.Initializations ∷ rest)
+    (λ p m. let q = data_back rest p m.0 (key_head t.Initializations rest p m.1 m.0.exact) in
+        let both : x ∷ name ≡ direction_word q.0 ∷ spell q.1 = sym e ∙ q.3 in
+        let same : x ≡ direction_word q.0 = cc in
+        let r : None ≡ Some q.0 = is ∙ ap direction_of same ∙ direction_read q.0 in cc)
+
+pub empty_data : (rest : List Word) → rest ≡ [] → TellsPiece (w.Key t.Initializations ∷ rest) f.Unknown
+empty_data rest e = no_piece (w.Key t.Initializations ∷ rest)
+    (λ p m. let q = data_back rest p m.0 (key_head t.Initializations rest p m.1 m.0.exact) in
+        let r : [] ≡ direction_word q.0 ∷ spell q.1 = sym e ∙ q.3 in cc)
+
+-- ---- `returned`
+
+result_back : (rest : List Word) (p : Phrase) → IsPhrase (w.Key t.Returned ∷ rest) p → head_is p ≡ Some h.Returned
+    → (op : Assignment) × (s : Syntax) × IsGrouped s × (rest ≡ operator_word op ∷ spell s) × (p ≡ assign to_result op s)
+result_back rest (assign to_result op s) k e = (op, s, k.well.1, tail_same (w.Key t.Returned) (w.Key t.Returned) rest (operator_word op ∷ spell s) k.exact, refl)
+result_back rest _ k e = absurd cc
+
+result_answer : (op : Assignment) (s : Syntax) → answer (assign to_result op s) ≡ by_height (height s) (assigned reference.Returned op (tree s))
+result_answer op s = ap (λ n. by_height n (assigned reference.Returned op (tree s))) (zero_max (height s))
+
+pub result_piece : {E : Type 0} (op : Assignment) (x : Word) (rest value : List Word) → Some op ≡ operator_of x → rest ≡ x ∷ value → (r : Result Form E)
+    → IfOk r (TellsOne (assigned reference.Returned op) value) → IfOk r (TellsPiece (w.Key t.Returned ∷ rest))
+result_piece op x rest value is e r k =
+    embed_ok (IsSpelled value) (λ s. by_height (height s) (assigned reference.Returned op (tree s))) (IsOther (w.Key t.Returned ∷ rest)) answer (assign to_result op)
+    (λ s m. (record { well = (tt, m.grouped); exact = ap (λ z. w.Key t.Returned ∷ z) (e ∙ ap (λ z. z ∷ value) (operator_known x op is) ∙ ap (λ z. operator_word op ∷ z) m.exact) }, λ z. z))
+    (λ p m. let q = result_back rest p m.0 (key_head t.Returned rest p m.1 m.0.exact) in
+        let both : x ∷ value ≡ operator_word q.0 ∷ spell q.1 = sym e ∙ q.3 in
+        (q.1, record { grouped = q.2; exact = tail_same x (operator_word q.0) value (spell q.1) both }, q.4 ∙ ap (λ z. assign to_result z q.1) (operator_same x op q.0 is cc)))
+    (result_answer op) r k
+
+pub no_result : (x : Word) (rest value : List Word) → None ≡ operator_of x → rest ≡ x ∷ value → TellsPiece (w.Key t.Returned ∷ rest) f.Unknown
+no_result x rest value is e = no_piece (w.Key t.Returned ∷ rest)
+    (λ p m. let q = result_back rest p m.0 (key_head t.Returned rest p m.1 m.0.exact) in
+        let both : x ∷ value ≡ operator_word q.0 ∷ spell q.1 = sym e ∙ q.3 in
+        operator_none x is q.0 cc)
+
+pub empty_result : (rest : List Word) → rest ≡ [] → TellsPiece (w.Key t.Returned ∷ rest) f.Unknown
+empty_result rest e = no_piece (w.Key t.Returned ∷ rest)
+    (λ p m. let q = result_back rest p m.0 (key_head t.Returned rest p m.1 m.0.exact) in
+        let both : [] ≡ operator_word q.0 ∷ spell q.1 = sym e ∙ q.3 in cc)

@@ -1,0 +1,14 @@
+use Rattle.std.proofs.Common.{◌≡◌, refl, sym, ap, subst}
+use Rattle.mos_expr.specs.Grammar.{IsSpelled, height, tree}
+use Rattle.mos_form.specs.declared.form.Form.TheVariants as f
+use Rattle.mos_form.specs.declared.form.Mould.TheVariants as m
+use Rattle.mos_form.specs.Telling.{Tells, by_height, assigned, called, filled, AreSome, TellsOne, TellsAll, TellsSome}
+use Rattle.mos_form.specs.Forms.{guard_mould}
+use Rattle.mos_form.proofs.Telling.{tell_ok, tell_err}
+use Rattle.mos_form.proofs.expressions.definition.Goals as goal
+
+pub returns-in-Ok : goal.returns-in-Ok
+returns-in-Ok c = subst (λ n. TellsOne (f.Definition n) c.args.words.now (f.Definition c.in_ok-name.name c.in-Ok.value)) c.in_ok-name.ensures (tell_ok (IsSpelled c.args.words.now) height tree (f.Definition c.in_ok-name.name) c.in-Ok.value c.in-Ok.ensures.found c.in-Ok.ensures.only)
+
+pub returns-in-Err : goal.returns-in-Err
+returns-in-Err c = tell_err (IsSpelled c.args.words.now) height tree (f.Definition c.args.name.now) m.Definition (λ t. refl) c.in-Err.fault c.in-Err.ensures.deep c.in-Err.ensures.only c.refused.result (c.refused.ensures)

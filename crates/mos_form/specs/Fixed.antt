@@ -1,0 +1,81 @@
+-- Pieces that have no expressions, or that differ by a word alone.
+
+use Rattle.std.specs.Prelude.{ℕ, Bool, true, false, List, [], ◌∷◌, ◌++◌, Option, Some, None}
+use Rattle.mos_tree.specs.declared.declaration.BaseType.{BaseType}
+use Rattle.mos_tree.specs.declared.declaration.FormalGroup.{FormalGroup}
+use Rattle.mos_tree.specs.declared.expr.Expr.{Expr}
+use Rattle.mos_tree.specs.declared.source.ModelName.TheVariants as called
+use Rattle.mos_tree.specs.declared.statement.Assignment.TheVariants as assignment
+use Rattle.mos_tree.specs.declared.statement.Reference.{Reference}
+use Rattle.mos_tree.specs.declared.statement.Reference.TheVariants as reference
+use Rattle.mos_scan.specs.declared.token.TokenKind.{TokenKind}
+use Rattle.mos_scan.specs.declared.token.TokenKind.TheVariants as t
+use Rattle.mos_scan.specs.declared.reading.Word.{Word}
+use Rattle.mos_scan.specs.declared.reading.Word.TheVariants as w
+use Rattle.mos_form.specs.declared.form.Form.{Form}
+use Rattle.mos_form.specs.declared.form.Form.TheVariants as f
+use Rattle.mos_form.specs.declared.form.Guard.{Guard}
+use Rattle.mos_form.specs.declared.form.Guard.TheVariants as guard
+use Rattle.mos_form.specs.declared.form.Keyword.{Keyword}
+use Rattle.mos_form.specs.declared.form.Keyword.TheVariants as keyword
+use Rattle.mos_form.specs.declared.form.Mould.{Mould}
+use Rattle.mos_form.specs.declared.form.Mould.TheVariants as m
+use Rattle.mos_form.specs.declared.form.Simple.TheVariants as simple
+use Rattle.mos_typing.specs.Typing.{key, in_brackets}
+use Rattle.mos_form.specs.Heads.{keyword_of}
+
+-- what stands behind `model`
+abbrev pub model : List Word → Form
+model (w.Text n ∷ []) = f.Model (called.Quoted n)
+model (w.Name n ∷ []) = f.Model (called.Named n)
+model _ = f.Unknown
+
+-- what stands behind `options`
+abbrev pub options : List Word → Form
+options (w.Name n ∷ []) = f.Options n
+options _ = f.Unknown
+
+abbrev pub heading : Bool → List ℕ → List FormalGroup → Option BaseType → Form
+heading true n xs typ = f.Forward n xs typ
+heading false n xs typ = f.Routine n xs typ
+
+abbrev pub heading_mould : Bool → Mould → Mould
+heading_mould true routine = m.Forward
+heading_mould false routine = routine
+
+-- the first words of a heading
+abbrev pub lead : Bool → TokenKind → List Word → List Word
+lead true kind words = w.Key t.Forward ∷ w.Key kind ∷ words
+lead false kind words = w.Key kind ∷ words
+
+abbrev pub other_word : TokenKind → Form
+other_word t.Break = f.Simple simple.Break
+other_word t.Next = f.Simple simple.Next
+other_word _ = f.Unknown
+
+abbrev pub keyword_or : Option Keyword → Form → Form
+keyword_or None other = other
+keyword_or (Some x) other = f.Keyword x
+
+abbrev pub single_word : TokenKind → Form
+single_word kind = keyword_or (keyword_of kind) (other_word kind)
+
+-- the piece that is one token
+abbrev pub single : TokenKind → List Word → Form
+single kind [] = single_word kind
+single kind (word ∷ rest) = f.Unknown
+
+abbrev pub guard_word : Guard → TokenKind
+guard_word guard.If = t.If
+guard_word guard.Elif = t.Elif
+guard_word guard.Case = t.Case
+guard_word guard.While = t.While
+guard_word guard.Until = t.Until
+
+-- the words behind a guard with these words in its condition
+abbrev pub around : Guard → List Word → List Word
+around guard.If inside = inside ++ key t.Then
+around guard.Elif inside = inside ++ key t.Then
+around guard.Case inside = inside ++ key t.Of
+around guard.While inside = in_brackets inside
+around guard.Until inside = inside

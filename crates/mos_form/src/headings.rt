@@ -1,0 +1,147 @@
+//! Pieces with names, texts and formals behind their first word.
+ghost use Rattle.std.specs.Prelude.{◌≡◌, ◌∷◌, ◌++◌, [], List, Option, Some, None, IfOk, MatchOption, true, false, option_copied};
+ghost use Rattle.mos_scan.specs.declared.reading.Word.TheVariants as w;
+ghost use Rattle.mos_scan.specs.declared.token.TokenKind.TheVariants as t;
+ghost use Rattle.mos_form.specs.Fixed as fixed;
+ghost use Rattle.mos_form.specs.Phrases.{Phrase, answer};
+ghost use Rattle.mos_form.specs.Telling as spec;
+
+use crate::cut::{before_result, first, first_name, is_key};
+use crate::expressions::refused;
+use crate::form::{Form, Mould};
+use mos_scan::{TokenKind, Word};
+use mos_text::{NoMemory, Text};
+use mos_tree::{BaseType, FormalGroup, ModelName};
+use mos_typing::{base_type, formals};
+use sqlite_items::Items;
+use std::alloc::Global;
+
+/// What stands behind `model`.
+pub(crate) fn model(alloc: Global, words: &[Word]) -> Result<Form, NoMemory>
+    ensures { IfOk result (λ form. form ≡ fixed.model words.now) }
+{
+    match words {
+        [Word::Text(name)] => Ok(Form::Model(ModelName::Quoted(name.copy(alloc)?))),
+        [Word::Name(name)] => Ok(Form::Model(ModelName::Named(name.copy(alloc)?))),
+        _ => Ok(Form::Unknown),
+    }
+}
+
+/// What stands behind `options`.
+pub(crate) fn options(alloc: Global, words: &[Word]) -> Result<Form, NoMemory>
+    ensures { IfOk result (λ form. form ≡ fixed.options words.now) }
+{
+    match words {
+        [Word::Name(name)] => Ok(Form::Options(name.copy(alloc)?)),
+        _ => Ok(Form::Unknown),
+    }
+}
+
+/// The heading of a routine, or what stands behind `forward`.
+fn heading(
+    forward: bool,
+    name: Text,
+    formals: Items<FormalGroup>,
+    typ: Option<BaseType>,
+) -> Form
+    ensures { result ≡ fixed.heading forward name formals typ }
+{
+    if forward {
+        Form::Forward {
+            name,
+            formals,
+            result: typ,
+        }
+    } else {
+        Form::Routine {
+            name,
+            formals,
+            result: typ,
+        }
+    }
+}
+
+fn heading_mould(forward: bool, routine: Mould) -> Mould
+    ensures { result ≡ fixed.heading_mould forward routine }
+{
+    if forward { Mould::Forward } else { routine }
+}
+
+/// The procedure with this name and these formals.
+fn procedure_of(alloc: Global, forward: bool, name: &Text, words: &[Word]) -> Result<Form, NoMemory>
+    ensures { IfOk result (spec.TellsFormals (λ xs. fixed.heading forward name.now xs None) words.now) }
+{
+    let name = name.copy(alloc)?;
+    match formals(alloc, words) {
+        Ok(formals) => Ok(heading(forward, name, formals, None)),
+        Err(fault) => refused(fault, heading_mould(forward, Mould::Procedure)),
+    }
+}
+
+/// The function with this name, these formals and this result.
+fn function_of(
+    alloc: Global,
+    forward: bool,
+    name: &Text,
+    words: &[Word],
+    base: BaseType,
+) -> Result<Form, NoMemory>
+    ensures { IfOk result (spec.TellsFormals (λ xs. fixed.heading forward name.now xs (Some base)) words.now) }
+{
+    let name = name.copy(alloc)?;
+    match formals(alloc, words) {
+        Ok(formals) => Ok(heading(forward, name, formals, Some(base))),
+        Err(fault) => refused(fault, heading_mould(forward, Mould::Function)),
+    }
+}
+
+/// What stands behind `procedure`, which may itself stand behind `forward`.
+pub(crate) fn procedure(alloc: Global, forward: bool, words: &[Word]) -> Result<Form, NoMemory>
+    ensures { IfOk result (spec.TellsPiece (fixed.lead forward t.Procedure words.now)) }
+{
+    match first_name(words) {
+        Some((name, formals)) => procedure_of(alloc, forward, name, formals),
+        None => Ok(Form::Unknown),
+    }
+}
+
+/// What stands behind the name of a function.
+fn after_name(alloc: Global, forward: bool, name: &Text, words: &[Word]) -> Result<Form, NoMemory>
+    ensures { IfOk result (spec.TellsPiece (fixed.lead forward t.Function (w.Name name.now ∷ words.now))) }
+{
+    match before_result(words) {
+        Some((formals, word)) => match base_type(alloc, word)? {
+            Some(base) => function_of(alloc, forward, name, formals, base),
+            None => Ok(Form::Unknown),
+        },
+        None => Ok(Form::Unknown),
+    }
+}
+
+/// What stands behind `function`, which may itself stand behind `forward`.
+pub(crate) fn function(alloc: Global, forward: bool, words: &[Word]) -> Result<Form, NoMemory>
+    ensures { IfOk result (spec.TellsPiece (fixed.lead forward t.Function words.now)) }
+{
+    match first_name(words) {
+        Some((name, rest)) => after_name(alloc, forward, name, rest),
+        None => Ok(Form::Unknown),
+    }
+}
+
+/// What stands behind `forward`.
+pub(crate) fn forward(alloc: Global, words: &[Word]) -> Result<Form, NoMemory>
+    ensures { IfOk result (spec.TellsPiece (w.Key t.Forward ∷ words.now)) }
+{
+    match first(words) {
+        Some((word, rest)) => {
+            if is_key(word, TokenKind::Procedure) {
+                procedure(alloc, true, rest)
+            } else if is_key(word, TokenKind::Function) {
+                function(alloc, true, rest)
+            } else {
+                Ok(Form::Unknown)
+            }
+        }
+        None => Ok(Form::Unknown),
+    }
+}
