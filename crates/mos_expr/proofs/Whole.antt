@@ -205,3 +205,23 @@ index_deep words (Some y) r e d h =
 pub index_only : (words : List Word) (q : Option Ready) (r : Result (Index Expr) ExprFault) → ready_of_words words ≡ q → r ≡ outcome_of_index q → (over : Over) → IsIndexSpelled words over → Gives r (answer_of_index over)
 index_only words q r e d over k =
     gives_same r (answer_of_index over) (d ∙ ap outcome_of_index (sym e ∙ index_read words over k) ∙ kept_answer (height_over over) (index_of over))
+
+-- ---- words have one answer
+
+expression_read : (words : List Word) (s : Syntax) → IsSpelled words s → outcome (operand_of words) ≡ answer s
+expression_read words s k = ap outcome (operand_read words s k) ∙ kept_answer (height s) (tree s)
+
+pub one_expression : (words : List Word) (s t : Syntax) → IsSpelled words s → IsSpelled words t → answer s ≡ answer t
+one_expression words s t k l = sym (expression_read words s k) ∙ expression_read words t l
+
+list_read : (words : List Word) (ss : Written) → AreSpelled words ss → outcome_of_parts (parts_of words) ≡ answer_of_list ss
+list_read words ss k = ap outcome_of_parts (parts_read words ss k) ∙ kept_answer (heights ss) (trees ss)
+
+pub one_list : (words : List Word) (ss ts : Written) → AreSpelled words ss → AreSpelled words ts → answer_of_list ss ≡ answer_of_list ts
+one_list words ss ts k l = sym (list_read words ss k) ∙ list_read words ts l
+
+over_read : (words : List Word) (i : Over) → IsIndexSpelled words i → outcome_of_index (ready_of_words words) ≡ answer_of_index i
+over_read words i k = ap outcome_of_index (index_read words i k) ∙ kept_answer (height_over i) (index_of i)
+
+pub one_index : (words : List Word) (i j : Over) → IsIndexSpelled words i → IsIndexSpelled words j → answer_of_index i ≡ answer_of_index j
+one_index words i j k l = sym (over_read words i k) ∙ over_read words j l

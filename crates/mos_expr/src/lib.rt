@@ -17,7 +17,7 @@ mod stack;
 mod tree;
 
 pub use fault::ExprFault;
-pub use laws::trees_have_their_texts;
+pub use laws::{trees_have_their_texts, words_have_one_tree};
 pub use tree::{expression, expression_of_words, expressions_of_words, index_of_words};
 
 #[cfg(test)]
