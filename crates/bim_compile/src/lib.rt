@@ -9,7 +9,7 @@ mod draft;
 mod ends;
 mod examples;
 mod expressions;
-pub mod names;
+mod names;
 mod statements;
 
 pub use compiler::compile;

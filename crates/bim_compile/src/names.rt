@@ -9,7 +9,7 @@ use sqlite_items::Items;
 use std::alloc::Global;
 
 /// The names that are assigned to, in the order of their first assignments.
-pub fn variables(alloc: Global, tops: &[Top]) -> Result<Items<Text>, NoMemory>
+pub(crate) fn variables(alloc: Global, tops: &[Top]) -> Result<Items<Text>, NoMemory>
     ensures { IfOk result (λ names. names ≡ names_from [] (block (map top_effect tops.now))) }
 {
     let mut names = Items::new(alloc);
@@ -20,7 +20,7 @@ pub fn variables(alloc: Global, tops: &[Top]) -> Result<Items<Text>, NoMemory>
 }
 
 /// Adds the names that a piece assigns to and that are not among them yet.
-pub fn note_top(alloc: Global, names: &mut Items<Text>, top: &Top) -> Result<(), NoMemory>
+fn note_top(alloc: Global, names: &mut Items<Text>, top: &Top) -> Result<(), NoMemory>
     ensures { OnOk result (names.new ≡ names_after names.old (top_effect top.now)) }
 {
     match top {
@@ -80,7 +80,7 @@ fn note(alloc: Global, names: &mut Items<Text>, name: &Text) -> Result<(), NoMem
 }
 
 /// Whether the name is one of these.
-pub fn has(names: &[Text], name: &Text) -> bool
+fn has(names: &[Text], name: &Text) -> bool
     ensures { result ≡ has_name name.now names.now }
 {
     names.iter().any(|other| name.as_str() == other.as_str())

@@ -1,18 +1,16 @@
 -- A command that the words mean keeps the limits of its parts.
 
-use Rattle.std.proofs.Common.{◌≡◌, ◌≤◌, ℕ, Bool, true, false, not, ◌&&◌, ◌||◌, List, [], ◌∷◌, length, Option, Some, None, refl, sym, ap, ◌∙◌, subst, nat_le, nat_eq, ◌==◌, eqb-true, ne_eqb, arith}
-use Rattle.std.specs.Prelude.{codes, IfOk, Result, Ok, Err}
+use Rattle.std.proofs.Common.{◌≡◌, ◌≤◌, ℕ, Bool, true, false, not, ◌&&◌, ◌||◌, List, [], ◌∷◌, length, Some, None, refl, sym, ap, subst, nat_le, ◌==◌, eqb-true, ne_eqb, arith}
+use Rattle.std.specs.Prelude.{IfOk, Result, Ok, Err}
 use Rattle.mos_words.specs.declared.words.commands.WordFault.{WordFault}
 use Rattle.std.proofs.lemmas.Bool.{leb-true}
 use Rattle.std.specs.Prelude.{if◌then◌else◌, slice_index_or}
-use Rattle.std.specs.List.{list_all, list_any}
-use Rattle.std.specs.Str.{bytes_eq}
+use Rattle.std.specs.List.{list_all}
 use Rattle.mos_text.specs.FileName.{is_file_name}
 use Rattle.mos_words.specs.declared.words.commands.Command.{Command}
-use Rattle.mos_words.specs.declared.words.commands.Command.TheVariants.{Run}
 use Rattle.mos_words.specs.declared.words.options.OptionName.{OptionName}
 use Rattle.mos_words.specs.declared.words.options.OptionName.TheVariants.{Lanes, Budget}
-use Rattle.mos_words.specs.Words.{Word, row_of, run_options, values, is_number, number_of, is_value, setting_of, files, is_source_name, breaks_words, breaks_options, breaks_files, run_command, command_of}
+use Rattle.mos_words.specs.Words.{Word, row_of, run_options, values, is_number, number_of, is_value, setting_of, files, is_source_name, breaks_words, breaks_options, breaks_files, run_command}
 use Rattle.mos_words.specs.Fit.{IsFit}
 
 chosen : (b : Bool) (x y : Command) → (if b then None else Some x) ≡ Some y → (b ≡ false) × (x ≡ y)

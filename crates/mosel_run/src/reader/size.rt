@@ -13,7 +13,7 @@ use mos_tree::{Expr, Statement, Top, Tree};
 /// The most nodes, statements and branches that a model may have.
 const ROOM: u32 = (1 << 24) - 1;
 
-/// The bytes that no text may have.
+/// The length from which on a text is too long.
 const LONG: usize = 1 << 32;
 
 /// Whether the model has fewer than 16,777,216 nodes, statements and branches, and texts of fewer than
