@@ -1,6 +1,6 @@
 -- A word is a type exactly where a type is spelled by it.
 
-use Rattle.std.proofs.Common.{◌≡◌, ℕ, ◌≤◌, List, [], ◌∷◌, Option, Some, None, Result, refl, sym, ◌∙◌, ap, subst, arith}
+use Rattle.std.proofs.Common.{◌≡◌, ℕ, [], ◌∷◌, Option, Some, None, Result, refl, sym, ◌∙◌, ap, subst, arith}
 use Rattle.mos_tree.specs.declared.declaration.BaseType.{BaseType}
 use Rattle.mos_tree.specs.declared.declaration.BaseType.TheVariants as base
 use Rattle.mos_scan.specs.declared.token.TokenKind.TheVariants as t
@@ -9,7 +9,8 @@ use Rattle.mos_scan.specs.declared.reading.Word.TheVariants as w
 use Rattle.mos_typing.specs.Typing.{base_words}
 use Rattle.mos_expr.specs.Outcome.{Gives}
 use Rattle.mos_expr.specs.declared.fault.ExprFault.{ExprFault}
-use Rattle.mos_typing.specs.Reader.{base_of, or_nothing}
+use Rattle.mos_typing.specs.Joining.{or_nothing}
+use Rattle.mos_typing.specs.Reader.{base_of}
 use Rattle.mos_typing.specs.Spellings.{Says}
 use Rattle.mos_typing.proofs.Saying.{says_nothing, says_made, says_gives}
 

@@ -1,11 +1,11 @@
 -- A list that is read item by item: what is said of the rest, behind what is front, is said of the whole.
 
-use Rattle.std.proofs.Common.{◌≡◌, ℕ, List, [], ◌∷◌, ◌++◌, Option, Some, None, Result, Ok, Err, refl, sym, ◌∙◌, ap, subst}
+use Rattle.std.proofs.Common.{◌≡◌, ℕ, List, [], Option, Some, None, Result, Ok, Err, refl, sym, subst}
 use Rattle.std.specs.Prelude.{IsErrOf}
 use Rattle.mos_expr.specs.Outcome.{Gives}
 use Rattle.mos_expr.specs.declared.fault.ExprFault.{ExprFault}
 use Rattle.mos_expr.specs.declared.fault.ExprFault.TheVariants as x
-use Rattle.mos_typing.specs.Reader.{on_ok, both, behind, alone, first_of}
+use Rattle.mos_typing.specs.Joining.{on_ok, both, behind, alone, first_of}
 use Rattle.mos_typing.specs.Spellings.{Says}
 use Rattle.mos_typing.proofs.Saying.{says_gives, says_want}
 

@@ -1,6 +1,6 @@
 -- What the public calls say, clause by clause.
 
-use Rattle.std.proofs.Common.{◌≡◌, ℕ, ◌<◌, ◌≤◌, nat_le, if◌then◌else◌, List, Result, Ok, Err, IfOk, refl, ◌∙◌, subst}
+use Rattle.std.proofs.Common.{◌≡◌, ℕ, ◌<◌, ◌≤◌, nat_le, if◌then◌else◌, List, Result, Ok, Err, IfOk, refl, subst}
 use Rattle.std.specs.Prelude.{IsErrOf}
 use Rattle.std.proofs.lemmas.Result.{IfOk-weaker}
 use Rattle.mos_tree.specs.declared.declaration.TypeForm.{TypeForm}

@@ -1,6 +1,6 @@
 -- No expression is cut: brackets in it are closed, and commas in it stand inside brackets.
 
-use Rattle.std.proofs.Common.{◌≡◌, ℕ, ◌+◌, ◌-◌, Bool, true, false, ◌&&◌, if◌then◌else◌, nat_eq, List, [], ◌∷◌, ◌++◌, Option, Some, None, refl, sym, ◌∙◌, ap, subst, arith, append_assoc}
+use Rattle.std.proofs.Common.{◌≡◌, ℕ, ◌+◌, ◌-◌, Bool, true, false, ◌&&◌, nat_eq, List, [], ◌∷◌, ◌++◌, Some, None, refl, sym, ◌∙◌, ap, subst, arith, append_assoc}
 use Rattle.std.proofs.lemmas.Bool.{ne_eqb}
 use Rattle.std.proofs.lemmas.List.{append-nil}
 use Rattle.mos_tree.specs.declared.expr.UnaryOperator.{UnaryOperator}
@@ -15,19 +15,8 @@ use Rattle.mos_scan.specs.declared.token.TokenKind.TheVariants as t
 use Rattle.mos_scan.specs.declared.reading.Word.{Word}
 use Rattle.mos_scan.specs.declared.reading.Word.TheVariants as w
 use Rattle.mos_expr.specs.Grammar.{Leaf, number, text, truth, name, returned, field, Names, one_name, and_name, Syntax, leaf, call, call_field, set, list, bracket, choice, convert, before, between, aggregate, counted, Written, no_more, one_more, Over, last_set, such_that, another, spell_leaf, spell_before, spell_between, spell_aggregate, spell_conversion, spell_names, spell, spell_list, spell_rest, spell_over}
-use Rattle.mos_typing.specs.Reader.{Halves, ahead, cut, depth_behind, is_comma, is_colon, cut_at_colon}
-
-on_bool : {P : Type 0} (b : Bool) → (b ≡ true → P) → (b ≡ false → P) → P
-on_bool true yes' no' = yes' refl
-on_bool false yes' no' = no' refl
-
--- what is none is not some
-pub none_some : {A P : Type 0} (q : Option A) (a : A) → q ≡ None → q ≡ Some a → P
-none_some None a n e = cc
-none_some (Some b) a n e = cc
-
-pub some_same : {A : Type 0} (q : Option A) (a b : A) → q ≡ Some a → q ≡ Some b → a ≡ b
-some_same q a b h e = let p : Some a ≡ Some b = sym h ∙ e in cc
+use Rattle.mos_typing.proofs.Cases.{on_bool}
+use Rattle.mos_typing.specs.Cutting.{Halves, ahead, cut, depth_behind, is_comma, is_colon, cut_at_colon}
 
 -- the words are not cut; so many brackets are open before them, and so many behind them
 pub record Goes (from : ℕ) (words : List Word) (to : ℕ) : Type 0 where

@@ -1,6 +1,6 @@
 -- What is said of the indexes of an array.
 
-use Rattle.std.proofs.Common.{◌≡◌, ℕ, ◌+◌, ◌≤◌, max, true, false, List, [], ◌∷◌, ◌++◌, Option, Some, None, Result, Ok, Err, IfOk, refl, sym, ◌∙◌, ap, subst, arith, append_assoc}
+use Rattle.std.proofs.Common.{◌≡◌, ℕ, ◌+◌, ◌≤◌, max, true, false, List, [], ◌∷◌, ◌++◌, Some, None, Result, Ok, IfOk, refl, sym, ◌∙◌, ap, subst, arith}
 use Rattle.std.specs.Prelude.{IsErrOf}
 use Rattle.mos_tree.specs.declared.expr.Expr.{Expr}
 use Rattle.mos_tree.specs.declared.declaration.BaseType.{BaseType}
@@ -16,11 +16,15 @@ use Rattle.mos_expr.specs.declared.fault.ExprFault.{ExprFault}
 use Rattle.mos_expr.specs.declared.fault.ExprFault.TheVariants as x
 use Rattle.mos_typing.specs.Typing.{Dim, any_range, any_set, within, Dims, last_dim, and_dim, base_words, dim_words, dims_words, dimension_of, dimensions_of, tallest_dim, tallest_dims, DimIsGrouped, DimsAreGrouped}
 use Rattle.mos_typing.specs.Words.{ArePlain}
-use Rattle.mos_typing.specs.Reader.{Halves, ahead, base_of, is_range, set_of, cut, on_ok, or_nothing, both, alone, first_of}
-use Rattle.mos_typing.specs.Spellings.{Spelled, IsExpression, IsDimension, AreDimensions, Says}
+use Rattle.mos_typing.specs.Cutting.{cut}
+use Rattle.mos_typing.specs.Joining.{on_ok, or_nothing, both, alone, first_of}
+use Rattle.mos_typing.specs.Reader.{base_of}
+use Rattle.mos_typing.specs.Shapes.{is_range, set_of}
+use Rattle.mos_typing.specs.Spellings.{IsExpression, IsDimension, AreDimensions, Says}
 use Rattle.mos_typing.proofs.Plain.{plain_syntax}
 use Rattle.mos_typing.proofs.Bases.{base_known, base_read, base_word, base_is, IsBase, says_base}
-use Rattle.mos_typing.proofs.Cuts.{none_some, some_same, Goes, joined, led, same, comma, syntax_goes, cut_sound, cut_none, cut_at}
+use Rattle.mos_typing.proofs.Cases.{none_some, some_same}
+use Rattle.mos_typing.proofs.Cuts.{Goes, joined, led, same, comma, syntax_goes, cut_sound, cut_none, cut_at}
 use Rattle.mos_typing.proofs.Saying.{says_made, says_on_ok, says_expression, Parts, says_both}
 
 -- the words of an expression are plain

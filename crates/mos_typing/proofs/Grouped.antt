@@ -1,6 +1,6 @@
 -- What is said of formals, group by group.
 
-use Rattle.std.proofs.Common.{◌≡◌, ℕ, ◌+◌, ◌≤◌, max, Bool, true, false, nat_eq, length, List, [], ◌∷◌, ◌++◌, Option, Some, None, Result, Ok, Err, refl, sym, ◌∙◌, ap, subst, arith, append_assoc}
+use Rattle.std.proofs.Common.{◌≡◌, ℕ, ◌≤◌, max, Bool, true, false, nat_eq, length, List, [], ◌∷◌, ◌++◌, Some, None, Result, Ok, Err, refl, sym, ◌∙◌, ap, subst, arith}
 use Rattle.std.proofs.lemmas.Bool.{eqb-true}
 use Rattle.std.proofs.lemmas.List.{nil_from_length}
 use Rattle.mos_tree.specs.declared.declaration.TypeForm.{TypeForm}
@@ -11,10 +11,13 @@ use Rattle.mos_scan.specs.declared.reading.Word.TheVariants as w
 use Rattle.mos_expr.specs.Grammar.{Names, one_name, and_name, spell_names, list_of_names, limit}
 use Rattle.mos_expr.specs.declared.fault.ExprFault.{ExprFault}
 use Rattle.mos_expr.specs.declared.fault.ExprFault.TheVariants as x
-use Rattle.mos_typing.specs.Typing.{Typing, of_base, a_range, a_set, a_list, an_array, Groups, last_group, and_group, Formals, no_brackets, empty_brackets, formals, in_brackets, dynamic_words, base_words, dims_words, typing_words, group_words, formal_words, type_of, groups_of, formals_of, tallest_type, tallest_groups, tallest_formals, TypeIsGrouped, GroupsAreGrouped, FormalsAreGrouped}
-use Rattle.mos_typing.specs.Reader.{Halves, Group, cut, cut_at_colon, first_group, typed_cut, group_cut, names_of, on_ok, both, alone, first_of, group_of}
+use Rattle.mos_typing.specs.Typing.{Typing, of_base, a_range, a_set, a_list, an_array, Groups, last_group, and_group, Formals, no_brackets, empty_brackets, formals, in_brackets, dynamic_words, base_words, dims_words, typing_words, group_words, formal_words, type_of, groups_of, formals_of, tallest_type, tallest_groups, tallest_formals, GroupsAreGrouped, FormalsAreGrouped}
+use Rattle.mos_typing.specs.Cutting.{Halves, Group, cut, cut_at_colon, first_group, typed_cut, group_cut}
+use Rattle.mos_typing.specs.Joining.{on_ok, both, alone, first_of}
+use Rattle.mos_typing.specs.Reader.{names_of, group_of}
 use Rattle.mos_typing.specs.Spellings.{IsTypeForm, AreGroups, IsGroup, IsOnlyGroup, AreFormalGroups, Says}
-use Rattle.mos_typing.proofs.Cuts.{none_some, some_same, Goes, nothing, joined, led, same, open_round, close, closed, cut_sound, cut_none, cut_at, colon_sound, colon_at}
+use Rattle.mos_typing.proofs.Cases.{none_some, some_same}
+use Rattle.mos_typing.proofs.Cuts.{Goes, nothing, joined, led, same, open_round, close, closed, cut_sound, cut_none, cut_at, colon_sound, colon_at}
 use Rattle.mos_typing.proofs.Dimensioned.{base_goes, member_goes, dims_go}
 use Rattle.mos_typing.proofs.Ended.{SameEnd, one_end}
 use Rattle.mos_typing.proofs.Listed.{AreNames, names_known, names_read}

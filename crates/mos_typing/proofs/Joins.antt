@@ -1,12 +1,12 @@
 -- What is said of a list whose last item has come.
 
-use Rattle.std.proofs.Common.{◌≡◌, List, [], ◌∷◌, ◌++◌, Option, Some, None, Result, Ok, Err, refl, sym, ◌∙◌, ap}
+use Rattle.std.proofs.Common.{◌≡◌, List, [], Option, Some, None, Result, Ok, Err, refl, sym, ◌∙◌, ap}
 use Rattle.std.proofs.lemmas.List.{append-nil}
 use Rattle.std.specs.Option.{ok_or}
 use Rattle.mos_expr.specs.Outcome.{Gives}
 use Rattle.mos_expr.specs.declared.fault.ExprFault.{ExprFault}
 use Rattle.mos_expr.specs.declared.fault.ExprFault.TheVariants as x
-use Rattle.mos_typing.specs.Reader.{on_ok, both, behind, first_of, alone}
+use Rattle.mos_typing.specs.Joining.{on_ok, both, behind, first_of, alone}
 
 pub gives_same : {A : Type 0} (r y : Result A ExprFault) → r ≡ y → Gives r y
 gives_same (Err x.NoMemory) y e = tt

@@ -1,6 +1,6 @@
 -- What is said of words goes over to what they are part of.
 
-use Rattle.std.proofs.Common.{◌≡◌, ℕ, ◌<◌, ◌≤◌, max, Bool, true, false, nat_le, if◌then◌else◌, List, Option, Some, None, Result, Ok, Err, IfOk, refl, sym, ◌∙◌, ap, subst, arith}
+use Rattle.std.proofs.Common.{◌≡◌, ℕ, ◌<◌, ◌≤◌, max, true, nat_le, if◌then◌else◌, List, Result, Ok, Err, IfOk, refl, sym, ◌∙◌, ap, subst, arith}
 use Rattle.std.specs.Prelude.{IsErrOf}
 use Rattle.std.proofs.lemmas.Bool.{leb-true, leb-false, le-leb}
 use Rattle.mos_tree.specs.declared.expr.Expr.{Expr}
@@ -9,12 +9,9 @@ use Rattle.mos_expr.specs.Grammar.{Syntax, IsSpelled, tree, height, limit}
 use Rattle.mos_expr.specs.Outcome.{IsTree, IsTooHigh, answer, Gives}
 use Rattle.mos_expr.specs.declared.fault.ExprFault.{ExprFault}
 use Rattle.mos_expr.specs.declared.fault.ExprFault.TheVariants as x
-use Rattle.mos_typing.specs.Reader.{on_ok, or_nothing, both}
-use Rattle.mos_typing.specs.Spellings.{Spelled, IsExpression, Made, TooHigh, Nothing, Says}
-
-on_bool : {P : Type 0} (b : Bool) → (b ≡ true → P) → (b ≡ false → P) → P
-on_bool true yes' no' = yes' refl
-on_bool false yes' no' = no' refl
+use Rattle.mos_typing.specs.Joining.{on_ok, both}
+use Rattle.mos_typing.proofs.Cases.{on_bool}
+use Rattle.mos_typing.specs.Spellings.{IsExpression, Made, TooHigh, Nothing, Says}
 
 pub says_nothing : {T : Type 0} (Is : T → ℕ → Type 0) → ((t : T) (h : ℕ) → Is t h → ⊥) → Says Is (Err x.NoExpr)
 unfolding Says

@@ -4,7 +4,7 @@ use Rattle.std.proofs.Common.{◌≡◌, List, [], ◌∷◌, ◌++◌, sym, ◌
 use Rattle.mos_scan.specs.declared.token.TokenKind.TheVariants as t
 use Rattle.mos_scan.specs.declared.reading.Word.{Word}
 use Rattle.mos_scan.specs.declared.reading.Word.TheVariants as w
-use Rattle.mos_typing.specs.Reader.{array_of}
+use Rattle.mos_typing.specs.Shapes.{array_of}
 use Rattle.mos_typing.proofs.Ended.{SameEnd, behind_same}
 
 -- what stands behind `array(`

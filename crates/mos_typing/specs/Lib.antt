@@ -1,6 +1,9 @@
+pub mod Cutting
+pub mod Joining
 pub mod Laws
 pub mod Outcome
 pub mod Reader
+pub mod Shapes
 pub mod Spellings
 pub mod Typing
 pub mod Words

@@ -3,7 +3,8 @@ ghost use Rattle.std.specs.Prelude.{◌≡◌, List, [], ◌∷◌, IfOk, MatchO
 ghost use Rattle.mos_tree.specs.declared.declaration.BaseType.{BaseType as Base};
 ghost use Rattle.mos_expr.specs.Outcome.{Gives};
 ghost use Rattle.mos_typing.specs.Typing.{base_words};
-ghost use Rattle.mos_typing.specs.Reader.{base_of, or_nothing};
+ghost use Rattle.mos_typing.specs.Joining.{or_nothing};
+ghost use Rattle.mos_typing.specs.Reader.{base_of};
 
 use mos_expr::ExprFault;
 use mos_scan::{TokenKind, Word};

@@ -1,7 +1,7 @@
 //! What stands for the indexes of an array.
 ghost use Rattle.std.specs.Prelude.{◌≡◌};
 ghost use Rattle.mos_tree.specs.declared.declaration.Dimension.TheVariants as dimension;
-ghost use Rattle.mos_typing.specs.Reader as reads;
+ghost use Rattle.mos_typing.specs.Joining as joining;
 ghost use Rattle.mos_typing.specs.Spellings as spelling;
 
 use crate::base::base_form;
@@ -15,13 +15,13 @@ use sqlite_items::Items;
 use std::alloc::Global;
 
 fn set_dimension(base: Result<BaseType, ExprFault>) -> Result<Dimension, ExprFault>
-    ensures { result ≡ reads.on_ok dimension.Set base }
+    ensures { result ≡ joining.on_ok dimension.Set base }
 {
     Ok(Dimension::Set(base?))
 }
 
 fn index_set(set: Result<Expr, ExprFault>) -> Result<Dimension, ExprFault>
-    ensures { result ≡ reads.on_ok dimension.Over set }
+    ensures { result ≡ joining.on_ok dimension.Over set }
 {
     Ok(Dimension::Over(set?))
 }

@@ -3,21 +3,21 @@ ghost use Rattle.std.specs.Prelude.{◌≡◌, List, [], ◌∷◌, ◌++◌, Ma
 ghost use Rattle.mos_scan.specs.declared.token.TokenKind.TheVariants as t;
 ghost use Rattle.mos_scan.specs.declared.reading.Word.{Word as WordType};
 ghost use Rattle.mos_scan.specs.declared.reading.Word.TheVariants as w;
-ghost use Rattle.mos_typing.specs.Reader as reads;
+ghost use Rattle.mos_typing.specs.Shapes as shapes;
 ghost use Rattle.mos_typing.specs.Typing as typing;
 
 use mos_scan::{TokenKind, Word};
 
 /// Whether this is the word `range` alone.
 pub(crate) fn is_range(words: &[Word]) -> bool
-    ensures { result ≡ reads.is_range words.now }
+    ensures { result ≡ shapes.is_range words.now }
 {
     matches!(words, [Word::Key(TokenKind::Range)])
 }
 
 /// What stands behind `set of`, if it is one word.
 pub(crate) fn set_member(words: &[Word]) -> Option<&Word>
-    ensures { MatchOption result ((b : WordType) → words.now ≡ reads.set_of b → ⊥) (λ b. words.now ≡ reads.set_of b.now) }
+    ensures { MatchOption result ((b : WordType) → words.now ≡ shapes.set_of b → ⊥) (λ b. words.now ≡ shapes.set_of b.now) }
 {
     match words {
         [Word::Key(TokenKind::Set), Word::Key(TokenKind::Of), base] => Some(base),
@@ -71,7 +71,7 @@ fn before_close(words: &[Word]) -> Option<&[Word]>
 
 /// What stands in the brackets of an array, and the word of its cells.
 pub(crate) fn array_parts(words: &[Word]) -> Option<(&[Word], &Word)>
-    ensures { MatchOption result ((ds : List WordType) (b : WordType) → words.now ≡ reads.array_of ds b → ⊥) (λ parts. words.now ≡ reads.array_of parts.0.now parts.1.now) }
+    ensures { MatchOption result ((ds : List WordType) (b : WordType) → words.now ≡ shapes.array_of ds b → ⊥) (λ parts. words.now ≡ shapes.array_of parts.0.now parts.1.now) }
 {
     let Some(rest) = behind_array(words) else {
         return None;

@@ -6,7 +6,9 @@ ghost use Rattle.mos_scan.specs.declared.reading.Word.TheVariants as w;
 ghost use Rattle.mos_tree.specs.declared.declaration.TypeForm.TheVariants as typ;
 ghost use Rattle.mos_expr.specs.Outcome.{Gives};
 ghost use Rattle.mos_typing.specs.Typing as typing;
+ghost use Rattle.mos_typing.specs.Joining as joining;
 ghost use Rattle.mos_typing.specs.Reader as reads;
+ghost use Rattle.mos_typing.specs.Shapes as shapes;
 ghost use Rattle.mos_typing.specs.Spellings as spelling;
 
 use crate::base::{base_form, base_of_word};
@@ -40,7 +42,7 @@ fn array_over(
     dimensions: Result<Items<Dimension>, ExprFault>,
     cell: BaseType,
 ) -> Result<TypeForm, ExprFault>
-    ensures { result ≡ reads.on_ok (λ made. typ.Array dynamic made cell) dimensions }
+    ensures { result ≡ joining.on_ok (λ made. typ.Array dynamic made cell) dimensions }
 {
     Ok(TypeForm::Array {
         dynamic,
@@ -56,7 +58,7 @@ fn array_type(
     indexes: &[Word],
     cell: &Word,
 ) -> Result<TypeForm, ExprFault>
-    ensures { spelling.Says (spelling.IsTypeForm (typing.dynamic_words dynamic ++ reads.array_of indexes.now cell.now)) result }
+    ensures { spelling.Says (spelling.IsTypeForm (typing.dynamic_words dynamic ++ shapes.array_of indexes.now cell.now)) result }
 {
     match base_of_word(alloc, cell)? {
         None => Err(ExprFault::NoExpr),

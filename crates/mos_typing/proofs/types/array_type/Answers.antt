@@ -1,7 +1,7 @@
 use Rattle.std.proofs.Common.{sym, ◌∙◌, ◌++◌}
 use Rattle.std.proofs.lemmas.Result.{err_from_is_err_and}
 use Rattle.mos_typing.specs.Typing.{dynamic_words}
-use Rattle.mos_typing.specs.Reader.{array_of}
+use Rattle.mos_typing.specs.Shapes.{array_of}
 use Rattle.mos_typing.specs.Spellings.{IsTypeForm}
 use Rattle.mos_typing.proofs.Saying.{says_want}
 use Rattle.mos_typing.proofs.Typed.{says_no_cell, says_array}

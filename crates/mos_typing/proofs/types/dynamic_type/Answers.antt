@@ -1,7 +1,7 @@
-use Rattle.std.proofs.Common.{ap, ◌∷◌, ◌++◌}
+use Rattle.std.proofs.Common.{ap, ◌∷◌}
 use Rattle.mos_scan.specs.declared.token.TokenKind.TheVariants as t
 use Rattle.mos_scan.specs.declared.reading.Word.TheVariants as w
-use Rattle.mos_typing.specs.Reader.{array_of}
+use Rattle.mos_typing.specs.Shapes.{array_of}
 use Rattle.mos_typing.proofs.Typed.{says_no_dynamic, says_as}
 use Rattle.mos_typing.proofs.types.dynamic_type.Goals as goal
 

@@ -1,4 +1,4 @@
-use Rattle.mos_typing.specs.Reader.{array_of}
+use Rattle.mos_typing.specs.Shapes.{array_of}
 use Rattle.mos_typing.proofs.Typed.{says_plain, says_as}
 use Rattle.mos_typing.proofs.types.static_type.Goals as goal
 
