@@ -1,14 +1,11 @@
-use Rattle.std.proofs.Common.{◌≡◌, ◌≢◌, ℕ, ◌≤◌, Bool, true, false, ◌⊎◌, inl, inr, List, [], ◌∷◌, ◌++◌, length, Option, Some, None, Ok, Err, refl, sym, ◌∙◌, ap, subst, arith}
-use Rattle.std.specs.Prelude.{is_some}
+use Rattle.std.proofs.Common.{◌≡◌, ◌≢◌, Bool, true, false, inl, inr, List, [], ◌∷◌, ◌++◌, length, Option, Some, None, Ok, refl, sym, ◌∙◌, ap, subst, arith}
 use Rattle.std.proofs.lemmas.List.{append_cancel_left, append_cancel_right}
 use Rattle.mos_text.specs.declared.kind.Kind.{Kind}
 use Rattle.mos_text.specs.declared.kind.Kind.TheVariants as kind
 use Rattle.mos_tree.specs.declared.source.Tree.{Tree}
-use Rattle.mos_form.specs.declared.form.Form.TheVariants as f
 use Rattle.mos_form.specs.declared.form.Mould.{Mould}
 use Rattle.mos_form.specs.declared.form.Mould.TheVariants as m
 use Rattle.mos_form.specs.declared.form.PieceForm.{PieceForm}
-use Rattle.mos_source.specs.declared.frame.Frame.{Frame}
 use Rattle.mos_source.specs.declared.frame.Frame.TheVariants as g
 use Rattle.mos_source.specs.declared.frame.Part.{Part}
 use Rattle.mos_source.specs.declared.frame.Part.TheVariants as part
@@ -21,8 +18,8 @@ use Rattle.mos_source.specs.Places.{role_at}
 use Rattle.mos_source.specs.Sources.{Source, IsSource, tree_of, limit}
 use Rattle.mos_source.specs.Faults.{IsFaulty}
 use Rattle.mos_source.specs.Laws.{ProductionsTakeSources, ProductionsTakeNothingElse, ProductionsBreakThere, ProductionsBreak}
-use Rattle.mos_source.specs.Productions.{source, opens_block, form_at, Reading, took, broke, Reads, BreaksAt}
-use Rattle.mos_source.specs.Machine.{Stack, frame_place, enter, add_part, finished, done, stopped, at_end, step, run}
+use Rattle.mos_source.specs.Productions.{source, opens_block, form_at, took, broke, Reads, BreaksAt}
+use Rattle.mos_source.specs.Machine.{Stack, enter, add_part, done, stopped, step, run}
 use Rattle.mos_source.proofs.Steps.{step-role, run-step}
 use Rattle.mos_source.proofs.Held.{is_model}
 use Rattle.mos_source.proofs.Sound.{some_stack}
@@ -32,9 +29,9 @@ use Rattle.mos_source.proofs.Whole.{Found, run-found, Stop, run-stopped, begins,
 use Rattle.mos_source.proofs.Reading.{whole, one-fault, not-both}
 use Rattle.mos_source.proofs.OneWay.{one-way, took-broke, took-same}
 use Rattle.mos_source.proofs.Behind.{read-none}
-use Rattle.mos_source.proofs.Waits.{opened_place, waits-firm, is_end}
+use Rattle.mos_source.proofs.Waits.{opened_place, is_end}
 use Rattle.mos_source.proofs.Counted.{unknown-nowhere, counts-own, counts-fits, counts-other, not-known, as-mould, Fails, fails-own, fails-none}
-use Rattle.mos_source.proofs.Shapes.{At, opened-at, Adds, is_source}
+use Rattle.mos_source.proofs.Shapes.{At, opened-at, is_source}
 use Rattle.mos_source.proofs.Descent.{Live, ReadAt, broken, taken, Reader, led, on, none-begins, read-block}
 
 -- The productions name the faulty piece.

@@ -1,6 +1,5 @@
-use Rattle.std.proofs.Common.{ℕ, List, [], ◌∷◌, inl, inr, refl}
+use Rattle.std.proofs.Common.{[], ◌∷◌, inl, inr, refl}
 use Rattle.std.specs.Prelude.{codes}
-use Rattle.mos_tree.specs.declared.expr.Expr.TheVariants as e
 use Rattle.mos_tree.specs.declared.source.ModelName.TheVariants as called
 use Rattle.mos_form.specs.declared.form.Form.TheVariants as f
 use Rattle.mos_form.specs.declared.form.Guard.TheVariants as guard
@@ -10,7 +9,7 @@ use Rattle.mos_form.specs.declared.form.PieceForm.{PieceForm}
 use Rattle.mos_form.specs.Forms.{piece}
 use Rattle.mos_source.specs.Sources.{jobs_module}
 use Rattle.mos_source.specs.Productions.{source, heads, tops, if_block, do_block, statement, form_at, took, broke, Reads, BreaksAt}
-use Rattle.mos_source.proofs.Behind.{inside, outside, chain, joined, read-on, read-none}
+use Rattle.mos_source.proofs.Behind.{inside, chain, joined, read-on, read-none}
 
 -- Pieces that break at the piece that a reader of the grammar names.
 
@@ -65,5 +64,8 @@ block-breaks =
 more-breaks : (x : PieceForm) → BreaksAt (model ∷ end_model ∷ x ∷ []) (x ∷ [])
 unfolding model end_model form_at chain joined
 more-breaks x =
-    inr (read-on source 0 model (end_model ∷ x ∷ []) (took (x ∷ []))
-    (read-on heads 0 end_model (x ∷ []) (took (x ∷ [])) refl), λ none. let no : ⊥ = cc in no)
+    inr (
+      read-on source 0 model (end_model ∷ x ∷ []) (took (x ∷ []))
+          (read-on heads 0 end_model (x ∷ []) (took (x ∷ [])) refl),
+      λ none. let no : ⊥ = cc in no,
+    )
