@@ -1,4 +1,4 @@
-use Rattle.std.proofs.Common.{◌≡◌, ℕ, suc, Bool, true, false, ◌||◌, ◌&&◌, List, [], ◌∷◌, refl, sym, ◌∙◌, subst}
+use Rattle.std.proofs.Common.{◌≡◌, ℕ, suc, Bool, true, false, ◌||◌, ◌&&◌, List, ◌∷◌, refl, sym, ◌∙◌, subst}
 use Rattle.mos_form.specs.declared.form.Mould.{Mould}
 use Rattle.mos_form.specs.declared.form.Mould.TheVariants as m
 use Rattle.mos_form.specs.declared.form.PieceForm.{PieceForm}

@@ -1,14 +1,11 @@
-use Rattle.std.proofs.Common.{◌≡◌, ◌≢◌, ℕ, ◌≤◌, Bool, true, false, ◌⊎◌, inl, inr, List, [], ◌∷◌, ◌++◌, length, Option, Some, None, Ok, Err, refl, sym, ◌∙◌, ap, subst, arith}
-use Rattle.std.specs.Prelude.{is_some}
+use Rattle.std.proofs.Common.{◌≡◌, ◌≢◌, Bool, true, false, inl, inr, List, [], ◌∷◌, ◌++◌, length, Option, Some, None, Ok, refl, sym, ◌∙◌, ap, subst, arith}
 use Rattle.std.proofs.lemmas.List.{append_cancel_left, append_cancel_right}
 use Rattle.mos_text.specs.declared.kind.Kind.{Kind}
 use Rattle.mos_text.specs.declared.kind.Kind.TheVariants as kind
 use Rattle.mos_tree.specs.declared.source.Tree.{Tree}
-use Rattle.mos_form.specs.declared.form.Form.TheVariants as f
 use Rattle.mos_form.specs.declared.form.Mould.{Mould}
 use Rattle.mos_form.specs.declared.form.Mould.TheVariants as m
 use Rattle.mos_form.specs.declared.form.PieceForm.{PieceForm}
-use Rattle.mos_source.specs.declared.frame.Frame.{Frame}
 use Rattle.mos_source.specs.declared.frame.Frame.TheVariants as g
 use Rattle.mos_source.specs.declared.frame.Part.{Part}
 use Rattle.mos_source.specs.declared.frame.Part.TheVariants as part
@@ -20,21 +17,21 @@ use Rattle.mos_source.specs.Limits.{own_limit}
 use Rattle.mos_source.specs.Places.{role_at}
 use Rattle.mos_source.specs.Sources.{Source, IsSource, tree_of, limit}
 use Rattle.mos_source.specs.Faults.{IsFaulty}
-use Rattle.mos_source.specs.Laws.{ProductionsBreakThere, ProductionsBreak}
-use Rattle.mos_source.specs.Productions.{source, opens_block, form_at, Reading, took, broke, Reads, BreaksAt}
-use Rattle.mos_source.specs.Machine.{Stack, frame_place, enter, add_part, finished, done, stopped, at_end, step, run}
+use Rattle.mos_source.specs.Laws.{ProductionsTakeSources, ProductionsTakeNothingElse, ProductionsBreakThere, ProductionsBreak}
+use Rattle.mos_source.specs.Productions.{source, opens_block, form_at, took, broke, Reads, BreaksAt}
+use Rattle.mos_source.specs.Machine.{Stack, enter, add_part, done, stopped, step, run}
 use Rattle.mos_source.proofs.Steps.{step-role, run-step}
 use Rattle.mos_source.proofs.Held.{is_model}
 use Rattle.mos_source.proofs.Sound.{some_stack}
 use Rattle.mos_source.proofs.SoundStep.{sound}
 use Rattle.mos_source.proofs.Progress.{progress}
 use Rattle.mos_source.proofs.Whole.{Found, run-found, Stop, run-stopped, begins, is-stuck}
-use Rattle.mos_source.proofs.Reading.{one-fault, not-both}
+use Rattle.mos_source.proofs.Reading.{whole, one-fault, not-both}
 use Rattle.mos_source.proofs.OneWay.{one-way, took-broke, took-same}
 use Rattle.mos_source.proofs.Behind.{read-none}
-use Rattle.mos_source.proofs.Waits.{opened_place, waits-firm, is_end}
+use Rattle.mos_source.proofs.Waits.{opened_place, is_end}
 use Rattle.mos_source.proofs.Counted.{unknown-nowhere, counts-own, counts-fits, counts-other, not-known, as-mould, Fails, fails-own, fails-none}
-use Rattle.mos_source.proofs.Shapes.{At, opened-at, Adds, is_source}
+use Rattle.mos_source.proofs.Shapes.{At, opened-at, is_source}
 use Rattle.mos_source.proofs.Descent.{Live, ReadAt, broken, taken, Reader, led, on, none-begins, read-block}
 
 -- The productions name the faulty piece.
@@ -115,6 +112,35 @@ from-role (Some role) x xs r =
 read-source : (pieces : List PieceForm) → ReadSource pieces
 read-source [] = breaks [] kind.Syntax (read-none source 0 [] refl (none-begins p.Start m.Unknown refl (unknown-nowhere p.Start))) refl
 read-source (x ∷ xs) = from-role (role_at p.Start (form_at 0 x)) x xs refl
+
+-- ---- sources
+
+takes-source : (pieces : List PieceForm) (x : Source) → ReadSource pieces → IsSource pieces x → Reads source 0 pieces (took [])
+takes-source pieces x (breaks left wrong reads e) is =
+    let read : run limit [] pieces ≡ done (tree_of x) = whole pieces x is in
+    let no : ⊥ = cc in
+    absurd no
+takes-source pieces x (ends tree reads e) is = reads
+takes-source pieces x (goes_on y ys wrong reads e) is =
+    let read : run limit [] pieces ≡ done (tree_of x) = whole pieces x is in
+    let no : ⊥ = cc in
+    absurd no
+
+pub productions-take-sources : ProductionsTakeSources
+productions-take-sources pieces x is = takes-source pieces x (read-source pieces) is
+
+more-nothing : (x : PieceForm) (xs : List PieceForm) → x ∷ xs ≡ [] → ⊥
+more-nothing x xs e = cc
+
+takes-nothing-else : (pieces : List PieceForm) → ReadSource pieces → Reads source 0 pieces (took []) → (x : Source) × IsSource pieces x
+takes-nothing-else pieces (breaks left wrong reads e) all = absurd (took-broke [] left (one-way source 0 pieces (took []) (broke left) all reads))
+takes-nothing-else pieces (ends tree reads e) all =
+    let it : Found limit pieces tree = run-found limit pieces [] [] tree refl e in
+    (it.source, record { exact = it.exact; within = it.within })
+takes-nothing-else pieces (goes_on x xs wrong reads e) all = absurd (more-nothing x xs (took-same (x ∷ xs) [] (one-way source 0 pieces (took (x ∷ xs)) (took []) reads all)))
+
+pub productions-take-nothing-else : ProductionsTakeNothingElse
+productions-take-nothing-else pieces all = takes-nothing-else pieces (read-source pieces) all
 
 -- ---- the faulty piece
 

@@ -1,4 +1,4 @@
-use Rattle.std.proofs.Common.{◌≡◌, ℕ, zero, suc, ◌≤◌, Bool, true, false, List, [], ◌∷◌, ◌++◌, length, Option, Some, None, Ok, Err, refl, sym, ◌∙◌, ap, subst, arith}
+use Rattle.std.proofs.Common.{◌≡◌, ℕ, zero, suc, ◌≤◌, Bool, true, false, List, [], ◌∷◌, ◌++◌, length, Option, Some, None, Ok, refl, sym, ◌∙◌, ap, subst, arith}
 use Rattle.std.specs.Prelude.{is_some}
 use Rattle.mos_text.specs.declared.kind.Kind.{Kind}
 use Rattle.mos_text.specs.declared.kind.Kind.TheVariants as kind
@@ -11,17 +11,16 @@ use Rattle.mos_source.specs.declared.place.Place.TheVariants as p
 use Rattle.mos_source.specs.declared.place.Role.{Role}
 use Rattle.mos_source.specs.declared.place.Role.TheVariants.{Opens, GoesOn, Stands, Closes}
 use Rattle.mos_form.specs.Forms.{mould_of}
-use Rattle.mos_source.specs.Limits.{own_limit}
 use Rattle.mos_source.specs.Places.{role_at}
 use Rattle.mos_source.specs.Sources.{limit}
-use Rattle.mos_source.specs.Productions.{opens_block, form_at, front, Reading, took, broke, Reads}
+use Rattle.mos_source.specs.Productions.{opens_block, form_at, Reading, took, broke, Reads}
 use Rattle.mos_source.specs.Machine.{Stack, frame_place, enter, step, stopped, at_end, run}
 use Rattle.mos_source.proofs.Steps.{step-role, run-step}
 use Rattle.mos_source.proofs.Held.{is_model, Holds}
 use Rattle.mos_source.proofs.Sound.{some_stack}
 use Rattle.mos_source.proofs.SoundStep.{sound}
 use Rattle.mos_source.proofs.Progress.{progress}
-use Rattle.mos_source.proofs.Behind.{Then, inside, outside, ReadsLeft, choose, behind, may_begin, within, within_then, rest, whole, read-on, read-none}
+use Rattle.mos_source.proofs.Behind.{inside, outside, ReadsLeft, choose, behind, may_begin, within, within_then, rest, whole, read-on, read-none}
 use Rattle.mos_source.proofs.Waits.{waits, opened_place, gone_place, place_after, left_opened, left_after, left_at, is_end, waits-firm, left-is, begins-is}
 use Rattle.mos_source.proofs.Counted.{may_open, may_not_open, is_start, frame-no-start, opens-so, unknown-nowhere, Counts, Fails, fails, counts}
 use Rattle.mos_source.proofs.Shapes.{At, opened-at, gone-at, Adds, stands-adds, closes-adds, is_looped, adds-at, adds-ends, unfinished}

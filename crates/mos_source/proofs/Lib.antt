@@ -6,6 +6,7 @@ pub mod Completing
 pub mod Counted
 pub mod Descent
 pub mod Ends
+pub mod Examples
 pub mod Held
 pub mod Naming
 pub mod OneWay

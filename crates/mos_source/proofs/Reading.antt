@@ -11,7 +11,7 @@ use Rattle.mos_source.proofs.Whole.{Found, run-found, faulty}
 
 -- ---- one tree
 
-whole : (pieces : List PieceForm) (x : Source) → IsSource pieces x → run limit [] pieces ≡ done (tree_of x)
+pub whole : (pieces : List PieceForm) (x : Source) → IsSource pieces x → run limit [] pieces ≡ done (tree_of x)
 whole pieces x is = subst (λ z. run limit [] z ≡ done (tree_of x)) (sym is.exact) (source-read limit x is.within.allowed is.within.fits)
 
 pub one-tree : HaveOneTree

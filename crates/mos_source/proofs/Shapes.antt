@@ -2,13 +2,10 @@ use Rattle.std.proofs.Common.{◌≡◌, ℕ, Bool, true, false, List, [], ◌�
 use Rattle.mos_tree.specs.declared.declaration.BaseType.{BaseType}
 use Rattle.mos_tree.specs.declared.statement.Statement.{Statement}
 use Rattle.mos_tree.specs.declared.statement.Statement.TheVariants as s
-use Rattle.mos_tree.specs.declared.source.Tree.{Tree}
 use Rattle.mos_form.specs.declared.form.Form.{Form}
 use Rattle.mos_form.specs.declared.form.Form.TheVariants as f
 use Rattle.mos_form.specs.declared.form.Guard.TheVariants as guard
 use Rattle.mos_form.specs.declared.form.Keyword.TheVariants as keyword
-use Rattle.mos_form.specs.declared.form.Mould.{Mould}
-use Rattle.mos_form.specs.declared.form.Mould.TheVariants as m
 use Rattle.mos_source.specs.declared.frame.Frame.{Frame}
 use Rattle.mos_source.specs.declared.frame.Frame.TheVariants as g
 use Rattle.mos_source.specs.declared.frame.Part.{Part}

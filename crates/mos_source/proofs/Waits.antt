@@ -7,7 +7,7 @@ use Rattle.mos_source.specs.declared.place.Place.TheVariants as p
 use Rattle.mos_source.specs.declared.place.Role.{Role}
 use Rattle.mos_source.specs.declared.place.Role.TheVariants.{Opens, GoesOn, Stands, Closes}
 use Rattle.mos_source.specs.Places.{role_at}
-use Rattle.mos_source.specs.Productions.{Rule, one, ◌~◌, optional, many, statement, source, heads, tops, parameters_block, declarations_block, record_block, procedure_block, function_block, if_block, case_block, repeat_block, do_block, initializations_block, otherwise}
+use Rattle.mos_source.specs.Productions.{Rule, one, ◌~◌, many, statement, source, heads, tops, parameters_block, declarations_block, record_block, procedure_block, function_block, if_block, case_block, repeat_block, do_block, initializations_block}
 use Rattle.mos_source.proofs.Behind.{Left, refused, whole, rest, within, within_then, joined, chain, behind, may_begin, is_firm}
 
 -- What is still to be read of the innermost open block, at each place.

@@ -1,12 +1,12 @@
 -- Laws of sources and faulty pieces.
 
-use Rattle.std.specs.Prelude.{◌≡◌, ◌⊎◌, ℕ, List, ◌++◌}
+use Rattle.std.specs.Prelude.{◌≡◌, ◌⊎◌, ℕ, List, [], ◌++◌}
 use Rattle.mos_form.specs.declared.form.PieceForm.{PieceForm}
 use Rattle.mos_tree.specs.Texts.{texts_of_tree}
 use Rattle.mos_form.specs.Texts.{texts_of_pieces}
 use Rattle.mos_source.specs.Sources.{Source, IsSource, spell_source, tree_of}
 use Rattle.mos_source.specs.Faults.{IsFaulty}
-use Rattle.mos_source.specs.Productions.{Rule, Reading, Reads, BreaksAt}
+use Rattle.mos_source.specs.Productions.{Rule, source, Reading, took, Reads, BreaksAt}
 
 -- pieces have at most one tree
 abbrev pub HaveOneTree : Type 0
@@ -43,3 +43,11 @@ ProductionsBreak = (before after : List PieceForm) → IsFaulty before after →
 -- a production reads pieces in one way
 abbrev pub ProductionsReadOneWay : Type 0
 ProductionsReadOneWay = (rule : Rule) (depth : ℕ) (pieces : List PieceForm) (one other : Reading) → Reads rule depth pieces one → Reads rule depth pieces other → one ≡ other
+
+-- the productions take all pieces of a source
+abbrev pub ProductionsTakeSources : Type 0
+ProductionsTakeSources = (pieces : List PieceForm) (x : Source) → IsSource pieces x → Reads source 0 pieces (took [])
+
+-- pieces all of which the productions take are a source
+abbrev pub ProductionsTakeNothingElse : Type 0
+ProductionsTakeNothingElse = (pieces : List PieceForm) → Reads source 0 pieces (took []) → (x : Source) × IsSource pieces x

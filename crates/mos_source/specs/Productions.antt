@@ -10,15 +10,14 @@ use Rattle.mos_source.specs.Sources.{limit}
 
 infixr 30 ◌~◌
 infixr 20 ◌or◌
-
 -- ---- the grammar
 
--- parts of a production; `a ~ b` is one part behind the other
+-- parts of a production: `a ~ b` is a sequence, `a or b` a choice
 pub data Rule : Type 0 where
   one : Mould → Rule  -- one piece of this form
   block : Mould → Rule → Rule  -- a piece that opens a block, and what stands behind it in the block
   ◌~◌ : Rule → Rule → Rule
-  ◌or◌ : Rule → Rule → Rule  -- a choice
+  ◌or◌ : Rule → Rule → Rule
   optional : Rule → Rule
   many : Rule → Rule
   statement : Rule  -- a statement, by its name
@@ -95,7 +94,10 @@ initializations_block = many (one m.Bare or one m.Labels) ~ one m.EndInitializat
 
 -- what a statement is; one piece is an assignment, a list that is filled, a call, `break` or `next`
 abbrev pub statement_is : Rule
-statement_is = one m.Simple or one m.Bare or block m.If if_block or block m.Case case_block or block m.Forall statement or block m.While statement or block m.Repeat repeat_block or block m.Do do_block or block m.Initializations initializations_block
+statement_is =
+    one m.Simple or one m.Bare or block m.If if_block or block m.Case case_block or
+    block m.Forall statement or block m.While statement or block m.Repeat repeat_block or
+    block m.Do do_block or block m.Initializations initializations_block
 
 -- ---- forms
 
@@ -170,8 +172,8 @@ abbrev pub front : ℕ → List PieceForm → Mould
 front depth [] = m.Unknown
 front depth (x ∷ xs) = form_at depth x
 
--- whether a part begins with a piece of this form, if it is known of statements. No part that is
--- chosen or entered begins with one that may be missing
+-- whether a part begins with a piece of this form, where it is known of statements (`named`). No part
+-- that is chosen or entered begins with one that may be missing
 abbrev pub begins_if : Bool → Rule → Mould → Bool
 begins_if named (one form) x = same form x
 begins_if named (block form rest) x = same form x
@@ -181,7 +183,7 @@ begins_if named (optional a) x = begins_if named a x
 begins_if named (many a) x = begins_if named a x
 begins_if named statement x = named
 
--- whether a part begins with a piece of this form; no statement begins with a statement
+-- whether a part begins with a piece of this form; no form of statement begins with a statement
 abbrev pub begins : Rule → Mould → Bool
 begins rule x = begins_if (begins_if false statement_is x) rule x
 
@@ -204,7 +206,8 @@ pub data Reads : Rule → ℕ → List PieceForm → Reading → Type 0 where
   breaks_first : (a b : Rule) (depth : ℕ) (pieces left : List PieceForm) → Reads a depth pieces (broke left) → Reads (a ~ b) depth pieces (broke left)
   -- a sequence whose first part takes pieces reads on behind these
   goes_on : (a b : Rule) (depth : ℕ) (pieces between : List PieceForm) (end : Reading) → Reads a depth pieces (took between) → Reads b depth between end → Reads (a ~ b) depth pieces end
-  -- a choice reads as the part does that begins with the first piece, and breaks there if there is none
+  -- a choice reads as that alternative does which begins with the first piece, and breaks there where
+  -- there is none; the alternatives of the grammar differ in the forms of their first pieces
   as_first : (a b : Rule) (depth : ℕ) (pieces : List PieceForm) (end : Reading) → begins a (front depth pieces) ≡ true → Reads a depth pieces end → Reads (a or b) depth pieces end
   as_second : (a b : Rule) (depth : ℕ) (pieces : List PieceForm) (end : Reading) → begins a (front depth pieces) ≡ false → begins b (front depth pieces) ≡ true → Reads b depth pieces end → Reads (a or b) depth pieces end
   as_none : (a b : Rule) (depth : ℕ) (pieces : List PieceForm) → begins a (front depth pieces) ≡ false → begins b (front depth pieces) ≡ false → Reads (a or b) depth pieces (broke pieces)

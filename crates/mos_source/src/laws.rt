@@ -1,6 +1,7 @@
 //! Laws of sources, as contracts of calls that do nothing.
 ghost use Rattle.mos_source.specs.Laws.{HaveOneTree, HaveOneFault, HaveNotBoth, HaveOneOfBoth, TreesHaveTheirTexts};
-ghost use Rattle.mos_source.specs.Laws.{ProductionsReadOneWay, ProductionsBreakThere, ProductionsBreak};
+ghost use Rattle.mos_source.specs.Laws.{ProductionsReadOneWay, ProductionsTakeSources, ProductionsTakeNothingElse};
+ghost use Rattle.mos_source.specs.Laws.{ProductionsBreak, ProductionsBreakThere};
 
 /// Pieces have at most one tree and at most one faulty piece, and always one of both and never both.
 pub fn pieces_are_read_one_way()
@@ -15,10 +16,12 @@ pub fn sources_have_their_texts()
     ensures { TreesHaveTheirTexts }
 {}
 
-/// The productions of the grammar name the faulty piece, too: it is the first one that they cannot
-/// take, each read with the number of blocks that are open.
+/// The productions of the grammar, each read with the number of blocks that are open, take the sources
+/// and nothing else, and the first piece that they cannot take is the faulty one.
 pub fn pieces_break_by_productions()
     ensures one_way { ProductionsReadOneWay }
-    ensures there { ProductionsBreakThere }
-    ensures each { ProductionsBreak }
+    ensures takes { ProductionsTakeSources }
+    ensures takes_only { ProductionsTakeNothingElse }
+    ensures breaks { ProductionsBreak }
+    ensures breaks_only { ProductionsBreakThere }
 {}
