@@ -7,17 +7,7 @@ use Rattle.std.proofs.lemmas.List.Elements.{All-nil, All-cons}
 use Rattle.std.proofs.lemmas.Slice.Eq.{bytes_eq-Decides}
 use Rattle.job_calls.specs.declared.entry.Listed.{Listed}
 use Rattle.job_calls.specs.Legal.{HaveDistinctNames}
-use Rattle.job_calls.proofs.Outcomes.{false_true}
-
-or_false : (a b : Bool) → (a || b) ≡ false → (a ≡ false) × (b ≡ false)
-or_false true b e = absurd (false_true (sym e))
-or_false false b e = (refl, e)
-
-all_apart : (name : List ℕ) (files : List Listed) → list_any (λ file. bytes_eq file.name name) files ≡ false → All (λ file. file.name ≢ name) files
-all_apart name [] e = All-nil _
-all_apart name (x ∷ xs) e =
-    let both = or_false (bytes_eq x.name name) (list_any (λ file. bytes_eq file.name name) xs) e in
-    All-cons (λ (file : Listed). file.name ≢ name) x xs (λ same. false_true (sym both.0 ∙ (bytes_eq-Decides x.name name).1 same)) (all_apart name xs both.1)
+use Rattle.job_calls.proofs.Naming.{all_apart}
 
 distinct_by : (files : List Listed) (file : Listed) → 1 ≤ length files → file ≡ get_or files 0 file
     → list_any (λ other. bytes_eq other.name file.name) (drop 1 files) ≡ false → HaveDistinctNames (drop 1 files) → HaveDistinctNames files

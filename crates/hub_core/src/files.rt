@@ -1,5 +1,5 @@
 //! The files that the job was opened with.
-ghost use Rattle.std.specs.Prelude.{◌≡◌, ℕ, ◌<◌, ◌^◌, ◌&&◌, [], length, find, position, IfSome, option_copied, option_map, bytes_eq, codes};
+ghost use Rattle.std.specs.Prelude.{◌≡◌, ℕ, ◌<◌, ◌^◌, ◌&&◌, [], length, find, position, IfSome, option_copied, option_map, bytes_eq};
 ghost use Rattle.std.specs.Option.{option_map_or};
 ghost use Rattle.job_calls.specs.Files as listing;
 ghost use Rattle.job_calls.specs.Runs.{Opening, opening_of, opening, opened_params};
@@ -60,7 +60,7 @@ pub(crate) fn is_source(name: &Text) -> bool
 }
 
 pub(crate) fn is_image(name: &Text) -> bool
-    ensures { result ≡ listing.has_ending (codes ".bim") name.now }
+    ensures { result ≡ listing.is_image name.now }
 {
     has_ending(b".bim", name)
 }

@@ -26,13 +26,9 @@ use Rattle.job_calls.proofs.Counts.{any-snoc}
 use Rattle.job_calls.proofs.Outcomes as outcome
 use Rattle.job_calls.proofs.Outcomes.{Outcome, run_outcome, is_idle, is_granted, false_true}
 use Rattle.job_calls.proofs.Entering as enter
-use Rattle.job_calls.proofs.Entering.{Entering, entering, and_true, is_run-some}
+use Rattle.job_calls.proofs.Entering.{Entering, entering, and_true, or_false, is_run-some}
 use Rattle.job_calls.proofs.Piping.{Piped, piped, part_of, session-snoc, says_true}
 use Rattle.job_calls.proofs.Holding.{holder-snoc, not_so, was_free, holds_whole}
-
-or_false : (a b : Bool) → (a || b) ≡ false → (a ≡ false) × (b ≡ false)
-or_false true b e = absurd (false_true (sym e))
-or_false false b e = (refl, e)
 
 -- a session goes on until the pipe is opened to read again
 session_stays : (name : List ℕ) (log : List Entry) (place : ℕ) (es : List Entry) → session name log ≡ Some place

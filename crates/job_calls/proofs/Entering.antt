@@ -1,6 +1,6 @@
 -- What an entry that follows a journal is: a call that fits, with the answer that is given.
 
-use Rattle.std.proofs.Common.{◌≡◌, ℕ, Bool, true, false, not, ◌&&◌, List, Option, Some, None, refl, sym, ap, subst, nat_eq}
+use Rattle.std.proofs.Common.{◌≡◌, ℕ, Bool, true, false, not, ◌&&◌, ◌||◌, List, Option, Some, None, refl, sym, ap, subst, nat_eq}
 use Rattle.std.specs.Prelude.{is_some, if◌then◌else◌}
 use Rattle.std.proofs.lemmas.Bool.{eqb-true}
 use Rattle.job_calls.specs.declared.call.Call.{Call}
@@ -21,6 +21,10 @@ use Rattle.job_calls.proofs.Outcomes.{reply_of, false_true}
 pub and_true : (a b : Bool) → (a && b) ≡ true → (a ≡ true) × (b ≡ true)
 and_true true b e = (refl, e)
 and_true false b e = absurd (false_true e)
+
+pub or_false : (a b : Bool) → (a || b) ≡ false → (a ≡ false) × (b ≡ false)
+or_false true b e = absurd (false_true (sym e))
+or_false false b e = (refl, e)
 
 pub is_run-some : (k : ℕ) (o : Option ℕ) → is_run k o ≡ true → o ≡ Some k
 is_run-some k None e = absurd (false_true e)

@@ -9,3 +9,5 @@ pub mod Piping
 pub mod Listing
 pub mod Holding
 pub mod Ending
+pub mod Naming
+pub mod Standing

@@ -7,16 +7,30 @@ use Rattle.job_calls.specs.declared.entry.Entry.{Entry}
 use Rattle.job_calls.specs.declared.entry.Listed.{Listed}
 use Rattle.job_calls.specs.Runs.{Opening, opening}
 
+-- the last so many bytes of a name
+abbrev pub last_bytes : ℕ → List ℕ → List ℕ
+last_bytes many name = drop (length name - many) name
+
+-- how the names of sources and images end
+abbrev pub source_ending : List ℕ
+source_ending = codes ".mos"
+
+abbrev pub image_ending : List ℕ
+image_ending = codes ".bim"
+
 -- the name ends in these bytes
 abbrev pub has_ending : List ℕ → List ℕ → Bool
-has_ending ending name = bytes_eq (drop (length name - length ending) name) ending
+has_ending ending name = bytes_eq (last_bytes (length ending) name) ending
 
 -- a file is a source, an image, or else a data file
 abbrev pub is_source : List ℕ → Bool
-is_source name = has_ending (codes ".mos") name
+is_source name = has_ending source_ending name
+
+abbrev pub is_image : List ℕ → Bool
+is_image name = has_ending image_ending name
 
 abbrev pub is_data : List ℕ → Bool
-is_data name = not (is_source name) && not (has_ending (codes ".bim") name)
+is_data name = not (is_source name) && not (is_image name)
 
 -- the files, and the number of lanes, that the job was opened with
 abbrev pub files_of : List Entry → List Listed

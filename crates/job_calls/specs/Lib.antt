@@ -21,3 +21,5 @@ pub mod ReportExamples
 pub mod JournalExamples
 pub mod RunExamples
 pub mod HubExamples
+pub mod FitExamples
+pub mod RowExamples

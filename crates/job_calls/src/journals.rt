@@ -1,7 +1,10 @@
 //! Worked examples of journals: functions that do nothing, whose contracts are the examples.
+ghost use Rattle.job_calls.specs.Legal.{IsLegal};
 ghost use Rattle.job_calls.specs.JournalExamples.{HelloIsLegal, UnheldRun, AnotherRun, OtherLaneWaits, NotDoneYet, AfterTheEnd};
 ghost use Rattle.job_calls.specs.RunExamples.{TwoRuns, SourceOfMaster, SourceOfChild, ParamsOfMaster, ParamsOfChild, CallsOfMaster, RepliesOfMaster, CallsOfChild, FinishOfChild, FittingReplies, FittingFault, FaultOfItsOwn, ReplyOfAnotherCall, CodeTooLarge};
-ghost use Rattle.job_calls.specs.HubExamples.{WaitsForChild, NoLaneIsFree, IsBusy, RunsAgain, ReadsLastWrite, TakesWhole, FullPipeWaits, ReaderStops, BothWait};
+ghost use Rattle.job_calls.specs.FitExamples.{UnfitCalls, UnclaimedRun, FinishedRun, LaneIsDone, OnlyFinishes, PipesOfOthers, ClosedEnd};
+ghost use Rattle.job_calls.specs.RowExamples.{files_and_nothing, NothingToRun, model_goes, EndsTell, UnloadWaits, AllIsShut, stopped_unclaimed, master_ends_first, reads_after_writes, EndsAreBusy, empty_block, TooManyBytes, OldWriter, new_session};
+ghost use Rattle.job_calls.specs.HubExamples.{waits_for_child, no_lane_is_free, run_twice, runs_again, reads_last_write, takes_whole, FullPipeWaits, reader_stops, BothWait};
 
 /// The journal of one run on one lane is legal.
 pub fn hello_journal()
@@ -39,19 +42,52 @@ pub fn replies_that_fit()
     ensures too_large { CodeTooLarge }
 {}
 
-/// Jobs of two runs, whose calls fit and are answered so.
+/// Jobs of two runs, whose journals are legal.
 pub fn whole_jobs()
-    ensures waits { WaitsForChild }
-    ensures no_lane { NoLaneIsFree }
-    ensures again { RunsAgain }
-    ensures blocks { ReadsLastWrite }
-    ensures pipe { TakesWhole }
-    ensures stopped { ReaderStops }
+    ensures waits { IsLegal waits_for_child }
+    ensures no_lane { IsLegal no_lane_is_free }
+    ensures again { IsLegal runs_again }
+    ensures blocks { IsLegal reads_last_write }
+    ensures pipe { IsLegal takes_whole }
+    ensures stopped { IsLegal reader_stops }
 {}
 
 /// Answers at one moment of such a job.
 pub fn answers()
-    ensures busy { IsBusy }
+    ensures busy { IsLegal run_twice }
     ensures full_pipe { FullPipeWaits }
     ensures both_wait { BothWait }
+{}
+
+/// Calls that may not be made.
+pub fn unfit_calls()
+    ensures calls { UnfitCalls }
+    ensures unclaimed { UnclaimedRun }
+    ensures finished { FinishedRun }
+    ensures done { LaneIsDone }
+    ensures over { OnlyFinishes }
+    ensures pipes { PipesOfOthers }
+    ensures closed { ClosedEnd }
+{}
+
+/// Legal journals of models, stopped runs, memory and pipes.
+pub fn rows_of_jobs()
+    ensures files { IsLegal files_and_nothing }
+    ensures model { IsLegal model_goes }
+    ensures unclaimed { IsLegal stopped_unclaimed }
+    ensures master_first { IsLegal master_ends_first }
+    ensures memory { IsLegal reads_after_writes }
+    ensures empty { IsLegal empty_block }
+    ensures anew { IsLegal new_session }
+{}
+
+/// Answers that are seldom met.
+pub fn rare_answers()
+    ensures nothing_to_run { NothingToRun }
+    ensures ends { EndsTell }
+    ensures unload { UnloadWaits }
+    ensures shut { AllIsShut }
+    ensures busy { EndsAreBusy }
+    ensures bytes { TooManyBytes }
+    ensures old_writer { OldWriter }
 {}

@@ -22,7 +22,6 @@ impl Draws {
         self.last >> 16
     }
 
-    /// Ends and faults are rare, so that a job goes on for a while.
     fn step(&mut self) -> Step {
         let value = (self.draw() % 100) as u8;
         match self.draw() % 40 {
@@ -73,14 +72,22 @@ fn compare(
     Ok(())
 }
 
+/// Most calls are such that fit and end nothing.
+fn is_wanted(draws: &mut Draws, reading: &Reading, lane: u32, step: Step) -> bool {
+    let likely = reading.fits(lane, step) && !reading.is_final(lane, step);
+    likely || draws.draw() % 10 == 0
+}
+
 /// A job from the moment that both of its runs go on.
 fn compare_job(rt: &impl Abort, alloc: Global, draws: &mut Draws) -> Result<(), Fail> {
     let mut hub = running(rt, alloc)?;
     let mut reading = Reading::new(alloc, 6);
-    for _ in 0..60 {
+    for _ in 0..120 {
         let lane = draws.draw() % 2;
         let step = draws.step();
-        compare(rt, alloc, &mut hub, &mut reading, lane, step)?;
+        if is_wanted(draws, &reading, lane, step) {
+            compare(rt, alloc, &mut hub, &mut reading, lane, step)?;
+        }
     }
     Ok(())
 }

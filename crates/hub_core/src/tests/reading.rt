@@ -117,17 +117,15 @@ impl Reading {
     }
 
     fn answer(&mut self, alloc: Global, run: u32, step: Step) -> Result<Told, Fail> {
-        let stand = self.stand(run);
-        if stand.ended {
-            return self.claim(alloc, run, step);
-        }
-        if let Step::Finish(code) = step {
-            return self.finish(alloc, run, code);
-        }
-        if stand.over || !self.may(run, step) {
+        if !self.fits(run, step) {
             return Ok(Told::Unfit);
         }
-        if stand.asked || self.master.ended {
+        match step {
+            Step::Claim => return self.claim(alloc, run),
+            Step::Finish(code) => return self.finish(alloc, run, code),
+            _ => {}
+        }
+        if self.stand(run).asked || self.master.ended {
             return last(alloc, "Halt");
         }
         match step {
@@ -139,15 +137,51 @@ impl Reading {
         }
     }
 
-    /// A lane whose run has ended asks for another, and there is none.
-    fn claim(&mut self, alloc: Global, run: u32, step: Step) -> Result<Told, Fail> {
-        let mut stand = self.stand(run);
-        if !matches!(step, Step::Claim) || stand.done {
-            return Ok(Told::Unfit);
+    /// Whether the lane of the run may call so.
+    pub fn fits(&self, run: u32, step: Step) -> bool {
+        let stand = self.stand(run);
+        match step {
+            Step::Claim => stand.ended && !stand.done,
+            Step::Finish(_) => !stand.ended,
+            _ => !stand.ended && !stand.over && self.has_end(run, step),
         }
+    }
+
+    /// Whether the run has the end of the pipe that the call asks for.
+    fn has_end(&self, run: u32, step: Step) -> bool {
+        let reads = self.pipe.reader == Some(run);
+        let writes = self.pipe.writer == Some(run);
+        match step {
+            Step::Put(_, _) => writes,
+            Step::Take => reads,
+            Step::Close => reads || writes,
+            _ => true,
+        }
+    }
+
+    /// Whether the call ends a run, or leads to its end.
+    pub fn is_final(&self, run: u32, step: Step) -> bool {
+        match step {
+            Step::Finish(_) => !self.stand(run).over,
+            Step::Stop => true,
+            Step::OpenToRead => self.pipe.reader.is_some(),
+            Step::OpenToWrite => self.pipe.writer.is_some(),
+            Step::Put(_, _) => !self.is_joined(),
+            _ => false,
+        }
+    }
+
+    /// Whether the session has its reader, and the last writer is the session's.
+    fn is_joined(&self) -> bool {
+        self.pipe.reader.is_some() && self.pipe.joined == Some(self.pipe.session)
+    }
+
+    /// A lane whose run has ended asks for another, and there is none.
+    fn claim(&mut self, alloc: Global, run: u32) -> Result<Told, Fail> {
         if !self.master.ended {
             return Ok(Told::NotYet);
         }
+        let mut stand = self.stand(run);
         stand.done = true;
         self.set(run, stand);
         plain(alloc, "Done")
@@ -168,19 +202,6 @@ impl Reading {
             })?;
         }
         plain(alloc, "Unit")
-    }
-
-    /// Which calls a run may make that holds these ends.
-    fn may(&self, run: u32, step: Step) -> bool {
-        let reads = self.pipe.reader == Some(run);
-        let writes = self.pipe.writer == Some(run);
-        match step {
-            Step::Claim => false,
-            Step::Put(_, _) => writes,
-            Step::Take => reads,
-            Step::Close => reads || writes,
-            _ => true,
-        }
     }
 
     fn look(&mut self, alloc: Global, run: u32, step: Step) -> Result<Told, Fail> {
@@ -308,7 +329,7 @@ impl Reading {
     }
 
     fn put(&mut self, alloc: Global, many: usize, byte: u8) -> Result<Told, Fail> {
-        if self.pipe.reader.is_none() || self.pipe.joined != Some(self.pipe.session) {
+        if !self.is_joined() {
             return last(alloc, "Fault(Broken)");
         }
         if self.pipe.waiting.len().saturating_add(many) > 4096 {
