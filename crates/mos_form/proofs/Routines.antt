@@ -178,8 +178,11 @@ no_function forward words none = no_piece (lead forward t.Function words) (λ p 
 -- ---- `forward`
 
 forward_back : (words : List Word) (p : Phrase) → IsPhrase (w.Key t.Forward ∷ words) p → head_is p ≡ Some h.Forward
-    → (kind : TokenKind) → (rest : List Word) → words ≡ w.Key kind ∷ rest → (kind ≡ t.Procedure → ⊥) → (kind ≡ t.Function → ⊥) → ⊥
-forward_back words (forward_procedure n xs) k e kind rest is no_p no_f = let q = k.exact in no_p cc
-forward_back words (forward_function n xs b) k e kind rest is no_p no_f = let q = k.exact in no_f cc
-forward_back words (assign to_result op s) k e kind rest is no_p no_f = cc
-forward_back words _ k e kind rest is no_p no_f = cc
+    → ((rest : List Word) → words ≡ w.Key t.Procedure ∷ rest → ⊥) → ((rest : List Word) → words ≡ w.Key t.Function ∷ rest → ⊥) → ⊥
+forward_back words (forward_procedure n xs) k e no_p no_f = no_p (w.Name n ∷ formal_words xs) (tail_same (w.Key t.Forward) (w.Key t.Forward) words (w.Key t.Procedure ∷ w.Name n ∷ formal_words xs) k.exact)
+forward_back words (forward_function n xs b) k e no_p no_f = no_f (w.Name n ∷ result_words xs b) (tail_same (w.Key t.Forward) (w.Key t.Forward) words (w.Key t.Function ∷ w.Name n ∷ result_words xs b) k.exact)
+forward_back words (assign to_result op s) k e no_p no_f = cc
+forward_back words _ k e no_p no_f = cc
+
+pub no_forward : (words : List Word) → ((rest : List Word) → words ≡ w.Key t.Procedure ∷ rest → ⊥) → ((rest : List Word) → words ≡ w.Key t.Function ∷ rest → ⊥) → TellsPiece (w.Key t.Forward ∷ words) f.Unknown
+no_forward words no_p no_f = no_piece (w.Key t.Forward ∷ words) (λ p m. forward_back words p m.0 (key_head t.Forward words p m.1 m.0.exact) no_p no_f)

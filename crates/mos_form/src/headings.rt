@@ -110,10 +110,13 @@ fn after_name(alloc: Global, forward: bool, name: &Text, words: &[Word]) -> Resu
     ensures { IfOk result (spec.TellsPiece (fixed.lead forward t.Function (w.Name name.now ∷ words.now))) }
 {
     match before_result(words) {
-        Some((formals, word)) => match base_type(alloc, word)? {
-            Some(base) => function_of(alloc, forward, name, formals, base),
-            None => Ok(Form::Unknown),
-        },
+        Some((formals, word)) => {
+            let base = base_type(alloc, word)?;
+            match base {
+                Some(base) => function_of(alloc, forward, name, formals, base),
+                None => Ok(Form::Unknown),
+            }
+        }
         None => Ok(Form::Unknown),
     }
 }
