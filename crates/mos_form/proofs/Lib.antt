@@ -1,3 +1,5 @@
+pub mod Both
+pub mod Bracketed
 pub mod Exactly
 pub mod Keyed
 pub mod Named

@@ -36,10 +36,10 @@ use Rattle.mos_form.proofs.Exactly.{Exists, exists, lacks, fixed_form, known}
 pub says : (n : List ℕ) (y : Word) (rest : List Word) (p : Phrase) → IsOther (w.Name n ∷ y ∷ rest) p → next_is p ≡ Some (next_of y)
 says n y rest p m = name_next n y rest p m.1 m.0.exact
 
-behind_same : (a b c d : Word) (xs ys : List Word) → a ∷ b ∷ xs ≡ c ∷ d ∷ ys → xs ≡ ys
+pub behind_same : (a b c d : Word) (xs ys : List Word) → a ∷ b ∷ xs ≡ c ∷ d ∷ ys → xs ≡ ys
 behind_same a b c d xs ys e = cc
 
-first_same : (n m : List ℕ) (xs ys : List Word) → w.Name n ∷ xs ≡ w.Name m ∷ ys → m ≡ n
+pub first_same : (n m : List ℕ) (xs ys : List Word) → w.Name n ∷ xs ≡ w.Name m ∷ ys → m ≡ n
 first_same n m xs ys e = cc
 
 -- ---- a name alone
@@ -175,7 +175,7 @@ dot_of : (n : List ℕ) (behind : List Word) (p : Phrase) → IsOther (w.Name n 
     → (g : List ℕ) × (op : Assignment) × (s : Syntax) × IsGrouped s × (behind ≡ field_words g op (spell s)) × (p ≡ assign (to_field n g) op s)
 dot_of n behind p m = dot_back n behind p m.0 (says n (w.Key t.Dot) behind p m)
 
-operator_one : (a b : Assignment) → operator_word a ≡ operator_word b → a ≡ b
+pub operator_one : (a b : Assignment) → operator_word a ≡ operator_word b → a ≡ b
 operator_one assignment.Set assignment.Set e = refl
 operator_one assignment.Add assignment.Add e = refl
 operator_one assignment.Take assignment.Take e = refl

@@ -304,6 +304,7 @@ fn set_cell(
 
 /// A list of names with their type, or of labels.
 fn listed(alloc: Global, words: &[Word]) -> Result<Form, NoMemory>
+    requires { spec.HasMore words.now }
     ensures { IfOk result (spec.TellsList words.now) }
 {
     match parted(words) {
