@@ -1,6 +1,6 @@
 -- Two parts of a piece that both have trees, or of which one has none.
 
-use Rattle.std.proofs.Common.{◌≡◌, ℕ, ◌<◌, ◌≤◌, max, nat_le, if◌then◌else◌, List, Result, Ok, Err, IfOk, refl, sym, ◌∙◌, ap, arith}
+use Rattle.std.proofs.Common.{◌≡◌, ◌<◌, ◌≤◌, nat_le, List, Result, Ok, Err, IfOk, refl, sym, ◌∙◌, ap, arith}
 use Rattle.std.specs.Prelude.{IsErrOf}
 use Rattle.std.proofs.lemmas.Bool.{leb-true, leb-false}
 use Rattle.mos_tree.specs.declared.expr.Expr.{Expr}
@@ -11,7 +11,7 @@ use Rattle.mos_expr.specs.declared.fault.ExprFault.{ExprFault}
 use Rattle.mos_expr.specs.declared.fault.ExprFault.TheVariants as x
 use Rattle.mos_form.specs.Cells.{Both, both, AreParts, parts_height, parts_trees}
 use Rattle.mos_form.specs.Telling.{AreSome, AreSomeTrees, AreSomeTooHigh}
-use Rattle.mos_form.proofs.Telling.{on_bool, outcome_at, ok_of, err_of, chosen, ok_is, deep_is, none_is}
+use Rattle.mos_form.proofs.Telling.{on_bool, outcome_at, ok_is, deep_is, none_is}
 
 -- what is said of either part
 pub record Said (words : List Word) (r : Result Expr ExprFault) : Type 0 where

@@ -1,12 +1,11 @@
 -- Pieces that begin with a token, from what stands behind it.
 
-use Rattle.std.proofs.Common.{◌≡◌, ℕ, List, [], ◌∷◌, ◌++◌, Option, Some, None, Result, Ok, Err, IfOk, refl, sym, ◌∙◌, ap, subst}
+use Rattle.std.proofs.Common.{◌≡◌, List, [], ◌∷◌, Some, None, Result, IfOk, refl, sym, ◌∙◌, ap, subst}
 use Rattle.std.proofs.lemmas.List.{append_cancel_right}
 use Rattle.mos_tree.specs.declared.statement.Assignment.{Assignment}
 use Rattle.mos_tree.specs.declared.statement.Direction.{Direction}
 use Rattle.mos_tree.specs.declared.statement.Direction.TheVariants as direction
 use Rattle.mos_tree.specs.declared.statement.Reference.TheVariants as reference
-use Rattle.mos_scan.specs.declared.token.TokenKind.{TokenKind}
 use Rattle.mos_scan.specs.declared.token.TokenKind.TheVariants as t
 use Rattle.mos_scan.specs.declared.reading.Word.{Word}
 use Rattle.mos_scan.specs.declared.reading.Word.TheVariants as w
@@ -16,13 +15,12 @@ use Rattle.mos_form.specs.declared.form.Form.{Form}
 use Rattle.mos_form.specs.declared.form.Form.TheVariants as f
 use Rattle.mos_form.specs.declared.form.Guard.{Guard}
 use Rattle.mos_form.specs.declared.form.Guard.TheVariants as guard
-use Rattle.mos_form.specs.declared.head.Head.{Head}
 use Rattle.mos_form.specs.declared.head.Head.TheVariants as h
 use Rattle.mos_form.specs.Heads.{head_of}
 use Rattle.mos_form.specs.Cuts.{direction_of, operator_of}
 use Rattle.mos_form.specs.Fixed.{guard_word, around}
-use Rattle.mos_form.specs.Phrases.{Target, to_result, Phrase, assign, if_then, elif_then, case_of, forall_in, while_so, until_so, initializations, direction_word, operator_word, words_of, IsWell, IsPhrase, answer}
-use Rattle.mos_form.specs.Telling.{Tells, told, untold, by_height, IsAlternative, IsOther, TellsOne, TellsIndex, TellsPiece, assigned}
+use Rattle.mos_form.specs.Phrases.{to_result, Phrase, assign, if_then, elif_then, case_of, forall_in, while_so, until_so, initializations, direction_word, operator_word, words_of, IsWell, IsPhrase, answer}
+use Rattle.mos_form.specs.Telling.{untold, by_height, IsAlternative, IsOther, TellsOne, TellsIndex, TellsPiece, assigned}
 use Rattle.mos_form.proofs.Telling.{embed_ok}
 use Rattle.mos_form.proofs.Opening.{head_is, key_head}
 use Rattle.mos_form.proofs.Parting.{operator_known, operator_same, operator_none, zero_max}

@@ -1,38 +1,27 @@
 -- Names with their type, and labels.
 
-use Rattle.std.proofs.Common.{◌≡◌, ℕ, max, Bool, true, false, ◌&&◌, List, [], ◌∷◌, ◌++◌, Option, Some, None, Result, Ok, Err, IfOk, refl, sym, ◌∙◌, ap, subst}
+use Rattle.std.proofs.Common.{◌≡◌, ℕ, Bool, true, false, ◌&&◌, List, [], ◌∷◌, ◌++◌, Option, Some, None, Result, IfOk, refl, sym, ◌∙◌, ap, subst}
 use Rattle.std.specs.List.{list_all}
-use Rattle.std.proofs.lemmas.List.{append_assoc, append_cancel_right, append_cancel_left}
 use Rattle.std.proofs.lemmas.List.Folds.{list_all-append}
-use Rattle.mos_tree.specs.declared.expr.Expr.{Expr}
-use Rattle.mos_tree.specs.declared.statement.Assignment.{Assignment}
-use Rattle.mos_tree.specs.declared.statement.Assignment.TheVariants as assignment
-use Rattle.mos_tree.specs.declared.statement.Reference.TheVariants as reference
-use Rattle.mos_scan.specs.declared.token.TokenKind.{TokenKind}
 use Rattle.mos_scan.specs.declared.token.TokenKind.TheVariants as t
 use Rattle.mos_scan.specs.declared.reading.Word.{Word}
 use Rattle.mos_scan.specs.declared.reading.Word.TheVariants as w
-use Rattle.mos_expr.specs.Grammar.{Names, one_name, and_name, list_of_names, spell_names, Syntax, Written, no_more, IsSpelled, AreSpelled, IsGrouped, AreGrouped, spell, spell_list, height, heights, tree, trees}
-use Rattle.mos_typing.specs.Typing.{Typing, IsTyping, key, in_brackets, typing_words, type_of, tallest_type}
-use Rattle.mos_typing.specs.Words.{is_plain, ArePlain, SyntaxIsPlain, ListIsPlain}
+use Rattle.mos_expr.specs.Grammar.{Names, one_name, and_name, list_of_names, spell_names}
+use Rattle.mos_typing.specs.Typing.{Typing, IsTyping, typing_words, type_of, tallest_type}
+use Rattle.mos_typing.specs.Words.{is_plain, ArePlain}
 use Rattle.mos_form.specs.declared.form.Form.{Form}
 use Rattle.mos_form.specs.declared.form.Form.TheVariants as f
-use Rattle.mos_form.specs.declared.head.Next.{Next}
 use Rattle.mos_form.specs.declared.head.Next.TheVariants as next
 use Rattle.mos_form.specs.Heads.{next_of}
-use Rattle.mos_form.specs.Cuts.{operator_of, is_record}
-use Rattle.mos_form.specs.Cells.{cell, cell_target, AreParts, parts_height, parts_trees, with_parts, TellsCell}
-use Rattle.mos_form.specs.Phrases.{Target, to_name, to_cell, to_field, to_cell_field, to_result, Labels, last_label, and_label, Phrase, word, break_word, next_word, model_text, model_name, uses_modules, options_name, definition, typed, record_of, procedure, function, forward_procedure, forward_function, assign, fill, call, bare, if_then, elif_then, case_of, alternative, forall_in, while_so, until_so, initializations, labels, token_of, text_words, label_words, target_words, operator_word, labels_of, words_of, IsWell, TargetIs, IsPhrase, answer}
-use Rattle.mos_form.specs.Telling.{Tells, told, untold, by_height, IsAlternative, IsOther, TellsPiece, TellsOne, TellsAll, AreSome, IsCall, TellsCall, TellsCellSet, IsListed, TellsList, AreTyped, TellsTyped, assigned, called, filled}
-use Rattle.mos_form.specs.Telling as telling
+use Rattle.mos_form.specs.Phrases.{to_name, Labels, last_label, and_label, Phrase, typed, assign, alternative, labels, label_words, IsPhrase, answer}
+use Rattle.mos_form.specs.Telling.{untold, by_height, IsAlternative, IsOther, TellsPiece, IsListed, TellsList, AreTyped, TellsTyped}
 use Rattle.mos_form.specs.Lists as lists
-use Rattle.mos_form.proofs.Telling.{embed_ok, tell_as}
+use Rattle.mos_form.proofs.Telling.{embed_ok}
 use Rattle.mos_form.proofs.Opening.{next_is, name_next}
-use Rattle.mos_form.proofs.Parting.{snoc_same, regroup, plain_join, plain_head, one_cut, operator_known, operator_same, operator_none, operator_parts, zero_max}
-use Rattle.mos_form.proofs.Keyed.{tail_same, no_piece}
-use Rattle.mos_form.proofs.Exactly.{Exists, exists, lacks, fixed_form, known}
+use Rattle.mos_form.proofs.Parting.{one_cut}
+use Rattle.mos_form.proofs.Keyed.{no_piece}
+use Rattle.mos_form.proofs.Exactly.{Exists, exists, lacks, fixed_form}
 use Rattle.mos_form.proofs.Exactly.{labels_read, labels_known}
-use Rattle.mos_form.proofs.Named.{says}
 use Rattle.mos_form.specs.Telling.{TellsType, HasMore}
 use Rattle.mos_form.specs.Lists.{read_labels}
 use Rattle.mos_form.specs.Phrases.{LabelsAre}

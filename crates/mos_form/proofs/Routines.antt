@@ -1,7 +1,6 @@
 -- Headings of routines, alone or behind `forward`.
 
-use Rattle.std.proofs.Common.{◌≡◌, ℕ, Bool, true, false, List, [], ◌∷◌, ◌++◌, Option, Some, None, Result, Ok, Err, IfOk, refl, sym, ◌∙◌, ap, subst}
-use Rattle.std.proofs.lemmas.List.{append_assoc}
+use Rattle.std.proofs.Common.{◌≡◌, ℕ, Bool, true, false, List, [], ◌∷◌, ◌++◌, Some, None, Result, IfOk, refl, sym, ◌∙◌, ap}
 use Rattle.mos_tree.specs.declared.declaration.BaseType.{BaseType}
 use Rattle.mos_tree.specs.declared.declaration.BaseType.TheVariants as base
 use Rattle.mos_tree.specs.declared.declaration.FormalGroup.{FormalGroup}
@@ -16,8 +15,8 @@ use Rattle.mos_form.specs.declared.form.Mould.TheVariants as m
 use Rattle.mos_form.specs.declared.head.Head.TheVariants as h
 use Rattle.mos_form.specs.Fixed.{heading, heading_mould, lead}
 use Rattle.mos_form.specs.Forms.{mould_of}
-use Rattle.mos_form.specs.Phrases.{to_result, Phrase, procedure, function, forward_procedure, forward_function, assign, words_of, IsWell, IsPhrase, answer}
-use Rattle.mos_form.specs.Telling.{Tells, by_height, IsAlternative, IsOther, TellsFormals, TellsPiece}
+use Rattle.mos_form.specs.Phrases.{to_result, Phrase, procedure, function, forward_procedure, forward_function, assign, IsPhrase, answer}
+use Rattle.mos_form.specs.Telling.{by_height, IsOther, TellsFormals, TellsPiece}
 use Rattle.mos_form.proofs.Telling.{embed_ok}
 use Rattle.mos_form.proofs.Opening.{head_is, key_head}
 use Rattle.mos_form.proofs.Parting.{snoc_same, regroup}

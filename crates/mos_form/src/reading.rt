@@ -323,7 +323,8 @@ fn listed(alloc: Global, words: &[Word]) -> Result<Form, NoMemory>
 fn typed(alloc: Global, before: &[Word], behind: &[Word]) -> Result<Form, NoMemory>
     ensures { IfOk result (spec.TellsTyped before.now behind.now) }
 {
-    match names(alloc, before)? {
+    let found = names(alloc, before)?;
+    match found {
         Some(names) => typed_as(alloc, names, behind),
         None => Ok(Form::Unknown),
     }

@@ -1,4 +1,4 @@
-use Rattle.std.proofs.Common.{◌≡◌, ◌≤◌, ◌∙◌, refl, sym, subst, ap, Ok, Err, IfOk}
+use Rattle.std.proofs.Common.{◌≡◌, ◌≤◌, ◌∙◌, refl, sym, subst, ap, IfOk}
 use Rattle.mos_expr.specs.Grammar.{Syntax, Written, limit}
 use Rattle.mos_expr.specs.Outcome.{Gives}
 use Rattle.mos_form.specs.declared.form.Mould.TheVariants as m

@@ -1,4 +1,4 @@
-use Rattle.std.proofs.Common.{◌≡◌, ◌∷◌, [], Some, None, MatchOption, subst}
+use Rattle.std.proofs.Common.{◌≡◌, ◌∷◌, [], MatchOption, subst}
 use Rattle.mos_tree.specs.declared.declaration.BaseType.{BaseType}
 use Rattle.mos_typing.specs.Typing.{base_words}
 use Rattle.mos_form.proofs.Routines.{function_piece, no_base, no_result_type}

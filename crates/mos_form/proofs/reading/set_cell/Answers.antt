@@ -1,4 +1,4 @@
-use Rattle.std.proofs.Common.{◌≡◌, ◌∷◌, ◌++◌, [], Some, None, sym, ◌∙◌, ap, subst, IfOk}
+use Rattle.std.proofs.Common.{◌∷◌, [], Some, None, sym, ◌∙◌, subst, IfOk}
 use Rattle.std.proofs.lemmas.List.{append_assoc}
 use Rattle.mos_scan.specs.declared.reading.Word.TheVariants as w
 use Rattle.mos_scan.specs.declared.token.TokenKind.TheVariants as t
