@@ -1,7 +1,8 @@
 -- No expression is cut: brackets in it are closed, and commas in it stand inside brackets.
 
-use Rattle.std.proofs.Common.{◌≡◌, ℕ, ◌+◌, ◌-◌, Bool, true, false, ◌&&◌, if◌then◌else◌, nat_eq, List, [], ◌∷◌, ◌++◌, Some, None, refl, sym, ◌∙◌, ap, subst, arith, append_assoc}
+use Rattle.std.proofs.Common.{◌≡◌, ℕ, ◌+◌, ◌-◌, Bool, true, false, ◌&&◌, nat_eq, List, [], ◌∷◌, ◌++◌, Some, None, refl, sym, ◌∙◌, ap, subst, arith, append_assoc}
 use Rattle.std.proofs.lemmas.Bool.{ne_eqb}
+use Rattle.std.proofs.lemmas.List.{append-nil}
 use Rattle.mos_tree.specs.declared.expr.UnaryOperator.{UnaryOperator}
 use Rattle.mos_tree.specs.declared.expr.UnaryOperator.TheVariants as u
 use Rattle.mos_tree.specs.declared.expr.BinaryOperator.{BinaryOperator}
@@ -14,11 +15,8 @@ use Rattle.mos_scan.specs.declared.token.TokenKind.TheVariants as t
 use Rattle.mos_scan.specs.declared.reading.Word.{Word}
 use Rattle.mos_scan.specs.declared.reading.Word.TheVariants as w
 use Rattle.mos_expr.specs.Grammar.{Leaf, number, text, truth, name, returned, field, Names, one_name, and_name, Syntax, leaf, call, call_field, set, list, bracket, choice, convert, before, between, aggregate, counted, Written, no_more, one_more, Over, last_set, such_that, another, spell_leaf, spell_before, spell_between, spell_aggregate, spell_conversion, spell_names, spell, spell_list, spell_rest, spell_over}
-use Rattle.mos_typing.specs.Reader.{Halves, ahead, cut, depth_behind, is_comma}
-
-on_bool : {P : Type 0} (b : Bool) → (b ≡ true → P) → (b ≡ false → P) → P
-on_bool true yes' no' = yes' refl
-on_bool false yes' no' = no' refl
+use Rattle.mos_typing.proofs.Cases.{on_bool}
+use Rattle.mos_typing.specs.Cutting.{Halves, ahead, cut, depth_behind, is_comma, is_colon, cut_at_colon}
 
 -- the words are not cut; so many brackets are open before them, and so many behind them
 pub record Goes (from : ℕ) (words : List Word) (to : ℕ) : Type 0 where
@@ -170,3 +168,65 @@ mutual
   over_goes d (another ns s i) =
       joined (d + 1) (d + 1) (d + 1) (spell_names ns) _ (names_go d ns)
       (led (d + 1) (d + 1) (d + 1) (w.Key t.In) _ (same (d + 1) (w.Key t.In) refl refl) (with_comma d (spell s) (spell_over i) (syntax_goes (d + 1) s) (over_goes d i)))
+
+-- ---- what is cut
+
+and_true : (a b : Bool) → (a && b) ≡ true → b ≡ true
+and_true true b e = e
+and_true false b e = cc
+
+comma_is : (x : Word) → is_comma x ≡ true → x ≡ w.Key t.Comma
+comma_is (w.Key t.Comma) e = refl
+comma_is _ e = cc
+
+cut_more : (x : Word) (xs : List Word) (q : Halves) (first rest : List Word) → ((a b : List Word) → q ≡ Some (a, b) → xs ≡ a ++ w.Key t.Comma ∷ b) → ahead (x ∷ []) q ≡ Some (first, rest) → x ∷ xs ≡ first ++ w.Key t.Comma ∷ rest
+cut_more x xs None first rest known e = cc
+cut_more x xs (Some (a, b)) first rest known e =
+    let p : List Word × List Word = (x ∷ a, b) in
+    let o : p ≡ (first, rest) = cc in
+    ap (λ z. x ∷ z) (known a b refl) ∙ ap (λ (z : List Word × List Word). z.0 ++ w.Key t.Comma ∷ z.1) o
+
+-- the parts of what is cut
+pub cut_sound : (d : ℕ) (words first rest : List Word) → cut d words ≡ Some (first, rest) → words ≡ first ++ w.Key t.Comma ∷ rest
+cut_sound d [] first rest e = cc
+cut_sound d (x ∷ xs) first rest e = on_bool (nat_eq d 0 && is_comma x)
+    (λ h.
+    let p : Some ([], xs) ≡ Some (first, rest) = rw h at e in
+    let l : List Word × List Word = ([], xs) in
+    let o : l ≡ (first, rest) = cc in
+    rw (comma_is x (and_true (nat_eq d 0) (is_comma x) h)) (ap (λ (z : List Word × List Word). z.0 ++ w.Key t.Comma ∷ z.1) o))
+    (λ h. cut_more x xs (cut (depth_behind x d) xs) first rest (cut_sound (depth_behind x d) xs) (rw h at e))
+
+-- words that are not cut, alone and before a comma
+pub cut_none : (words : List Word) → Goes 0 words 0 → cut 0 words ≡ None
+cut_none words g = ap (cut 0) (sym (append-nil words)) ∙ g.on []
+
+pub cut_at : (words rest : List Word) → Goes 0 words 0 → cut 0 (words ++ w.Key t.Comma ∷ rest) ≡ Some (words, rest)
+cut_at words rest g = g.on (w.Key t.Comma ∷ rest) ∙ ap (λ z. Some (z, rest)) (append-nil words)
+
+-- ---- the cut at a colon
+
+colon_is : (x : Word) → is_colon x ≡ true → x ≡ w.Key t.Colon
+colon_is (w.Key t.Colon) e = refl
+colon_is _ e = cc
+
+colon_more : (x : Word) (xs : List Word) (q : Halves) (first rest : List Word) → ((a b : List Word) → q ≡ Some (a, b) → xs ≡ a ++ w.Key t.Colon ∷ b) → ahead (x ∷ []) q ≡ Some (first, rest) → x ∷ xs ≡ first ++ w.Key t.Colon ∷ rest
+colon_more x xs None first rest known e = cc
+colon_more x xs (Some (a, b)) first rest known e =
+    let p : List Word × List Word = (x ∷ a, b) in
+    let o : p ≡ (first, rest) = cc in
+    ap (λ z. x ∷ z) (known a b refl) ∙ ap (λ (z : List Word × List Word). z.0 ++ w.Key t.Colon ∷ z.1) o
+
+pub colon_sound : (words first rest : List Word) → cut_at_colon words ≡ Some (first, rest) → words ≡ first ++ w.Key t.Colon ∷ rest
+colon_sound [] first rest e = cc
+colon_sound (x ∷ xs) first rest e = on_bool (is_colon x)
+    (λ h.
+    let p : Some ([], xs) ≡ Some (first, rest) = rw h at e in
+    let l : List Word × List Word = ([], xs) in
+    let o : l ≡ (first, rest) = cc in
+    rw (colon_is x h) (ap (λ (z : List Word × List Word). z.0 ++ w.Key t.Colon ∷ z.1) o))
+    (λ h. colon_more x xs (cut_at_colon xs) first rest (colon_sound xs) (rw h at e))
+
+pub colon_at : (ns : Names) (rest : List Word) → cut_at_colon (spell_names ns ++ w.Key t.Colon ∷ rest) ≡ Some (spell_names ns, rest)
+colon_at (one_name n) rest = refl
+colon_at (and_name n ns) rest = ap (λ z. ahead (w.Name n ∷ []) (ahead (w.Key t.Comma ∷ []) z)) (colon_at ns rest)

@@ -1,5 +1,14 @@
 pub mod Bases
+pub mod Carrying
+pub mod Cases
+pub mod Clauses
 pub mod Cuts
+pub mod Dimensioned
+pub mod Ended
+pub mod Grouped
+pub mod Joins
 pub mod Listed
-pub mod Onto
 pub mod Plain
+pub mod Saying
+pub mod Shaped
+pub mod Typed

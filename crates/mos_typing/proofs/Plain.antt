@@ -1,6 +1,6 @@
 -- No word that parts a piece stands in an expression.
 
-use Rattle.std.proofs.Common.{◌≡◌, ℕ, true, false, ◌&&◌, List, [], ◌∷◌, ◌++◌, refl, ◌∙◌}
+use Rattle.std.proofs.Common.{◌≡◌, true, false, List, [], ◌∷◌, ◌++◌, refl, ◌∙◌}
 use Rattle.std.proofs.lemmas.List.Folds.{list_all-append}
 use Rattle.mos_tree.specs.declared.expr.UnaryOperator.{UnaryOperator}
 use Rattle.mos_tree.specs.declared.expr.UnaryOperator.TheVariants as u

@@ -1,4 +1,8 @@
+pub mod Cutting
+pub mod Joining
 pub mod Outcome
 pub mod Reader
+pub mod Shapes
+pub mod Spellings
 pub mod Typing
 pub mod Words

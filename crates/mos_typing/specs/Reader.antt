@@ -1,11 +1,17 @@
 -- What words come to, as functions: the first reading, which the code follows.
 
-use Rattle.std.specs.Prelude.{◌≡◌, ℕ, ◌+◌, ◌-◌, Bool, true, false, ◌&&◌, if◌then◌else◌, nat_eq, List, [], ◌∷◌, ◌++◌, Option, Some, None}
+use Rattle.std.specs.Prelude.{ℕ, List, [], ◌∷◌, ◌++◌, Option, Some, None, Result, Ok, Err}
 use Rattle.mos_tree.specs.declared.declaration.BaseType.{BaseType}
 use Rattle.mos_tree.specs.declared.declaration.BaseType.TheVariants as base
+use Rattle.mos_tree.specs.declared.declaration.TypeForm.{TypeForm}
+use Rattle.mos_tree.specs.declared.declaration.TypeForm.TheVariants as typ
+use Rattle.mos_tree.specs.declared.declaration.FormalGroup.{FormalGroup}
 use Rattle.mos_scan.specs.declared.token.TokenKind.TheVariants as t
 use Rattle.mos_scan.specs.declared.reading.Word.{Word}
 use Rattle.mos_scan.specs.declared.reading.Word.TheVariants as w
+use Rattle.mos_expr.specs.declared.fault.ExprFault.{ExprFault}
+use Rattle.mos_expr.specs.declared.fault.ExprFault.TheVariants as x
+use Rattle.mos_typing.specs.Joining.{on_ok, or_nothing}
 
 -- the type that the word is
 abbrev pub base_of : Word → Option BaseType
@@ -26,31 +32,14 @@ names_of (w.Name n ∷ []) = Some (n ∷ [])
 names_of (w.Name n ∷ w.Key t.Comma ∷ rest) = onto (n ∷ []) (names_of rest)
 names_of _ = None
 
--- ---- the cut at a comma outside brackets
+-- names of one type
+abbrev pub group_of : List (List ℕ) → TypeForm → FormalGroup
+group_of names form = record { names = names; typ = form }
 
-abbrev pub is_comma : Word → Bool
-is_comma (w.Key t.Comma) = true
-is_comma _ = false
-
--- how many brackets are open behind the word
-abbrev pub depth_behind : Word → ℕ → ℕ
-depth_behind (w.Key t.OpenRound) depth = depth + 1
-depth_behind (w.Key t.OpenSquare) depth = depth + 1
-depth_behind (w.Key t.OpenCurly) depth = depth + 1
-depth_behind (w.Key t.CloseRound) depth = depth - 1
-depth_behind (w.Key t.CloseSquare) depth = depth - 1
-depth_behind (w.Key t.CloseCurly) depth = depth - 1
-depth_behind _ depth = depth
-
-abbrev pub Halves : Type 0
-Halves = Option (List Word × List Word)
-
--- the words, before what is cut
-abbrev pub ahead : List Word → Halves → Halves
-ahead words None = None
-ahead words (Some halves) = Some (words ++ halves.0, halves.1)
-
--- the words before the first comma outside brackets, and those behind it
-abbrev pub cut : ℕ → List Word → Halves
-cut depth [] = None
-cut depth (x ∷ xs) = if nat_eq depth 0 && is_comma x then Some ([], xs) else ahead (x ∷ []) (cut (depth_behind x depth) xs)
+-- the type of words that spell no array
+abbrev pub plain_type : List Word → Result TypeForm ExprFault
+plain_type (w.Key t.Range ∷ []) = Ok typ.Range
+plain_type (w.Key t.Set ∷ w.Key t.Of ∷ b ∷ []) = on_ok typ.Set (or_nothing (base_of b))
+plain_type (w.Key t.List ∷ w.Key t.Of ∷ b ∷ []) = on_ok typ.List (or_nothing (base_of b))
+plain_type (b ∷ []) = on_ok typ.Base (or_nothing (base_of b))
+plain_type _ = Err x.NoExpr

@@ -1,9 +1,12 @@
 //! Types of one word.
 ghost use Rattle.std.specs.Prelude.{◌≡◌, List, [], ◌∷◌, IfOk, MatchOption};
 ghost use Rattle.mos_tree.specs.declared.declaration.BaseType.{BaseType as Base};
+ghost use Rattle.mos_expr.specs.Outcome.{Gives};
 ghost use Rattle.mos_typing.specs.Typing.{base_words};
+ghost use Rattle.mos_typing.specs.Joining.{or_nothing};
 ghost use Rattle.mos_typing.specs.Reader.{base_of};
 
+use mos_expr::ExprFault;
 use mos_scan::{TokenKind, Word};
 use mos_text::NoMemory;
 use mos_tree::BaseType;
@@ -20,6 +23,13 @@ pub(crate) fn base_of_word(alloc: Global, word: &Word) -> Result<Option<BaseType
         Word::Name(name) => Ok(Some(BaseType::Named(name.copy(alloc)?))),
         _ => Ok(None),
     }
+}
+
+/// The type that the word is; `NoExpr` where it is none.
+pub(crate) fn base_form(alloc: Global, word: &Word) -> Result<BaseType, ExprFault>
+    ensures { Gives result (or_nothing (base_of word.now)) }
+{
+    base_of_word(alloc, word)?.ok_or(ExprFault::NoExpr)
 }
 
 /// The type that the word is, if it is one that can be a member, a cell, a field or a result.

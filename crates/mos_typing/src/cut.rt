@@ -1,11 +1,11 @@
 //! Where words are cut: at commas outside brackets.
-ghost use Rattle.std.specs.Prelude.{◌≡◌, ◌+◌, ◌<◌, ◌^◌, None, Some, MatchOption};
-ghost use Rattle.mos_typing.specs.Reader as reads;
+ghost use Rattle.std.specs.Prelude.{◌≡◌, ◌+◌, ◌<◌, ◌^◌, None, Some, MatchOption, length};
+ghost use Rattle.mos_typing.specs.Cutting as cutting;
 
 use mos_scan::{TokenKind, Word};
 
 fn is_comma(word: &Word) -> bool
-    ensures { result ≡ reads.is_comma word.now }
+    ensures { result ≡ cutting.is_comma word.now }
 {
     matches!(word, Word::Key(TokenKind::Comma))
 }
@@ -13,7 +13,7 @@ fn is_comma(word: &Word) -> bool
 /// How many brackets are open behind the word.
 fn depth_behind(word: &Word, depth: usize) -> usize
     requires { depth + 1 < 2 ^ 64 }
-    ensures { result ≡ reads.depth_behind word.now depth }
+    ensures { result ≡ cutting.depth_behind word.now depth }
 {
     match word {
         Word::Key(TokenKind::OpenRound | TokenKind::OpenSquare | TokenKind::OpenCurly) => depth + 1,
@@ -26,7 +26,8 @@ fn depth_behind(word: &Word, depth: usize) -> usize
 
 /// The words before the first comma outside brackets, and those behind it.
 pub(crate) fn cut_at_comma(words: &[Word]) -> Option<(&[Word], &[Word])>
-    ensures { MatchOption result (reads.cut 0 words.now ≡ None) (λ parts. reads.cut 0 words.now ≡ Some (parts.0.now, parts.1.now)) }
+    ensures value { MatchOption result (cutting.cut 0 words.now ≡ None) (λ parts. cutting.cut 0 words.now ≡ Some (parts.0.now, parts.1.now)) }
+    ensures shorter { MatchOption result (Unit {0}) (λ parts. length parts.1.now < length words.now) }
 {
     let mut at: usize = 0;
     let mut depth: usize = 0;
@@ -37,6 +38,30 @@ pub(crate) fn cut_at_comma(words: &[Word]) -> Option<(&[Word], &[Word])>
             return Some((front, after));
         }
         depth = depth_behind(word, depth);
+        at += 1;
+        rest = after;
+    }
+    None
+}
+
+fn is_colon(word: &Word) -> bool
+    ensures { result ≡ cutting.is_colon word.now }
+{
+    matches!(word, Word::Key(TokenKind::Colon))
+}
+
+/// The words before the first colon, and those behind it.
+pub(crate) fn cut_at_colon(words: &[Word]) -> Option<(&[Word], &[Word])>
+    ensures value { MatchOption result (cutting.cut_at_colon words.now ≡ None) (λ parts. cutting.cut_at_colon words.now ≡ Some (parts.0.now, parts.1.now)) }
+    ensures shorter { MatchOption result (Unit {0}) (λ parts. length parts.1.now < length words.now) }
+{
+    let mut at: usize = 0;
+    let mut rest = words;
+    while let [word, after @ ..] = rest {
+        if is_colon(word) {
+            let (front, _) = words.split_at(at);
+            return Some((front, after));
+        }
         at += 1;
         rest = after;
     }

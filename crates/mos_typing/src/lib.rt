@@ -3,10 +3,18 @@
 
 mod base;
 mod cut;
+mod dimension;
+mod formal;
 mod laws;
 mod name;
 mod reading;
+mod said;
+mod shape;
+mod types;
 
 pub use base::base_type;
 pub use laws::expressions_have_plain_words;
 pub use reading::{formals, names, type_form};
+
+#[cfg(test)]
+mod tests;

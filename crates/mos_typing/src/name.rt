@@ -21,11 +21,8 @@ fn behind_comma(words: &[Word]) -> Option<&[Word]>
 }
 
 /// The names that the words are.
-#[tactic(auto, using(crate::proofs::Onto::onto_onto))]
-pub(crate) fn names_of_words(
-    alloc: Global,
-    words: &[Word],
-) -> Result<Option<Items<Text>>, NoMemory>
+
+pub(crate) fn names_of_words(alloc: Global, words: &[Word]) -> Result<Option<Items<Text>>, NoMemory>
     ensures { IfOk result (λ all. all ≡ names_of words.now) }
 {
     let mut found = Items::new(alloc);

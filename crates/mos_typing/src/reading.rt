@@ -5,7 +5,9 @@ ghost use Rattle.mos_expr.specs.declared.fault.ExprFault.TheVariants as fault;
 ghost use Rattle.mos_typing.specs.Typing as typing;
 ghost use Rattle.mos_typing.specs.Outcome as outcome;
 
+use crate::formal::formals_of_words;
 use crate::name::names_of_words;
+use crate::types::type_of_words;
 use mos_expr::ExprFault;
 use mos_scan::Word;
 use mos_text::{NoMemory, Text};
@@ -21,19 +23,19 @@ pub fn names(alloc: Global, words: &[Word]) -> Result<Option<Items<Text>>, NoMem
 }
 
 /// The one type that the words are.
-pub fn type_form(_alloc: Global, _words: &[Word]) -> Result<TypeForm, ExprFault>
-    ensures found { IfOk result (outcome.IsType _words.now) }
-    ensures deep { IsErrOf result fault.Deep → outcome.IsTypeTooHigh _words.now }
-    ensures only { (x : typing.Typing) → typing.IsTyping _words.now x → Gives result (outcome.answer_of_type x) }
+pub fn type_form(alloc: Global, words: &[Word]) -> Result<TypeForm, ExprFault>
+    ensures found { IfOk result (outcome.IsType words.now) }
+    ensures deep { IsErrOf result fault.Deep → outcome.IsTypeTooHigh words.now }
+    ensures only { (x : typing.Typing) → typing.IsTyping words.now x → Gives result (outcome.answer_of_type x) }
 {
-    Err(ExprFault::NoMemory)
+    type_of_words(alloc, words)
 }
 
 /// The formals that the words are, with their brackets; none where there are no words.
-pub fn formals(_alloc: Global, _words: &[Word]) -> Result<Items<FormalGroup>, ExprFault>
-    ensures found { IfOk result (outcome.HaveFormals _words.now) }
-    ensures deep { IsErrOf result fault.Deep → outcome.AreFormalsTooHigh _words.now }
-    ensures only { (xs : typing.Formals) → typing.AreFormals _words.now xs → Gives result (outcome.answer_of_formals xs) }
+pub fn formals(alloc: Global, words: &[Word]) -> Result<Items<FormalGroup>, ExprFault>
+    ensures found { IfOk result (outcome.HaveFormals words.now) }
+    ensures deep { IsErrOf result fault.Deep → outcome.AreFormalsTooHigh words.now }
+    ensures only { (xs : typing.Formals) → typing.AreFormals words.now xs → Gives result (outcome.answer_of_formals xs) }
 {
-    Err(ExprFault::NoMemory)
+    formals_of_words(alloc, words)
 }

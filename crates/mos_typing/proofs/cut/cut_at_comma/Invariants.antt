@@ -1,5 +1,5 @@
 use Rattle.std.proofs.Common.{◌≡◌, ◌≤◌, length, take, drop}
-use Rattle.mos_typing.specs.Reader.{ahead, cut}
+use Rattle.mos_typing.specs.Cutting.{ahead, cut}
 use Rattle.mos_typing.proofs.cut.cut_at_comma.Given as goal
 
 abbrev pub invariant-loop-rest : goal.invariant-loop-rest

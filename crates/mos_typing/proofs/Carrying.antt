@@ -1,0 +1,42 @@
+-- A list that is read item by item: what is said of the rest, behind what is front, is said of the whole.
+
+use Rattle.std.proofs.Common.{◌≡◌, ℕ, List, [], Option, Some, None, Result, Ok, Err, refl, sym, subst}
+use Rattle.std.specs.Prelude.{IsErrOf}
+use Rattle.mos_expr.specs.Outcome.{Gives}
+use Rattle.mos_expr.specs.declared.fault.ExprFault.{ExprFault}
+use Rattle.mos_expr.specs.declared.fault.ExprFault.TheVariants as x
+use Rattle.mos_typing.specs.Joining.{on_ok, both, behind, alone, first_of}
+use Rattle.mos_typing.specs.Spellings.{Says}
+use Rattle.mos_typing.proofs.Saying.{says_gives, says_want}
+
+pub record Carries {A : Type 0} (Rest Whole : List A → ℕ → Type 0) (front : Option (List A)) : Type 0 where
+  pub over : (r : Result (List A) ExprFault) → Says Rest r → Says Whole (behind front r)
+
+before_all : {A : Type 0} (r : Result (List A) ExprFault) → behind (Some []) r ≡ r
+before_all (Ok made) = refl
+before_all (Err fault) = refl
+
+pub carries_none : {A : Type 0} (P : List A → ℕ → Type 0) → Carries P P (Some [])
+carries_none P = record { over = λ r k. subst (Says P) (sym (before_all r)) k }
+
+pub carries_more : {A : Type 0} (Rest Whole After : List A → ℕ → Type 0) (front next : Option (List A)) (read : Result A ExprFault) → Carries Rest Whole front → ((r : Result (List A) ExprFault) → Says After r → Says Rest (both first_of read r)) → ((q : Result (List A) ExprFault) → behind next q ≡ behind front (both first_of read q)) → Carries After Whole next
+carries_more Rest Whole After front next read k more e = record { over = λ r s. subst (Says Whole) (sym (e r)) (k.over (both first_of read r) (more r s)) }
+
+behind_nothing : {A : Type 0} (front : Option (List A)) → behind front (Err x.NoExpr) ≡ Err x.NoExpr
+behind_nothing None = refl
+behind_nothing (Some front) = refl
+
+-- no item here: no list
+pub carries_nothing : {A : Type 0} (Rest Whole After : List A → ℕ → Type 0) (front : Option (List A)) (read : Result A ExprFault) → Carries Rest Whole front → ((r : Result (List A) ExprFault) → Says After r → Says Rest (both first_of read r)) → read ≡ Err x.NoExpr → Says Whole (Err x.NoExpr)
+carries_nothing Rest Whole After front read k more e =
+    let s : Says Rest (both first_of read (Err x.NoMemory)) = more (Err x.NoMemory) (says_want After) in
+    let t : Says Rest (Err x.NoExpr) = subst (λ z. Says Rest (both first_of z (Err x.NoMemory))) e s in
+    subst (Says Whole) (behind_nothing front) (k.over (Err x.NoExpr) t)
+
+pub carries_fault : {A : Type 0} (Rest Whole After : List A → ℕ → Type 0) (front : Option (List A)) (read : Result A ExprFault) (stopped : Result (Option (List A)) ExprFault) (fault : ExprFault) → Carries Rest Whole front → ((r : Result (List A) ExprFault) → Says After r → Says Rest (both first_of read r)) → stopped ≡ Err fault → (IsErrOf stopped x.NoExpr → read ≡ Err x.NoExpr) → (IsErrOf stopped x.Deep → ⊥) → Says Whole (Err fault)
+carries_fault Rest Whole After front read stopped x.NoExpr k more e none never = carries_nothing Rest Whole After front read k more (none e)
+carries_fault Rest Whole After front read stopped x.Deep k more e none never = absurd (never e)
+carries_fault Rest Whole After front read stopped x.NoMemory k more e none never = says_want Whole
+
+pub carries_end : {A : Type 0} (Rest Whole : List A → ℕ → Type 0) (front : Option (List A)) (read : Result A ExprFault) (result : Result (List A) ExprFault) → Carries Rest Whole front → Says Rest (on_ok alone read) → Gives result (behind front (on_ok alone read)) → Says Whole result
+carries_end Rest Whole front read result k s g = says_gives Whole result (behind front (on_ok alone read)) g (k.over (on_ok alone read) s)

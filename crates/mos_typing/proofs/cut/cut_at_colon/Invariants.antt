@@ -1,0 +1,13 @@
+use Rattle.std.proofs.Common.{◌≡◌, ◌≤◌, length, take, drop}
+use Rattle.mos_typing.specs.Cutting.{ahead, cut_at_colon}
+use Rattle.mos_typing.proofs.cut.cut_at_colon.Given as goal
+
+abbrev pub invariant-loop-rest : goal.invariant-loop-rest
+invariant-loop-rest l = record {
+  value : ahead (take l.at l.words) (cut_at_colon l.rest) ≡ cut_at_colon l.words;
+  place : l.rest ≡ drop l.at l.words;
+  within : l.at ≤ length l.words;
+}
+
+abbrev pub decreases-loop-rest : goal.decreases-loop-rest
+decreases-loop-rest l = length l.rest

@@ -1,0 +1,61 @@
+-- Where words are cut: at a comma outside brackets, and at a colon.
+
+use Rattle.std.specs.Prelude.{ℕ, ◌+◌, ◌-◌, Bool, true, false, ◌&&◌, if◌then◌else◌, nat_eq, List, [], ◌∷◌, ◌++◌, Option, Some, None}
+use Rattle.mos_scan.specs.declared.token.TokenKind.TheVariants as t
+use Rattle.mos_scan.specs.declared.reading.Word.{Word}
+use Rattle.mos_scan.specs.declared.reading.Word.TheVariants as w
+
+abbrev pub is_comma : Word → Bool
+is_comma (w.Key t.Comma) = true
+is_comma _ = false
+
+abbrev pub is_colon : Word → Bool
+is_colon (w.Key t.Colon) = true
+is_colon _ = false
+
+-- how many brackets are open behind the word
+abbrev pub depth_behind : Word → ℕ → ℕ
+depth_behind (w.Key t.OpenRound) depth = depth + 1
+depth_behind (w.Key t.OpenSquare) depth = depth + 1
+depth_behind (w.Key t.OpenCurly) depth = depth + 1
+depth_behind (w.Key t.CloseRound) depth = depth - 1
+depth_behind (w.Key t.CloseSquare) depth = depth - 1
+depth_behind (w.Key t.CloseCurly) depth = depth - 1
+depth_behind _ depth = depth
+
+-- the words before a cut, and those behind it; None where there is none
+abbrev pub Halves : Type 0
+Halves = Option (List Word × List Word)
+
+-- the words, before what is cut
+abbrev pub ahead : List Word → Halves → Halves
+ahead words None = None
+ahead words (Some halves) = Some (words ++ halves.0, halves.1)
+
+-- the cut at the first comma outside brackets, of which so many are open
+abbrev pub cut : ℕ → List Word → Halves
+cut depth [] = None
+cut depth (x ∷ xs) = if nat_eq depth 0 && is_comma x then Some ([], xs) else ahead (x ∷ []) (cut (depth_behind x depth) xs)
+
+-- the cut at the first colon
+abbrev pub cut_at_colon : List Word → Halves
+cut_at_colon [] = None
+cut_at_colon (x ∷ xs) = if is_colon x then Some ([], xs) else ahead (x ∷ []) (cut_at_colon xs)
+
+-- names, a type, and what stands behind the comma behind it
+abbrev pub Group : Type 0
+Group = List Word × List Word × List Word
+
+-- the names, and what is cut behind the colon
+abbrev pub group_cut : List Word → Halves → Option Group
+group_cut names None = None
+group_cut names (Some halves) = Some (names, halves.0, halves.1)
+
+-- what is cut at a colon, with what stands behind it cut at a comma
+abbrev pub typed_cut : Halves → Option Group
+typed_cut None = None
+typed_cut (Some halves) = group_cut halves.0 (cut 0 halves.1)
+
+-- the first group of formals, None where no other stands behind it
+abbrev pub first_group : List Word → Option Group
+first_group words = typed_cut (cut_at_colon words)

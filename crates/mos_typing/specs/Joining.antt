@@ -1,0 +1,37 @@
+-- What is said of a whole, from what is said of its parts: where one of them is nothing the whole is nothing, else
+-- where one is too high the whole is.
+
+use Rattle.std.specs.Prelude.{List, [], ◌∷◌, ◌++◌, Option, Some, None, Result, Ok, Err}
+use Rattle.mos_expr.specs.declared.fault.ExprFault.{ExprFault}
+use Rattle.mos_expr.specs.declared.fault.ExprFault.TheVariants as x
+
+-- a whole of one part
+abbrev pub on_ok : {A B : Type 0} → (A → B) → Result A ExprFault → Result B ExprFault
+on_ok f (Ok made) = Ok (f made)
+on_ok f (Err fault) = Err fault
+
+-- what may be nothing
+abbrev pub or_nothing : {A : Type 0} → Option A → Result A ExprFault
+or_nothing None = Err x.NoExpr
+or_nothing (Some made) = Ok made
+
+-- a whole of two parts
+abbrev pub both : {A B C : Type 0} → (A → B → C) → Result A ExprFault → Result B ExprFault → Result C ExprFault
+both f (Ok made) r = on_ok (f made) r
+both f (Err x.Deep) (Ok more) = Err x.Deep
+both f (Err x.Deep) (Err fault) = Err fault
+both f (Err fault) r = Err fault
+
+-- the items so far, None where one is too high, before what is said of the rest
+abbrev pub behind : {A : Type 0} → Option (List A) → Result (List A) ExprFault → Result (List A) ExprFault
+behind None (Ok more) = Err x.Deep
+behind None (Err fault) = Err fault
+behind (Some done) r = on_ok (λ more. done ++ more) r
+
+-- a list of one item
+abbrev pub alone : {A : Type 0} → A → List A
+alone made = made ∷ []
+
+-- an item, and the others
+abbrev pub first_of : {A : Type 0} → A → List A → List A
+first_of made more = made ∷ more

@@ -1,0 +1,49 @@
+//! Items that are read one by one, of which some may be too high.
+ghost use Rattle.std.specs.Prelude.{◌≡◌, List, Result, Err, IfOk, IsErrOf};
+ghost use Rattle.mos_expr.specs.Outcome.{Gives};
+ghost use Rattle.mos_expr.specs.declared.fault.ExprFault.{ExprFault as Fault};
+ghost use Rattle.mos_expr.specs.declared.fault.ExprFault.TheVariants as fault;
+ghost use Rattle.mos_typing.specs.Joining as joining;
+
+use mos_expr::ExprFault;
+use mos_text::NoMemory;
+use sqlite_items::Items;
+
+fn pushed<T: Drop>(done: Option<Items<T>>, item: T) -> Result<Option<Items<T>>, NoMemory>
+    ensures { IfOk result (λ next. (q : Result (List T) Fault) → joining.behind next q ≡ joining.behind done (joining.on_ok (joining.first_of item) q)) }
+{
+    match done {
+        None => Ok(None),
+        Some(items) => {
+            let mut items = items;
+            items.push(item)?;
+            Ok(Some(items))
+        }
+    }
+}
+
+/// The items with one more; none where one is too high.
+pub(crate) fn with<T: Drop>(
+    done: Option<Items<T>>,
+    read: Result<T, ExprFault>,
+) -> Result<Option<Items<T>>, ExprFault>
+    ensures next { IfOk result (λ next. (q : Result (List T) Fault) → joining.behind next q ≡ joining.behind done (joining.both joining.first_of read q)) }
+    ensures nothing { IsErrOf result fault.NoExpr → read ≡ Err fault.NoExpr }
+    ensures never { IsErrOf result fault.Deep → ⊥ }
+{
+    match read {
+        Ok(item) => Ok(pushed(done, item)?),
+        Err(ExprFault::Deep) => Ok(None),
+        Err(fault) => Err(fault),
+    }
+}
+
+/// All the items, the last of them being this.
+pub(crate) fn finish<T: Drop>(
+    done: Option<Items<T>>,
+    read: Result<T, ExprFault>,
+) -> Result<Items<T>, ExprFault>
+    ensures { Gives result (joining.behind done (joining.on_ok joining.alone read)) }
+{
+    with(done, read)?.ok_or(ExprFault::Deep)
+}
