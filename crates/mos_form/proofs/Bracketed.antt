@@ -29,9 +29,12 @@ close = w.Key t.CloseRound ∷ []
 -- ---- a call
 
 call_back : (n : List ℕ) (behind : List Word) (p : Phrase) → IsPhrase (w.Name n ∷ w.Key t.OpenRound ∷ behind) p → IsCall p → (xs : Written) × AreGrouped xs × (behind ≡ spell_list xs ++ close) × (p ≡ call n xs)
-call_back n behind (call m xs) k e =
-    (xs, k.well, behind_same (w.Name n) (w.Key t.OpenRound) (w.Name m) (w.Key t.OpenRound) behind (spell_list xs ++ close) k.exact,
-    ap (λ z. call z xs) (first_same n m (w.Key t.OpenRound ∷ behind) (in_brackets (spell_list xs)) k.exact))
+call_back n behind (call m xs) k e = (
+  xs,
+  k.well,
+  behind_same (w.Name n) (w.Key t.OpenRound) (w.Name m) (w.Key t.OpenRound) behind (spell_list xs ++ close) k.exact,
+  ap (λ z. call z xs) (first_same n m (w.Key t.OpenRound ∷ behind) (in_brackets (spell_list xs)) k.exact),
+)
 call_back n behind _ k e = absurd e
 
 pub call_piece : {E : Type 0} (n : List ℕ) (behind inside : List Word) → behind ≡ inside ++ close → (r : Result Form E) → IfOk r (TellsAll (called n) inside) → IfOk r (TellsCall n behind)
@@ -39,7 +42,7 @@ call_piece n behind inside e r k =
     embed_ok (AreSpelled inside) (λ xs. by_height (heights xs) (called n (trees xs))) (λ p. IsPhrase (w.Name n ∷ w.Key t.OpenRound ∷ behind) p × IsCall p) answer (call n)
     (λ xs m. (record { well = m.grouped; exact = ap (λ z. w.Name n ∷ w.Key t.OpenRound ∷ z) (e ∙ ap (λ z. z ++ close) m.exact) }, tt))
     (λ p m. let q = call_back n behind p m.0 m.1 in
-        (q.0, record { grouped = q.1; exact = append_cancel_right inside (spell_list q.0) close (sym e ∙ q.2) }, q.3))
+    (q.0, record { grouped = q.1; exact = append_cancel_right inside (spell_list q.0) close (sym e ∙ q.2) }, q.3))
     (λ xs. refl) r k
 
 pub no_call : (n : List ℕ) (behind : List Word) → ((inside : List Word) → behind ≡ inside ++ close → ⊥) → TellsCall n behind f.Unknown
@@ -73,11 +76,29 @@ data IsOpen (n : List ℕ) (behind : List Word) (p : Phrase) : Type 0 where
 open_back : (n : List ℕ) (behind : List Word) (p : Phrase) → IsPhrase (w.Name n ∷ w.Key t.OpenRound ∷ behind) p → next_is p ≡ Some next.OpenRound → IsOpen n behind p
 open_back n behind (call m xs) k e = calls tt
 open_back n behind (assign (to_cell m xs) op s) k e =
-    sets (xs, None, op, s, k.well.0.0, k.well.0.1, k.well.1, behind_same (w.Name n) (w.Key t.OpenRound) (w.Name m) (w.Key t.OpenRound) behind (cell_words xs None ++ operator_word op ∷ spell s) k.exact,
-    ap (λ z. assign (to_cell z xs) op s) (first_same n m (w.Key t.OpenRound ∷ behind) (w.Key t.OpenRound ∷ (cell_words xs None ++ operator_word op ∷ spell s)) k.exact))
+    sets (
+      xs,
+      None,
+      op,
+      s,
+      k.well.0.0,
+      k.well.0.1,
+      k.well.1,
+      behind_same (w.Name n) (w.Key t.OpenRound) (w.Name m) (w.Key t.OpenRound) behind (cell_words xs None ++ operator_word op ∷ spell s) k.exact,
+      ap (λ z. assign (to_cell z xs) op s) (first_same n m (w.Key t.OpenRound ∷ behind) (w.Key t.OpenRound ∷ (cell_words xs None ++ operator_word op ∷ spell s)) k.exact),
+    )
 open_back n behind (assign (to_cell_field m xs g) op s) k e =
-    sets (xs, Some g, op, s, k.well.0.0, k.well.0.1, k.well.1, behind_same (w.Name n) (w.Key t.OpenRound) (w.Name m) (w.Key t.OpenRound) behind (cell_words xs (Some g) ++ operator_word op ∷ spell s) k.exact,
-    ap (λ z. assign (to_cell_field z xs g) op s) (first_same n m (w.Key t.OpenRound ∷ behind) (w.Key t.OpenRound ∷ (cell_words xs (Some g) ++ operator_word op ∷ spell s)) k.exact))
+    sets (
+      xs,
+      Some g,
+      op,
+      s,
+      k.well.0.0,
+      k.well.0.1,
+      k.well.1,
+      behind_same (w.Name n) (w.Key t.OpenRound) (w.Name m) (w.Key t.OpenRound) behind (cell_words xs (Some g) ++ operator_word op ∷ spell s) k.exact,
+      ap (λ z. assign (to_cell_field z xs g) op s) (first_same n m (w.Key t.OpenRound ∷ behind) (w.Key t.OpenRound ∷ (cell_words xs (Some g) ++ operator_word op ∷ spell s)) k.exact),
+    )
 open_back n behind _ k e = absurd cc
 
 opened : (n : List ℕ) (behind : List Word) (p : Phrase) → IsOther (w.Name n ∷ w.Key t.OpenRound ∷ behind) p → IsOpen n behind p
@@ -105,6 +126,7 @@ call_only n behind plain r k =
     never : (p : Phrase) → IsCall p → IsAlternative p → ⊥
     never (alternative xs) a b = a
     never _ a b = b
+
     at : (p : Phrase) → IsOpen n behind p → IsCall p
     at p (calls y) = y
     at p (sets y) = absurd (not_all (cell_words y.0 y.1) (spell y.3) (operator_word y.2) (operator_parts y.2) (subst ArePlain y.7 plain))
@@ -130,9 +152,11 @@ cell_only plain n behind target value y op front not_plain e is r k =
   where
     whole : w.Name n ∷ w.Key t.OpenRound ∷ behind ≡ w.Name n ∷ w.Key t.OpenRound ∷ (target ++ operator_word op ∷ value)
     whole = ap (λ z. w.Name n ∷ w.Key t.OpenRound ∷ z) (e ∙ ap (λ z. target ++ z ∷ value) (operator_known y op is))
+
     never : (p : Phrase) → telling.TargetIs (w.Name n ∷ w.Key t.OpenRound ∷ target) p → IsAlternative p → ⊥
     never (alternative xs) a b = a
     never _ a b = b
+
     at : (p : Phrase) → IsOther (w.Name n ∷ w.Key t.OpenRound ∷ behind) p → IsOpen n behind p → telling.TargetIs (w.Name n ∷ w.Key t.OpenRound ∷ target) p
     at p m (calls c) = absurd (cut_call plain n behind target value y not_plain e p m.0 c)
     at p m (sets z) =
@@ -164,18 +188,30 @@ value_words target value a b n op q s e k =
 cell_of : (n : List ℕ) (target value : List Word) (op : Assignment) (p : Phrase) → IsSet n target op value p → IsCell n target op value p
 cell_of n target value op (assign (to_cell m xs) q s) k =
     let v = value_words target value (target_words (to_cell m xs)) [] n op q s k.1 k.0.exact in
-    let same : operator_word q ≡ operator_word op = cc in
-    (xs, None, s, k.0.well.0.0, k.0.well.0.1, k.0.well.1,
-    sym (behind_same (w.Name m) (w.Key t.OpenRound) (w.Name n) (w.Key t.OpenRound) (cell_words xs None) target k.1),
-    tail_same (operator_word op) (operator_word q) value (spell s) v,
-    ap (λ z. assign (to_cell z xs) q s) (first_same n m (w.Key t.OpenRound ∷ target) (w.Key t.OpenRound ∷ cell_words xs None) (sym k.1)) ∙ ap (λ z. assign (to_cell n xs) z s) (operator_one q op same))
+    let same : operator_word q ≡ operator_word op = cc in (
+      xs,
+      None,
+      s,
+      k.0.well.0.0,
+      k.0.well.0.1,
+      k.0.well.1,
+      sym (behind_same (w.Name m) (w.Key t.OpenRound) (w.Name n) (w.Key t.OpenRound) (cell_words xs None) target k.1),
+      tail_same (operator_word op) (operator_word q) value (spell s) v,
+      ap (λ z. assign (to_cell z xs) q s) (first_same n m (w.Key t.OpenRound ∷ target) (w.Key t.OpenRound ∷ cell_words xs None) (sym k.1)) ∙ ap (λ z. assign (to_cell n xs) z s) (operator_one q op same),
+    )
 cell_of n target value op (assign (to_cell_field m xs g) q s) k =
     let v = value_words target value (target_words (to_cell_field m xs g)) [] n op q s k.1 k.0.exact in
-    let same : operator_word q ≡ operator_word op = cc in
-    (xs, Some g, s, k.0.well.0.0, k.0.well.0.1, k.0.well.1,
-    sym (behind_same (w.Name m) (w.Key t.OpenRound) (w.Name n) (w.Key t.OpenRound) (cell_words xs (Some g)) target k.1),
-    tail_same (operator_word op) (operator_word q) value (spell s) v,
-    ap (λ z. assign (to_cell_field z xs g) q s) (first_same n m (w.Key t.OpenRound ∷ target) (w.Key t.OpenRound ∷ cell_words xs (Some g)) (sym k.1)) ∙ ap (λ z. assign (to_cell_field n xs g) z s) (operator_one q op same))
+    let same : operator_word q ≡ operator_word op = cc in (
+      xs,
+      Some g,
+      s,
+      k.0.well.0.0,
+      k.0.well.0.1,
+      k.0.well.1,
+      sym (behind_same (w.Name m) (w.Key t.OpenRound) (w.Name n) (w.Key t.OpenRound) (cell_words xs (Some g)) target k.1),
+      tail_same (operator_word op) (operator_word q) value (spell s) v,
+      ap (λ z. assign (to_cell_field z xs g) q s) (first_same n m (w.Key t.OpenRound ∷ target) (w.Key t.OpenRound ∷ cell_words xs (Some g)) (sym k.1)) ∙ ap (λ z. assign (to_cell_field n xs g) z s) (operator_one q op same),
+    )
 cell_of n target value op (assign (to_name m) q s) k = let e = k.1 in absurd cc
 cell_of n target value op (assign (to_field m g) q s) k = let e = k.1 in absurd cc
 cell_of n target value op (assign to_result q s) k = let e = k.1 in absurd cc
@@ -188,11 +224,14 @@ cell_height n xs (Some g) op s = refl
 
 cell_there : (n : List ℕ) (target value : List Word) (xs : Written) (g : Option (List ℕ)) (op : Assignment) (s : Syntax) → AreGrouped xs → (xs ≡ no_more → ⊥) → IsGrouped s
     → target ≡ cell_words xs g → value ≡ spell s → IsSet n target op value (assign (cell_target n xs g) op s)
-cell_there n target value xs g op s a b d e v =
-    (record { well = (cell_well n xs g a b, d);
-        exact = ap (λ z. w.Name n ∷ w.Key t.OpenRound ∷ (z ++ operator_word op ∷ value)) e ∙ ap (λ z. w.Name n ∷ w.Key t.OpenRound ∷ (cell_words xs g ++ operator_word op ∷ z)) v
-            ∙ ap (λ z. z ++ operator_word op ∷ spell s) (sym (cell_spelled n xs g)) },
-    cell_spelled n xs g ∙ ap (λ z. w.Name n ∷ w.Key t.OpenRound ∷ z) (sym e))
+cell_there n target value xs g op s a b d e v = (
+  record {
+    well = (cell_well n xs g a b, d);
+    exact = ap (λ z. w.Name n ∷ w.Key t.OpenRound ∷ (z ++ operator_word op ∷ value)) e ∙ ap (λ z. w.Name n ∷ w.Key t.OpenRound ∷ (cell_words xs g ++ operator_word op ∷ z)) v
+        ∙ ap (λ z. z ++ operator_word op ∷ spell s) (sym (cell_spelled n xs g));
+  },
+  cell_spelled n xs g ∙ ap (λ z. w.Name n ∷ w.Key t.OpenRound ∷ z) (sym e),
+)
 
 -- the words between the brackets of a target
 abbrev around : List Word → Option (List ℕ) → List Word
@@ -213,7 +252,7 @@ around_same inside (Some g) None xs e =
     let r = q.1 in absurd cc
 around_same inside (Some g) (Some h) xs e =
     let q = snoc_same ((inside ++ close) ++ w.Key t.Dot ∷ []) ((spell_list xs ++ close) ++ w.Key t.Dot ∷ []) (w.Name g) (w.Name h)
-        (sym (regroup (inside ++ close) (w.Key t.Dot) (w.Name g)) ∙ e ∙ regroup (spell_list xs ++ close) (w.Key t.Dot) (w.Name h)) in
+    (sym (regroup (inside ++ close) (w.Key t.Dot) (w.Name g)) ∙ e ∙ regroup (spell_list xs ++ close) (w.Key t.Dot) (w.Name h)) in
     let r = q.1 in
     let d = snoc_same (inside ++ close) (spell_list xs ++ close) (w.Key t.Dot) (w.Key t.Dot) q.0 in
     (append_cancel_right inside (spell_list xs) close d.0, cc)
@@ -224,8 +263,8 @@ set_piece n m target inside value g op same e r k =
     embed_ok (AreParts inside value) (λ p. by_height (parts_height p) (with_parts n g op (parts_trees p))) (IsSet n target op value) answer (λ p. assign (cell_target n p.0 g) op p.1)
     (λ p a. cell_there n target value p.0 g op p.1 a.0.0.grouped a.0.1 a.1.grouped (e ∙ around_cell inside g p.0 a.0.0.exact) a.1.exact)
     (λ p a. let c = cell_of n target value op p a in
-        let q = around_same inside g c.1 c.0 (sym e ∙ c.6) in
-        ((c.0, c.2), ((record { grouped = c.3; exact = q.0 }, c.4), record { grouped = c.5; exact = c.7 }), c.8 ∙ ap (λ z. assign (cell_target n c.0 z) op c.2) q.1))
+    let q = around_same inside g c.1 c.0 (sym e ∙ c.6) in
+    ((c.0, c.2), ((record { grouped = c.3; exact = q.0 }, c.4), record { grouped = c.5; exact = c.7 }), c.8 ∙ ap (λ z. assign (cell_target n c.0 z) op c.2) q.1))
     (λ p. cell_height n p.0 g op p.1) r (subst (λ z. IfOk r (TellsCell z g op inside value)) same k)
 
 pub no_set : (n : List ℕ) (target value : List Word) (op : Assignment) → ((inside : List Word) → target ≡ inside ++ close → ⊥)

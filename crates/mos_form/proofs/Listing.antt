@@ -135,6 +135,7 @@ names_with front behind all found r k =
   where
     pair : Names → Typing → Names × Typing
     pair a b = (a, b)
+
     pair_same : (a b : Names) (x : Typing) → a ≡ b → pair a x ≡ pair b x
     pair_same a b x e = ap (λ z. pair z x) e
 
@@ -153,6 +154,7 @@ list_only words behind n y e is r k =
     never : (p : Phrase) → IsListed p → IsAlternative p → ⊥
     never (alternative xs) a b = a
     never _ a b = b
+
     at : (p : Phrase) → next_is p ≡ Some next.List → IsListed p
     at (typed ns x) h = tt
     at (labels xs) h = tt

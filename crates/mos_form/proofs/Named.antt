@@ -73,13 +73,15 @@ pub record_piece : SyntaxIsPlain → (n m : List ℕ) (behind : List Word) → i
 record_piece plain n m behind is q =
     subst (λ z. TellsPiece (w.Name n ∷ w.Key t.Equal ∷ z) (f.RecordOf m)) (sym (record_words behind is)) (subst (λ z. TellsPiece (w.Name n ∷ w.Key t.Equal ∷ w.Key t.Record ∷ []) (f.RecordOf z)) (sym q)
     (tell_as (IsOther (w.Name n ∷ w.Key t.Equal ∷ w.Key t.Record ∷ [])) answer (f.RecordOf n) (record_of n) (record { well = tt; exact = refl }, λ z. z) refl
-        (λ p k. record_answer plain n p k.0.exact (says n (w.Key t.Equal) (w.Key t.Record ∷ []) p k))))
+    (λ p k. record_answer plain n p k.0.exact (says n (w.Key t.Equal) (w.Key t.Record ∷ []) p k))))
 
 value_back : (n : List ℕ) (behind : List Word) (p : Phrase) → is_record behind ≡ false → IsPhrase (w.Name n ∷ w.Key t.Equal ∷ behind) p → next_is p ≡ Some next.Equal → (s : Syntax) × IsSpelled behind s × (p ≡ definition n s)
 value_back n behind (definition m s) is k e =
-    let q = k.exact in
-    (s, record { grouped = k.well; exact = behind_same (w.Name n) (w.Key t.Equal) (w.Name m) (w.Key t.Equal) behind (spell s) k.exact },
-    ap (λ z. definition z s) (first_same n m (w.Key t.Equal ∷ behind) (w.Key t.Equal ∷ spell s) k.exact))
+    let q = k.exact in (
+      s,
+      record { grouped = k.well; exact = behind_same (w.Name n) (w.Key t.Equal) (w.Name m) (w.Key t.Equal) behind (spell s) k.exact },
+      ap (λ z. definition z s) (first_same n m (w.Key t.Equal ∷ behind) (w.Key t.Equal ∷ spell s) k.exact),
+    )
 value_back n behind (record_of m) is k e =
     let q = behind_same (w.Name n) (w.Key t.Equal) (w.Name m) (w.Key t.Equal) behind (w.Key t.Record ∷ []) k.exact in
     let r : false ≡ true = sym is ∙ ap is_record q in absurd cc
@@ -103,9 +105,12 @@ squares_same : (a b : List Word) → in_squares a ≡ in_squares b → a ≡ b
 squares_same a b e = append_cancel_right a b (key t.CloseSquare) cc
 
 fill_back : (n : List ℕ) (behind : List Word) (p : Phrase) → IsPhrase (w.Name n ∷ w.Key t.Fill ∷ behind) p → next_is p ≡ Some next.Fill → (xs : Written) × AreGrouped xs × (behind ≡ in_squares (spell_list xs)) × (p ≡ fill n xs)
-fill_back n behind (fill m xs) k e =
-    (xs, k.well, behind_same (w.Name n) (w.Key t.Fill) (w.Name m) (w.Key t.Fill) behind (in_squares (spell_list xs)) k.exact,
-    ap (λ z. fill z xs) (first_same n m (w.Key t.Fill ∷ behind) (w.Key t.Fill ∷ in_squares (spell_list xs)) k.exact))
+fill_back n behind (fill m xs) k e = (
+  xs,
+  k.well,
+  behind_same (w.Name n) (w.Key t.Fill) (w.Name m) (w.Key t.Fill) behind (in_squares (spell_list xs)) k.exact,
+  ap (λ z. fill z xs) (first_same n m (w.Key t.Fill ∷ behind) (w.Key t.Fill ∷ in_squares (spell_list xs)) k.exact),
+)
 fill_back n behind (assign (to_name m) op s) k e = absurd cc
 fill_back n behind _ k e = absurd cc
 
@@ -115,7 +120,7 @@ fill_piece n behind inside e r k =
     embed_ok (AreSpelled inside) (λ xs. by_height (heights xs) (filled n (trees xs))) (IsOther (w.Name n ∷ w.Key t.Fill ∷ behind)) answer (fill n)
     (λ xs m. (record { well = m.grouped; exact = ap (λ z. w.Name n ∷ w.Key t.Fill ∷ z) (e ∙ ap in_squares m.exact) }, λ z. z))
     (λ p m. let q = fill_back n behind p m.0 (says n (w.Key t.Fill) behind p m) in
-        (q.0, record { grouped = q.1; exact = squares_same inside (spell_list q.0) (sym e ∙ q.2) }, q.3))
+    (q.0, record { grouped = q.1; exact = squares_same inside (spell_list q.0) (sym e ∙ q.2) }, q.3))
     (λ xs. refl) r k
 
 pub no_fill : (n : List ℕ) (behind : List Word) → ((inside : List Word) → behind ≡ in_squares inside → ⊥) → TellsPiece (w.Name n ∷ w.Key t.Fill ∷ behind) f.Unknown
@@ -132,9 +137,11 @@ operator_next assignment.Take = refl
 variable_back : (n : List ℕ) (op : Assignment) (behind : List Word) (p : Phrase) → IsPhrase (w.Name n ∷ operator_word op ∷ behind) p → next_is p ≡ Some (next.Assigns op)
     → (s : Syntax) × IsSpelled behind s × (p ≡ assign (to_name n) op s)
 variable_back n op behind (assign (to_name m) q s) k e =
-    let same : q ≡ op = cc in
-    (s, record { grouped = k.well.1; exact = behind_same (w.Name n) (operator_word op) (w.Name m) (operator_word q) behind (spell s) k.exact },
-    ap (λ z. assign (to_name m) z s) same ∙ ap (λ z. assign (to_name z) op s) (first_same n m (operator_word op ∷ behind) (operator_word q ∷ spell s) k.exact))
+    let same : q ≡ op = cc in (
+      s,
+      record { grouped = k.well.1; exact = behind_same (w.Name n) (operator_word op) (w.Name m) (operator_word q) behind (spell s) k.exact },
+      ap (λ z. assign (to_name m) z s) same ∙ ap (λ z. assign (to_name z) op s) (first_same n m (operator_word op ∷ behind) (operator_word q ∷ spell s) k.exact),
+    )
 variable_back n op behind _ k e = absurd cc
 
 variable_answer : (n : List ℕ) (op : Assignment) (s : Syntax) → answer (assign (to_name n) op s) ≡ by_height (height s) (assigned (reference.Name n) op (tree s))
@@ -155,9 +162,14 @@ field_words g op value = w.Name g ∷ operator_word op ∷ value
 
 dot_back : (n : List ℕ) (behind : List Word) (p : Phrase) → IsPhrase (w.Name n ∷ w.Key t.Dot ∷ behind) p → next_is p ≡ Some next.Dot
     → (g : List ℕ) × (op : Assignment) × (s : Syntax) × IsGrouped s × (behind ≡ field_words g op (spell s)) × (p ≡ assign (to_field n g) op s)
-dot_back n behind (assign (to_field m g) op s) k e =
-    (g, op, s, k.well.1, behind_same (w.Name n) (w.Key t.Dot) (w.Name m) (w.Key t.Dot) behind (field_words g op (spell s)) k.exact,
-    ap (λ z. assign (to_field z g) op s) (first_same n m (w.Key t.Dot ∷ behind) (w.Key t.Dot ∷ field_words g op (spell s)) k.exact))
+dot_back n behind (assign (to_field m g) op s) k e = (
+  g,
+  op,
+  s,
+  k.well.1,
+  behind_same (w.Name n) (w.Key t.Dot) (w.Name m) (w.Key t.Dot) behind (field_words g op (spell s)) k.exact,
+  ap (λ z. assign (to_field z g) op s) (first_same n m (w.Key t.Dot ∷ behind) (w.Key t.Dot ∷ field_words g op (spell s)) k.exact),
+)
 dot_back n behind _ k e = absurd cc
 
 field_answer : (n g : List ℕ) (op : Assignment) (s : Syntax) → answer (assign (to_field n g) op s) ≡ by_height (height s) (assigned (reference.Field n g) op (tree s))
@@ -181,11 +193,13 @@ field_piece n m g h op value q i r k =
     embed_ok (IsSpelled value) (λ s. by_height (height s) (assigned (reference.Field n g) op (tree s))) (IsOther (w.Name n ∷ w.Key t.Dot ∷ field_words g op value)) answer (assign (to_field n g) op)
     (λ s m. (record { well = (tt, m.grouped); exact = ap (λ z. w.Name n ∷ w.Key t.Dot ∷ field_words g op z) m.exact }, λ z. z))
     (λ p m. let d = dot_of n (field_words g op value) p m in
-        let both : field_words g op value ≡ field_words d.0 d.1 (spell d.2) = d.4 in
-        let first : d.0 ≡ g = cc in
-        let second : operator_word d.1 ≡ operator_word op = cc in
-        (d.2, record { grouped = d.3; exact = behind_same (w.Name g) (operator_word op) (w.Name d.0) (operator_word d.1) value (spell d.2) both },
-        d.5 ∙ ap (λ z. assign (to_field n z) d.1 d.2) first ∙ ap (λ z. assign (to_field n g) z d.2) (operator_one d.1 op second)))
+    let both : field_words g op value ≡ field_words d.0 d.1 (spell d.2) = d.4 in
+    let first : d.0 ≡ g = cc in
+    let second : operator_word d.1 ≡ operator_word op = cc in (
+      d.2,
+      record { grouped = d.3; exact = behind_same (w.Name g) (operator_word op) (w.Name d.0) (operator_word d.1) value (spell d.2) both },
+      d.5 ∙ ap (λ z. assign (to_field n z) d.1 d.2) first ∙ ap (λ z. assign (to_field n g) z d.2) (operator_one d.1 op second),
+    ))
     (field_answer n g op) r
     (subst (λ z. IfOk r (TellsOne (assigned (reference.Field n z) op) value)) i (subst (λ z. IfOk r (TellsOne (assigned (reference.Field z h) op) value)) q k))
 
@@ -195,10 +209,10 @@ no_field n behind none = no_piece (w.Name n ∷ w.Key t.Dot ∷ behind) (λ p m.
 pub field_alone : (n g : List ℕ) (rest : List Word) → rest ≡ [] → TellsPiece (w.Name n ∷ w.Key t.Dot ∷ w.Name g ∷ rest) f.Unknown
 field_alone n g rest e = no_piece (w.Name n ∷ w.Key t.Dot ∷ w.Name g ∷ rest)
     (λ p m. let d = dot_of n (w.Name g ∷ rest) p m in
-        let r : [] ≡ operator_word d.1 ∷ spell d.2 = sym e ∙ tail_same (w.Name g) (w.Name d.0) rest (operator_word d.1 ∷ spell d.2) d.4 in cc)
+    let r : [] ≡ operator_word d.1 ∷ spell d.2 = sym e ∙ tail_same (w.Name g) (w.Name d.0) rest (operator_word d.1 ∷ spell d.2) d.4 in cc)
 
 pub field_only : (n g : List ℕ) (rest value : List Word) (y : Word) → rest ≡ y ∷ value → None ≡ operator_of y → TellsPiece (w.Name n ∷ w.Key t.Dot ∷ w.Name g ∷ rest) f.Unknown
 field_only n g rest value y e none = no_piece (w.Name n ∷ w.Key t.Dot ∷ w.Name g ∷ rest)
     (λ p m. let d = dot_of n (w.Name g ∷ rest) p m in
-        let r : y ∷ value ≡ operator_word d.1 ∷ spell d.2 = sym e ∙ tail_same (w.Name g) (w.Name d.0) rest (operator_word d.1 ∷ spell d.2) d.4 in
-        operator_none y none d.1 cc)
+    let r : y ∷ value ≡ operator_word d.1 ∷ spell d.2 = sym e ∙ tail_same (w.Name g) (w.Name d.0) rest (operator_word d.1 ∷ spell d.2) d.4 in
+    operator_none y none d.1 cc)

@@ -166,10 +166,11 @@ same_length xs n m e f = omega (arith, prefix_len-le-length is_plain xs, e, f)
 pub parted_some : (xs front rest behind : List Word) (x : Word) (n m : ℕ) → n ≡ prefix_len is_plain xs → m ≡ min n (length xs)
     → front ≡ take m xs → rest ≡ drop m xs → rest ≡ x ∷ behind → ArePlain front × (is_plain x ≡ false) × (xs ≡ front ++ x ∷ behind)
 parted_some xs front rest behind x n m e f b r s =
-    let q = same_length xs n m e f in
-    (subst ArePlain (sym (b ∙ ap (λ z. take z xs) q)) (plain_front xs),
-    not_plain xs x behind (ap (λ z. drop z xs) (sym q) ∙ sym r ∙ s),
-    sym (take-append-drop m xs) ∙ ap (λ z. z ++ drop m xs) (sym b) ∙ ap (λ z. front ++ z) (sym r ∙ s))
+    let q = same_length xs n m e f in (
+      subst ArePlain (sym (b ∙ ap (λ z. take z xs) q)) (plain_front xs),
+      not_plain xs x behind (ap (λ z. drop z xs) (sym q) ∙ sym r ∙ s),
+      sym (take-append-drop m xs) ∙ ap (λ z. z ++ drop m xs) (sym b) ∙ ap (λ z. front ++ z) (sym r ∙ s),
+    )
 
 pub parted_none : (xs rest : List Word) (n m : ℕ) → n ≡ prefix_len is_plain xs → m ≡ min n (length xs) → rest ≡ drop m xs → rest ≡ [] → ArePlain xs
 parted_none xs rest n m e f r s = all_plain xs (ap (λ z. drop z xs) (sym (same_length xs n m e f)) ∙ sym r ∙ s)

@@ -40,7 +40,7 @@ pub data Labels : Type 0 where
   and_label : List ℕ → Option (List ℕ) → Labels → Labels
 
 pub data Phrase : Type 0 where
-  word : Keyword → Phrase               -- one reserved word
+  word : Keyword → Phrase  -- one reserved word
   break_word : Phrase
   next_word : Phrase
   model_text : List ℕ → Phrase

@@ -38,12 +38,7 @@ pub(crate) fn options(alloc: Global, words: &[Word]) -> Result<Form, NoMemory>
 }
 
 /// The heading of a routine, or what stands behind `forward`.
-fn heading(
-    forward: bool,
-    name: Text,
-    formals: Items<FormalGroup>,
-    typ: Option<BaseType>,
-) -> Form
+fn heading(forward: bool, name: Text, formals: Items<FormalGroup>, typ: Option<BaseType>) -> Form
     ensures { result ≡ fixed.heading forward name formals typ }
 {
     if forward {

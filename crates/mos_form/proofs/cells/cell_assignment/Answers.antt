@@ -15,7 +15,7 @@ returns-in-Ok c =
     subst (TellsCell c.args.name c.args.field c.args.operator c.args.indexes.now c.args.value.now) (sym (c.assigned.ensures ∙ ap (λ z. assigned z c.args.operator c.in-Ok.value) c.cell.ensures))
     (tell_ok (AreParts c.args.indexes.now c.args.value.now) parts_height parts_trees (with_parts c.args.name c.args.field c.args.operator) (c.in-Ok.indexes, c.in-Ok.value)
     (subst (λ z. IfOk z (λ made. (p : Written × Syntax) × AreParts c.args.indexes.now c.args.value.now p × (parts_height p ≤ limit) × (made ≡ parts_trees p))) (sym c.in-Ok.ensures)
-        (both_found c.args.indexes.now c.args.value.now c.some_expressions-indexes.result c.expression_of_words.result h k))
+    (both_found c.args.indexes.now c.args.value.now c.some_expressions-indexes.result c.expression_of_words.result h k))
     (λ p m. subst (λ z. Gives z (outcome_at (parts_height p) (parts_trees p))) (sym c.in-Ok.ensures) (both_only c.args.indexes.now c.args.value.now c.some_expressions-indexes.result c.expression_of_words.result h k p m)))
 
 pub returns-in-Err : goal.returns-in-Err
