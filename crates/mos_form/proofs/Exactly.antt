@@ -2,7 +2,6 @@
 
 use Rattle.std.proofs.Common.{◌≡◌, ℕ, nat_le, List, [], ◌∷◌, ◌++◌, Option, Some, None, Result, Ok, Err, IfOk, refl, sym, ◌∙◌, ap, subst}
 use Rattle.std.proofs.lemmas.List.{append_assoc}
-use Rattle.mos_tree.specs.declared.source.ModelName.TheVariants as named
 use Rattle.mos_tree.specs.declared.statement.Label.{Label}
 use Rattle.mos_scan.specs.declared.token.TokenKind.{TokenKind}
 use Rattle.mos_scan.specs.declared.token.TokenKind.TheVariants as t
@@ -22,7 +21,7 @@ use Rattle.mos_form.specs.Heads.{head_of}
 use Rattle.mos_form.specs.Lists.{read_texts, read_labels, uses, uses_of}
 use Rattle.mos_form.specs.Lists as lists
 use Rattle.mos_form.specs.Phrases.{to_result, Labels, last_label, and_label, Phrase, word, break_word, next_word, model_text, model_name, uses_modules, options_name, definition, typed, record_of, procedure, function, forward_procedure, forward_function, assign, fill, call, bare, if_then, elif_then, case_of, alternative, forall_in, while_so, until_so, initializations, labels, token_of, text_words, label_words, labels_of, words_of, form_of, tallest, answer}
-use Rattle.mos_form.specs.Telling.{Tells, told, untold, IsOther, TellsPiece}
+use Rattle.mos_form.specs.Telling.{Tells, untold, IsOther, TellsPiece}
 use Rattle.mos_form.proofs.Telling.{on_bool, tell_as}
 use Rattle.mos_form.proofs.Opening.{head_is, key_head}
 use Rattle.mos_form.proofs.Keyed.{tail_same}

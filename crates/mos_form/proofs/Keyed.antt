@@ -1,12 +1,11 @@
 -- Pieces that begin with a token, from what stands behind it.
 
-use Rattle.std.proofs.Common.{◌≡◌, ℕ, List, [], ◌∷◌, ◌++◌, Option, Some, None, Result, Ok, Err, IfOk, refl, sym, ◌∙◌, ap, subst}
+use Rattle.std.proofs.Common.{◌≡◌, List, [], ◌∷◌, Some, None, Result, IfOk, refl, sym, ◌∙◌, ap, subst}
 use Rattle.std.proofs.lemmas.List.{append_cancel_right}
 use Rattle.mos_tree.specs.declared.statement.Assignment.{Assignment}
 use Rattle.mos_tree.specs.declared.statement.Direction.{Direction}
 use Rattle.mos_tree.specs.declared.statement.Direction.TheVariants as direction
 use Rattle.mos_tree.specs.declared.statement.Reference.TheVariants as reference
-use Rattle.mos_scan.specs.declared.token.TokenKind.{TokenKind}
 use Rattle.mos_scan.specs.declared.token.TokenKind.TheVariants as t
 use Rattle.mos_scan.specs.declared.reading.Word.{Word}
 use Rattle.mos_scan.specs.declared.reading.Word.TheVariants as w
@@ -16,13 +15,12 @@ use Rattle.mos_form.specs.declared.form.Form.{Form}
 use Rattle.mos_form.specs.declared.form.Form.TheVariants as f
 use Rattle.mos_form.specs.declared.form.Guard.{Guard}
 use Rattle.mos_form.specs.declared.form.Guard.TheVariants as guard
-use Rattle.mos_form.specs.declared.head.Head.{Head}
 use Rattle.mos_form.specs.declared.head.Head.TheVariants as h
 use Rattle.mos_form.specs.Heads.{head_of}
 use Rattle.mos_form.specs.Cuts.{direction_of, operator_of}
 use Rattle.mos_form.specs.Fixed.{guard_word, around}
-use Rattle.mos_form.specs.Phrases.{Target, to_result, Phrase, assign, if_then, elif_then, case_of, forall_in, while_so, until_so, initializations, direction_word, operator_word, words_of, IsWell, IsPhrase, answer}
-use Rattle.mos_form.specs.Telling.{Tells, told, untold, by_height, IsAlternative, IsOther, TellsOne, TellsIndex, TellsPiece, assigned}
+use Rattle.mos_form.specs.Phrases.{to_result, Phrase, assign, if_then, elif_then, case_of, forall_in, while_so, until_so, initializations, direction_word, operator_word, words_of, IsWell, IsPhrase, answer}
+use Rattle.mos_form.specs.Telling.{untold, by_height, IsAlternative, IsOther, TellsOne, TellsIndex, TellsPiece, assigned}
 use Rattle.mos_form.proofs.Telling.{embed_ok}
 use Rattle.mos_form.proofs.Opening.{head_is, key_head}
 use Rattle.mos_form.proofs.Parting.{operator_known, operator_same, operator_none, zero_max}
@@ -143,7 +141,7 @@ forall_piece rest inside e r k =
     embed_ok (IsIndexSpelled inside) (λ i. by_height (height_over i) (f.Forall (index_of i))) (IsOther (w.Key t.Forall ∷ rest)) answer forall_in
     (λ i m. (record { well = m.grouped; exact = ap (λ z. w.Key t.Forall ∷ z) (e ∙ ap in_brackets m.exact) }, λ z. z))
     (λ p m. let q = forall_back rest p m.0 (key_head t.Forall rest p m.1 m.0.exact) in
-        (q.0, record { grouped = q.1.grouped; exact = brackets_same inside (spell_over q.0) (sym e ∙ q.2) }, q.3))
+    (q.0, record { grouped = q.1.grouped; exact = brackets_same inside (spell_over q.0) (sym e ∙ q.2) }, q.3))
     (λ i. refl) r k
 
 pub no_forall : (rest : List Word) → ((inside : List Word) → rest ≡ in_brackets inside → ⊥) → TellsPiece (w.Key t.Forall ∷ rest) f.Unknown
@@ -176,21 +174,21 @@ data_piece d x rest name is e r k =
     embed_ok (IsSpelled name) (λ s. by_height (height s) (f.Initializations d (tree s))) (IsOther (w.Key t.Initializations ∷ rest)) answer (initializations d)
     (λ s m. (record { well = m.grouped; exact = ap (λ z. w.Key t.Initializations ∷ z) (e ∙ ap (λ z. z ∷ name) (direction_known x d is) ∙ ap (λ z. direction_word d ∷ z) m.exact) }, λ z. z))
     (λ p m. let q = data_back rest p m.0 (key_head t.Initializations rest p m.1 m.0.exact) in
-        let both : x ∷ name ≡ direction_word q.0 ∷ spell q.1 = sym e ∙ q.3 in
-        (q.1, record { grouped = q.2; exact = tail_same x (direction_word q.0) name (spell q.1) both }, q.4 ∙ ap (λ z. initializations z q.1) (direction_same x d q.0 is cc)))
+    let both : x ∷ name ≡ direction_word q.0 ∷ spell q.1 = sym e ∙ q.3 in
+    (q.1, record { grouped = q.2; exact = tail_same x (direction_word q.0) name (spell q.1) both }, q.4 ∙ ap (λ z. initializations z q.1) (direction_same x d q.0 is cc)))
     (λ s. refl) r k
 
 pub no_data : (x : Word) (rest name : List Word) → None ≡ direction_of x → rest ≡ x ∷ name → TellsPiece (w.Key t.Initializations ∷ rest) f.Unknown
 no_data x rest name is e = no_piece (w.Key t.Initializations ∷ rest)
     (λ p m. let q = data_back rest p m.0 (key_head t.Initializations rest p m.1 m.0.exact) in
-        let both : x ∷ name ≡ direction_word q.0 ∷ spell q.1 = sym e ∙ q.3 in
-        let same : x ≡ direction_word q.0 = cc in
-        let r : None ≡ Some q.0 = is ∙ ap direction_of same ∙ direction_read q.0 in cc)
+    let both : x ∷ name ≡ direction_word q.0 ∷ spell q.1 = sym e ∙ q.3 in
+    let same : x ≡ direction_word q.0 = cc in
+    let r : None ≡ Some q.0 = is ∙ ap direction_of same ∙ direction_read q.0 in cc)
 
 pub empty_data : (rest : List Word) → rest ≡ [] → TellsPiece (w.Key t.Initializations ∷ rest) f.Unknown
 empty_data rest e = no_piece (w.Key t.Initializations ∷ rest)
     (λ p m. let q = data_back rest p m.0 (key_head t.Initializations rest p m.1 m.0.exact) in
-        let r : [] ≡ direction_word q.0 ∷ spell q.1 = sym e ∙ q.3 in cc)
+    let r : [] ≡ direction_word q.0 ∷ spell q.1 = sym e ∙ q.3 in cc)
 
 -- ---- `returned`
 
@@ -208,17 +206,17 @@ result_piece op x rest value is e r k =
     embed_ok (IsSpelled value) (λ s. by_height (height s) (assigned reference.Returned op (tree s))) (IsOther (w.Key t.Returned ∷ rest)) answer (assign to_result op)
     (λ s m. (record { well = (tt, m.grouped); exact = ap (λ z. w.Key t.Returned ∷ z) (e ∙ ap (λ z. z ∷ value) (operator_known x op is) ∙ ap (λ z. operator_word op ∷ z) m.exact) }, λ z. z))
     (λ p m. let q = result_back rest p m.0 (key_head t.Returned rest p m.1 m.0.exact) in
-        let both : x ∷ value ≡ operator_word q.0 ∷ spell q.1 = sym e ∙ q.3 in
-        (q.1, record { grouped = q.2; exact = tail_same x (operator_word q.0) value (spell q.1) both }, q.4 ∙ ap (λ z. assign to_result z q.1) (operator_same x op q.0 is cc)))
+    let both : x ∷ value ≡ operator_word q.0 ∷ spell q.1 = sym e ∙ q.3 in
+    (q.1, record { grouped = q.2; exact = tail_same x (operator_word q.0) value (spell q.1) both }, q.4 ∙ ap (λ z. assign to_result z q.1) (operator_same x op q.0 is cc)))
     (result_answer op) r k
 
 pub no_result : (x : Word) (rest value : List Word) → None ≡ operator_of x → rest ≡ x ∷ value → TellsPiece (w.Key t.Returned ∷ rest) f.Unknown
 no_result x rest value is e = no_piece (w.Key t.Returned ∷ rest)
     (λ p m. let q = result_back rest p m.0 (key_head t.Returned rest p m.1 m.0.exact) in
-        let both : x ∷ value ≡ operator_word q.0 ∷ spell q.1 = sym e ∙ q.3 in
-        operator_none x is q.0 cc)
+    let both : x ∷ value ≡ operator_word q.0 ∷ spell q.1 = sym e ∙ q.3 in
+    operator_none x is q.0 cc)
 
 pub empty_result : (rest : List Word) → rest ≡ [] → TellsPiece (w.Key t.Returned ∷ rest) f.Unknown
 empty_result rest e = no_piece (w.Key t.Returned ∷ rest)
     (λ p m. let q = result_back rest p m.0 (key_head t.Returned rest p m.1 m.0.exact) in
-        let both : [] ≡ operator_word q.0 ∷ spell q.1 = sym e ∙ q.3 in cc)
+    let both : [] ≡ operator_word q.0 ∷ spell q.1 = sym e ∙ q.3 in cc)

@@ -1,7 +1,12 @@
+pub mod Both
+pub mod Bracketed
 pub mod Exactly
 pub mod Keyed
+pub mod Listing
+pub mod Named
 pub mod Opening
 pub mod Parting
 pub mod Routines
 pub mod Telling
 pub mod Texts
+pub mod Whole

@@ -1,13 +1,13 @@
 -- What the first words of a piece say of it, for each way to write one.
 
-use Rattle.std.proofs.Common.{◌≡◌, ℕ, List, [], ◌∷◌, ◌++◌, Option, Some, None, refl, sym, ◌∙◌, ap, subst}
+use Rattle.std.proofs.Common.{◌≡◌, ℕ, List, ◌∷◌, Option, Some, None, refl, sym, ap, subst}
 use Rattle.mos_tree.specs.declared.statement.Assignment.{Assignment}
 use Rattle.mos_tree.specs.declared.statement.Assignment.TheVariants as assignment
 use Rattle.mos_scan.specs.declared.token.TokenKind.{TokenKind}
 use Rattle.mos_scan.specs.declared.token.TokenKind.TheVariants as t
 use Rattle.mos_scan.specs.declared.reading.Word.{Word}
 use Rattle.mos_scan.specs.declared.reading.Word.TheVariants as w
-use Rattle.mos_expr.specs.Grammar.{Names, one_name, and_name}
+use Rattle.mos_expr.specs.Grammar.{one_name, and_name}
 use Rattle.mos_form.specs.declared.form.Guard.TheVariants as guard
 use Rattle.mos_form.specs.declared.form.Keyword.{Keyword}
 use Rattle.mos_form.specs.declared.form.Keyword.TheVariants as keyword
@@ -16,8 +16,8 @@ use Rattle.mos_form.specs.declared.head.Head.TheVariants as h
 use Rattle.mos_form.specs.declared.head.Next.{Next}
 use Rattle.mos_form.specs.declared.head.Next.TheVariants as next
 use Rattle.mos_form.specs.Heads.{head_of, next_of}
-use Rattle.mos_form.specs.Phrases.{Target, to_name, to_cell, to_field, to_cell_field, to_result, Labels, last_label, and_label, Phrase, word, break_word, next_word, model_text, model_name, uses_modules, options_name, definition, typed, record_of, procedure, function, forward_procedure, forward_function, assign, fill, call, bare, if_then, elif_then, case_of, alternative, forall_in, while_so, until_so, initializations, labels, token_of, operator_word, words_of, IsPhrase}
-use Rattle.mos_form.specs.Telling.{IsAlternative, IsOther}
+use Rattle.mos_form.specs.Phrases.{to_name, to_cell, to_field, to_cell_field, to_result, last_label, and_label, Phrase, word, break_word, next_word, model_text, model_name, uses_modules, options_name, definition, typed, record_of, procedure, function, forward_procedure, forward_function, assign, fill, call, bare, if_then, elif_then, case_of, alternative, forall_in, while_so, until_so, initializations, labels, token_of, operator_word, words_of}
+use Rattle.mos_form.specs.Telling.{IsAlternative}
 
 -- what the first word of a piece says, where it is a token
 abbrev pub head_is : Phrase → Option Head

@@ -1,20 +1,17 @@
 -- Words that are cut in one way only.
 
-use Rattle.std.proofs.Common.{◌≡◌, ℕ, suc, ◌+◌, Bool, true, false, ◌&&◌, cond, eqb, List, [], ◌∷◌, ◌++◌, length, take, drop, min, max, Option, Some, None, refl, sym, ◌∙◌, ap, subst, arith}
-use Rattle.std.specs.List.{list_all, prefix_len}
+use Rattle.std.proofs.Common.{◌≡◌, ℕ, suc, ◌+◌, Bool, true, false, eqb, List, [], ◌∷◌, ◌++◌, length, take, drop, min, max, Some, None, refl, sym, ◌∙◌, ap, subst, arith}
+use Rattle.std.specs.List.{prefix_len}
 use Rattle.std.proofs.lemmas.Bool.{eqb-true}
 use Rattle.std.proofs.lemmas.List.{append_assoc, take-append-drop}
 use Rattle.std.proofs.lemmas.List.Folds.{list_all-append}
 use Rattle.std.proofs.lemmas.List.Sums.{prefix_len-le-length}
 use Rattle.mos_tree.specs.declared.statement.Assignment.{Assignment}
 use Rattle.mos_tree.specs.declared.statement.Assignment.TheVariants as assignment
-use Rattle.mos_tree.specs.declared.expr.UnaryOperator.{UnaryOperator}
-use Rattle.mos_scan.specs.declared.token.TokenKind.{TokenKind}
 use Rattle.mos_scan.specs.declared.token.TokenKind.TheVariants as t
 use Rattle.mos_scan.specs.declared.reading.Word.{Word}
 use Rattle.mos_scan.specs.declared.reading.Word.TheVariants as w
-use Rattle.mos_expr.specs.Grammar.{Leaf, number, text, truth, name, returned, field, Syntax, leaf, call, call_field, set, list, bracket, choice, convert, before, between, aggregate, counted, Written, no_more, one_more, spell, spell_list, spell_rest, spell_between, AreSpelled}
-use Rattle.mos_typing.specs.Typing.{key}
+use Rattle.mos_expr.specs.Grammar.{Leaf, number, text, truth, name, returned, field, Syntax, leaf, call, call_field, set, list, bracket, choice, convert, before, between, aggregate, counted, Written, no_more, one_more, spell, spell_rest, spell_between}
 use Rattle.mos_typing.specs.Words.{is_plain, ArePlain}
 use Rattle.mos_form.specs.Cuts.{operator_of}
 use Rattle.mos_form.specs.Phrases.{operator_word}
@@ -169,10 +166,11 @@ same_length xs n m e f = omega (arith, prefix_len-le-length is_plain xs, e, f)
 pub parted_some : (xs front rest behind : List Word) (x : Word) (n m : ℕ) → n ≡ prefix_len is_plain xs → m ≡ min n (length xs)
     → front ≡ take m xs → rest ≡ drop m xs → rest ≡ x ∷ behind → ArePlain front × (is_plain x ≡ false) × (xs ≡ front ++ x ∷ behind)
 parted_some xs front rest behind x n m e f b r s =
-    let q = same_length xs n m e f in
-    (subst ArePlain (sym (b ∙ ap (λ z. take z xs) q)) (plain_front xs),
-    not_plain xs x behind (ap (λ z. drop z xs) (sym q) ∙ sym r ∙ s),
-    sym (take-append-drop m xs) ∙ ap (λ z. z ++ drop m xs) (sym b) ∙ ap (λ z. front ++ z) (sym r ∙ s))
+    let q = same_length xs n m e f in (
+      subst ArePlain (sym (b ∙ ap (λ z. take z xs) q)) (plain_front xs),
+      not_plain xs x behind (ap (λ z. drop z xs) (sym q) ∙ sym r ∙ s),
+      sym (take-append-drop m xs) ∙ ap (λ z. z ++ drop m xs) (sym b) ∙ ap (λ z. front ++ z) (sym r ∙ s),
+    )
 
 pub parted_none : (xs rest : List Word) (n m : ℕ) → n ≡ prefix_len is_plain xs → m ≡ min n (length xs) → rest ≡ drop m xs → rest ≡ [] → ArePlain xs
 parted_none xs rest n m e f r s = all_plain xs (ap (λ z. drop z xs) (sym (same_length xs n m e f)) ∙ sym r ∙ s)

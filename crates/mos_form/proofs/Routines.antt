@@ -1,7 +1,6 @@
 -- Headings of routines, alone or behind `forward`.
 
-use Rattle.std.proofs.Common.{◌≡◌, ℕ, Bool, true, false, List, [], ◌∷◌, ◌++◌, Option, Some, None, Result, Ok, Err, IfOk, refl, sym, ◌∙◌, ap, subst}
-use Rattle.std.proofs.lemmas.List.{append_assoc}
+use Rattle.std.proofs.Common.{◌≡◌, ℕ, Bool, true, false, List, [], ◌∷◌, ◌++◌, Some, None, Result, IfOk, refl, sym, ◌∙◌, ap}
 use Rattle.mos_tree.specs.declared.declaration.BaseType.{BaseType}
 use Rattle.mos_tree.specs.declared.declaration.BaseType.TheVariants as base
 use Rattle.mos_tree.specs.declared.declaration.FormalGroup.{FormalGroup}
@@ -16,8 +15,8 @@ use Rattle.mos_form.specs.declared.form.Mould.TheVariants as m
 use Rattle.mos_form.specs.declared.head.Head.TheVariants as h
 use Rattle.mos_form.specs.Fixed.{heading, heading_mould, lead}
 use Rattle.mos_form.specs.Forms.{mould_of}
-use Rattle.mos_form.specs.Phrases.{to_result, Phrase, procedure, function, forward_procedure, forward_function, assign, words_of, IsWell, IsPhrase, answer}
-use Rattle.mos_form.specs.Telling.{Tells, by_height, IsAlternative, IsOther, TellsFormals, TellsPiece}
+use Rattle.mos_form.specs.Phrases.{to_result, Phrase, procedure, function, forward_procedure, forward_function, assign, IsPhrase, answer}
+use Rattle.mos_form.specs.Telling.{by_height, IsOther, TellsFormals, TellsPiece}
 use Rattle.mos_form.proofs.Telling.{embed_ok}
 use Rattle.mos_form.proofs.Opening.{head_is, key_head}
 use Rattle.mos_form.proofs.Parting.{snoc_same, regroup}
@@ -76,9 +75,9 @@ procedure_piece forward words rest n e r k =
     embed_ok (AreFormals rest) (λ xs. by_height (tallest_formals xs) (heading forward n (formals_of xs) None)) (IsOther (lead forward t.Procedure words)) answer (a_procedure forward n)
     (λ xs m. procedure_there forward words n xs m.grouped (e ∙ ap (λ z. w.Name n ∷ z) m.exact))
     (λ p m. let q = procedure_back forward words p m in
-        let both : w.Name n ∷ rest ≡ w.Name q.0 ∷ formal_words q.1 = sym e ∙ q.3 in
-        let name_same : q.0 ≡ n = cc in
-        (q.1, record { grouped = q.2; exact = cc }, q.4 ∙ ap (λ z. a_procedure forward z q.1) name_same))
+    let both : w.Name n ∷ rest ≡ w.Name q.0 ∷ formal_words q.1 = sym e ∙ q.3 in
+    let name_same : q.0 ≡ n = cc in
+    (q.1, record { grouped = q.2; exact = cc }, q.4 ∙ ap (λ z. a_procedure forward z q.1) name_same))
     (procedure_answer forward n) r k
 
 pub no_procedure : (forward : Bool) (words : List Word) → ((n : List ℕ) (rest : List Word) → words ≡ w.Name n ∷ rest → ⊥) → TellsPiece (lead forward t.Procedure words) f.Unknown
@@ -140,7 +139,7 @@ cut_result : (formals inside : List Word) (typ : Word) (b : BaseType) → inside
 cut_result formals inside typ b e =
     let y = one_word b in
     let q = snoc_same (inside ++ w.Key t.Colon ∷ []) (formals ++ w.Key t.Colon ∷ []) typ y.0
-        (sym (regroup inside (w.Key t.Colon) typ) ∙ e ∙ ap (λ z. formals ++ w.Key t.Colon ∷ z) y.1 ∙ regroup formals (w.Key t.Colon) y.0) in
+    (sym (regroup inside (w.Key t.Colon) typ) ∙ e ∙ ap (λ z. formals ++ w.Key t.Colon ∷ z) y.1 ∙ regroup formals (w.Key t.Colon) y.0) in
     ((snoc_same inside formals (w.Key t.Colon) (w.Key t.Colon) q.0).0, y.1 ∙ ap (λ z. z ∷ []) (sym q.1))
 
 pub function_piece : {E : Type 0} (forward : Bool) (n : List ℕ) (words inside : List Word) (typ : Word) (b : BaseType)
@@ -150,27 +149,27 @@ function_piece forward n words inside typ b e is r k =
     embed_ok (AreFormals inside) (λ xs. by_height (tallest_formals xs) (heading forward n (formals_of xs) (Some b))) (IsOther (lead forward t.Function (w.Name n ∷ words))) answer (λ xs. a_function forward n xs b)
     (λ xs m. function_there forward (w.Name n ∷ words) n xs b m.grouped (ap (λ z. w.Name n ∷ z) (e ∙ ap (λ z. inside ++ w.Key t.Colon ∷ z) (sym is) ∙ ap (λ z. z ++ w.Key t.Colon ∷ base_words b) m.exact)))
     (λ p m. let q = function_back forward (w.Name n ∷ words) p m in
-        let rest_same : words ≡ result_words q.1 q.2 = tail_same (w.Name n) (w.Name q.0) words (result_words q.1 q.2) q.4 in
-        let both = cut_result (formal_words q.1) inside typ q.2 (sym e ∙ rest_same) in
-        let whole = q.4 in
-        let name_same : q.0 ≡ n = cc in
-        let typ_same : q.2 ≡ b = base_same q.2 b (both.1 ∙ sym is) in
-        (q.1, record { grouped = q.3; exact = both.0 }, q.5 ∙ ap (λ z. a_function forward z q.1 q.2) name_same ∙ ap (a_function forward n q.1) typ_same))
+    let rest_same : words ≡ result_words q.1 q.2 = tail_same (w.Name n) (w.Name q.0) words (result_words q.1 q.2) q.4 in
+    let both = cut_result (formal_words q.1) inside typ q.2 (sym e ∙ rest_same) in
+    let whole = q.4 in
+    let name_same : q.0 ≡ n = cc in
+    let typ_same : q.2 ≡ b = base_same q.2 b (both.1 ∙ sym is) in
+    (q.1, record { grouped = q.3; exact = both.0 }, q.5 ∙ ap (λ z. a_function forward z q.1 q.2) name_same ∙ ap (a_function forward n q.1) typ_same))
     (function_answer forward n b) r k
 
 pub no_base : (forward : Bool) (n : List ℕ) (words inside : List Word) (typ : Word) → words ≡ inside ++ w.Key t.Colon ∷ typ ∷ [] → ((b : BaseType) → base_words b ≡ typ ∷ [] → ⊥)
     → TellsPiece (lead forward t.Function (w.Name n ∷ words)) f.Unknown
 no_base forward n words inside typ e none = no_piece (lead forward t.Function (w.Name n ∷ words))
     (λ p m. let q = function_back forward (w.Name n ∷ words) p m in
-        let rest_same : words ≡ result_words q.1 q.2 = tail_same (w.Name n) (w.Name q.0) words (result_words q.1 q.2) q.4 in
-        none q.2 (cut_result (formal_words q.1) inside typ q.2 (sym e ∙ rest_same)).1)
+    let rest_same : words ≡ result_words q.1 q.2 = tail_same (w.Name n) (w.Name q.0) words (result_words q.1 q.2) q.4 in
+    none q.2 (cut_result (formal_words q.1) inside typ q.2 (sym e ∙ rest_same)).1)
 
 pub no_result_type : (forward : Bool) (n : List ℕ) (words : List Word) → ((inside : List Word) (typ : Word) → words ≡ inside ++ w.Key t.Colon ∷ typ ∷ [] → ⊥)
     → TellsPiece (lead forward t.Function (w.Name n ∷ words)) f.Unknown
 no_result_type forward n words none = no_piece (lead forward t.Function (w.Name n ∷ words))
     (λ p m. let q = function_back forward (w.Name n ∷ words) p m in
-        let y = one_word q.2 in
-        none (formal_words q.1) y.0 (tail_same (w.Name n) (w.Name q.0) words (result_words q.1 q.2) q.4 ∙ ap (λ z. formal_words q.1 ++ w.Key t.Colon ∷ z) y.1))
+    let y = one_word q.2 in
+    none (formal_words q.1) y.0 (tail_same (w.Name n) (w.Name q.0) words (result_words q.1 q.2) q.4 ∙ ap (λ z. formal_words q.1 ++ w.Key t.Colon ∷ z) y.1))
 
 pub no_function : (forward : Bool) (words : List Word) → ((n : List ℕ) (rest : List Word) → words ≡ w.Name n ∷ rest → ⊥) → TellsPiece (lead forward t.Function words) f.Unknown
 no_function forward words none = no_piece (lead forward t.Function words) (λ p m. let q = function_back forward words p m in none q.0 (result_words q.1 q.2) q.4)
@@ -178,8 +177,11 @@ no_function forward words none = no_piece (lead forward t.Function words) (λ p 
 -- ---- `forward`
 
 forward_back : (words : List Word) (p : Phrase) → IsPhrase (w.Key t.Forward ∷ words) p → head_is p ≡ Some h.Forward
-    → (kind : TokenKind) → (rest : List Word) → words ≡ w.Key kind ∷ rest → (kind ≡ t.Procedure → ⊥) → (kind ≡ t.Function → ⊥) → ⊥
-forward_back words (forward_procedure n xs) k e kind rest is no_p no_f = let q = k.exact in no_p cc
-forward_back words (forward_function n xs b) k e kind rest is no_p no_f = let q = k.exact in no_f cc
-forward_back words (assign to_result op s) k e kind rest is no_p no_f = cc
-forward_back words _ k e kind rest is no_p no_f = cc
+    → ((rest : List Word) → words ≡ w.Key t.Procedure ∷ rest → ⊥) → ((rest : List Word) → words ≡ w.Key t.Function ∷ rest → ⊥) → ⊥
+forward_back words (forward_procedure n xs) k e no_p no_f = no_p (w.Name n ∷ formal_words xs) (tail_same (w.Key t.Forward) (w.Key t.Forward) words (w.Key t.Procedure ∷ w.Name n ∷ formal_words xs) k.exact)
+forward_back words (forward_function n xs b) k e no_p no_f = no_f (w.Name n ∷ result_words xs b) (tail_same (w.Key t.Forward) (w.Key t.Forward) words (w.Key t.Function ∷ w.Name n ∷ result_words xs b) k.exact)
+forward_back words (assign to_result op s) k e no_p no_f = cc
+forward_back words _ k e no_p no_f = cc
+
+pub no_forward : (words : List Word) → ((rest : List Word) → words ≡ w.Key t.Procedure ∷ rest → ⊥) → ((rest : List Word) → words ≡ w.Key t.Function ∷ rest → ⊥) → TellsPiece (w.Key t.Forward ∷ words) f.Unknown
+no_forward words no_p no_f = no_piece (w.Key t.Forward ∷ words) (λ p m. forward_back words p m.0 (key_head t.Forward words p m.1 m.0.exact) no_p no_f)

@@ -1,6 +1,6 @@
 -- What is told of words, from what is told of their expressions.
 
-use Rattle.std.proofs.Common.{◌≡◌, ℕ, ◌<◌, ◌≤◌, nat_le, if◌then◌else◌, Bool, true, false, Option, Some, None, Result, Ok, Err, IfOk, refl, sym, ◌∙◌, ap, subst, arith}
+use Rattle.std.proofs.Common.{◌≡◌, ℕ, ◌<◌, ◌≤◌, nat_le, if◌then◌else◌, Bool, true, false, Some, Result, Ok, Err, IfOk, refl, sym, ◌∙◌, ap, subst, arith}
 use Rattle.std.specs.Prelude.{IsErrOf}
 use Rattle.std.proofs.lemmas.Bool.{leb-true, leb-false}
 use Rattle.mos_expr.specs.Grammar.{limit}
@@ -32,26 +32,26 @@ tell_as {A = A} Is answer form a h e only = subst (λ z. Tells A Is answer z) e 
 abbrev pub outcome_at : {T : Type 0} → ℕ → T → Result T ExprFault
 outcome_at h made = if nat_le h limit then Ok made else Err x.Deep
 
-abbrev ok_of : {T : Type 0} → T → Result T ExprFault
+abbrev pub ok_of : {T : Type 0} → T → Result T ExprFault
 ok_of t = Ok t
 
-abbrev err_of : (T : Type 0) → ExprFault → Result T ExprFault
+abbrev pub err_of : (T : Type 0) → ExprFault → Result T ExprFault
 err_of T fault = Err fault
 
-abbrev chosen : {T : Type 0} → T → Bool → Result T ExprFault
+abbrev pub chosen : {T : Type 0} → T → Bool → Result T ExprFault
 chosen made b = if b then Ok made else Err x.Deep
 
-ok_is : {T : Type 0} (h : ℕ) (made t : T) → ok_of t ≡ outcome_at h made → (h ≤ limit) × (t ≡ made)
+pub ok_is : {T : Type 0} (h : ℕ) (made t : T) → ok_of t ≡ outcome_at h made → (h ≤ limit) × (t ≡ made)
 ok_is {T = T} h made t e = on_bool (nat_le h 500)
     (λ b. let q : ok_of t ≡ ok_of made = e ∙ ap (chosen made) b in (leb-true h 500 b, cc))
     (λ b. let q : ok_of t ≡ err_of T x.Deep = e ∙ ap (chosen made) b in cc)
 
-deep_is : {T : Type 0} (h : ℕ) (made : T) → err_of T x.Deep ≡ outcome_at h made → limit < h
+pub deep_is : {T : Type 0} (h : ℕ) (made : T) → err_of T x.Deep ≡ outcome_at h made → limit < h
 deep_is {T = T} h made e = on_bool (nat_le h 500)
     (λ b. let q : err_of T x.Deep ≡ ok_of made = e ∙ ap (chosen made) b in cc)
     (λ b. leb-false h 500 b)
 
-none_is : {T : Type 0} (h : ℕ) (made : T) → err_of T x.NoExpr ≡ outcome_at h made → ⊥
+pub none_is : {T : Type 0} (h : ℕ) (made : T) → err_of T x.NoExpr ≡ outcome_at h made → ⊥
 none_is {T = T} h made e = on_bool (nat_le h 500)
     (λ b. let q : err_of T x.NoExpr ≡ ok_of made = e ∙ ap (chosen made) b in cc)
     (λ b. let q : err_of T x.NoExpr ≡ err_of T x.Deep = e ∙ ap (chosen made) b in cc)

@@ -3,11 +3,7 @@
 use Rattle.std.specs.Prelude.{ℕ, Bool, true, false, List, [], ◌∷◌, ◌++◌, Option, Some, None}
 use Rattle.mos_tree.specs.declared.declaration.BaseType.{BaseType}
 use Rattle.mos_tree.specs.declared.declaration.FormalGroup.{FormalGroup}
-use Rattle.mos_tree.specs.declared.expr.Expr.{Expr}
 use Rattle.mos_tree.specs.declared.source.ModelName.TheVariants as called
-use Rattle.mos_tree.specs.declared.statement.Assignment.TheVariants as assignment
-use Rattle.mos_tree.specs.declared.statement.Reference.{Reference}
-use Rattle.mos_tree.specs.declared.statement.Reference.TheVariants as reference
 use Rattle.mos_scan.specs.declared.token.TokenKind.{TokenKind}
 use Rattle.mos_scan.specs.declared.token.TokenKind.TheVariants as t
 use Rattle.mos_scan.specs.declared.reading.Word.{Word}
@@ -17,7 +13,6 @@ use Rattle.mos_form.specs.declared.form.Form.TheVariants as f
 use Rattle.mos_form.specs.declared.form.Guard.{Guard}
 use Rattle.mos_form.specs.declared.form.Guard.TheVariants as guard
 use Rattle.mos_form.specs.declared.form.Keyword.{Keyword}
-use Rattle.mos_form.specs.declared.form.Keyword.TheVariants as keyword
 use Rattle.mos_form.specs.declared.form.Mould.{Mould}
 use Rattle.mos_form.specs.declared.form.Mould.TheVariants as m
 use Rattle.mos_form.specs.declared.form.Simple.TheVariants as simple

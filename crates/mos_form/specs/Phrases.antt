@@ -1,6 +1,6 @@
 -- What one piece is as it is written: its words, its form, and how high its expressions are.
 
-use Rattle.std.specs.Prelude.{◌≡◌, ◌≢◌, ℕ, max, ◌≤◌, if◌then◌else◌, nat_le, List, [], ◌∷◌, ◌++◌, Option, Some, None}
+use Rattle.std.specs.Prelude.{◌≡◌, ◌≢◌, ℕ, max, if◌then◌else◌, nat_le, List, [], ◌∷◌, ◌++◌, Option, Some, None}
 use Rattle.mos_tree.specs.declared.declaration.BaseType.{BaseType}
 use Rattle.mos_tree.specs.declared.source.ModelName.TheVariants as called
 use Rattle.mos_tree.specs.declared.statement.Assignment.{Assignment}
@@ -40,7 +40,7 @@ pub data Labels : Type 0 where
   and_label : List ℕ → Option (List ℕ) → Labels → Labels
 
 pub data Phrase : Type 0 where
-  word : Keyword → Phrase               -- one reserved word
+  word : Keyword → Phrase  -- one reserved word
   break_word : Phrase
   next_word : Phrase
   model_text : List ℕ → Phrase

@@ -1,6 +1,6 @@
 -- What is told of words that may be one of many things, of which only one fits.
 
-use Rattle.std.specs.Prelude.{◌≡◌, ◌≢◌, ℕ, max, ◌<◌, ◌≤◌, if◌then◌else◌, nat_le, List, [], ◌∷◌, ◌++◌, Option, Some, None}
+use Rattle.std.specs.Prelude.{◌≡◌, ◌≢◌, ℕ, ◌<◌, ◌≤◌, if◌then◌else◌, nat_le, List, ◌∷◌, ◌++◌, Option, Some, None}
 use Rattle.mos_tree.specs.declared.expr.Expr.{Expr}
 use Rattle.mos_tree.specs.declared.expr.Index.{Index}
 use Rattle.mos_tree.specs.declared.declaration.TypeForm.{TypeForm}
@@ -10,7 +10,7 @@ use Rattle.mos_tree.specs.declared.statement.Reference.{Reference}
 use Rattle.mos_scan.specs.declared.reading.Word.{Word}
 use Rattle.mos_expr.specs.Grammar.{Names, spell_names, list_of_names, Syntax, Written, no_more, Over, IsSpelled, AreSpelled, IsIndexSpelled, height, heights, height_over, limit, tree, trees, index_of}
 use Rattle.mos_expr.specs.declared.fault.ExprFault.{ExprFault}
-use Rattle.mos_expr.specs.declared.fault.ExprFault.TheVariants as x
+use Rattle.mos_expr.specs.declared.fault.ExprFault.TheVariants as fault
 use Rattle.mos_typing.specs.Typing.{Typing, Formals, IsTyping, AreFormals, tallest_type, tallest_formals, type_of, formals_of}
 use Rattle.mos_form.specs.declared.form.Form.{Form}
 use Rattle.mos_form.specs.declared.form.Form.TheVariants as f
@@ -32,9 +32,9 @@ by_height h form = if nat_le h limit then form else f.TooHigh (mould_of form)
 
 -- what a piece of a mould is whose expressions have no trees
 abbrev pub refused : Mould → ExprFault → Option Form
-refused mould x.NoExpr = Some f.Unknown
-refused mould x.Deep = Some (f.TooHigh mould)
-refused mould x.NoMemory = None
+refused mould fault.NoExpr = Some f.Unknown
+refused mould fault.Deep = Some (f.TooHigh mould)
+refused mould fault.NoMemory = None
 
 -- a form with one expression
 abbrev pub TellsOne : (Expr → Form) → List Word → Form → Type 0
@@ -124,3 +124,8 @@ AreTyped before behind p = (before ≡ spell_names p.0) × IsTyping behind p.1
 
 abbrev pub TellsTyped : List Word → List Word → Form → Type 0
 TellsTyped before behind = Tells (Names × Typing) (AreTyped before behind) (λ p. by_height (tallest_type p.1) (f.Typed (list_of_names p.0) (type_of p.1)))
+
+-- more than one word
+abbrev pub HasMore : List Word → Type 0
+HasMore (x ∷ y ∷ rest) = Unit {0}
+HasMore _ = ⊥

@@ -142,11 +142,7 @@ pub(crate) fn forall(alloc: Global, words: &[Word]) -> Result<Form, NoMemory>
 }
 
 /// The names with this type.
-pub(crate) fn typed_as(
-    alloc: Global,
-    names: Items<Text>,
-    words: &[Word],
-) -> Result<Form, NoMemory>
+pub(crate) fn typed_as(alloc: Global, names: Items<Text>, words: &[Word]) -> Result<Form, NoMemory>
     ensures { IfOk result (spec.TellsType (λ x. f.Typed names x) words.now) }
 {
     match type_form(alloc, words) {

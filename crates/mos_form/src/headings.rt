@@ -38,12 +38,7 @@ pub(crate) fn options(alloc: Global, words: &[Word]) -> Result<Form, NoMemory>
 }
 
 /// The heading of a routine, or what stands behind `forward`.
-fn heading(
-    forward: bool,
-    name: Text,
-    formals: Items<FormalGroup>,
-    typ: Option<BaseType>,
-) -> Form
+fn heading(forward: bool, name: Text, formals: Items<FormalGroup>, typ: Option<BaseType>) -> Form
     ensures { result ≡ fixed.heading forward name formals typ }
 {
     if forward {
@@ -110,10 +105,13 @@ fn after_name(alloc: Global, forward: bool, name: &Text, words: &[Word]) -> Resu
     ensures { IfOk result (spec.TellsPiece (fixed.lead forward t.Function (w.Name name.now ∷ words.now))) }
 {
     match before_result(words) {
-        Some((formals, word)) => match base_type(alloc, word)? {
-            Some(base) => function_of(alloc, forward, name, formals, base),
-            None => Ok(Form::Unknown),
-        },
+        Some((formals, word)) => {
+            let base = base_type(alloc, word)?;
+            match base {
+                Some(base) => function_of(alloc, forward, name, formals, base),
+                None => Ok(Form::Unknown),
+            }
+        }
         None => Ok(Form::Unknown),
     }
 }

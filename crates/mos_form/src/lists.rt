@@ -60,11 +60,7 @@ fn after_text(word: &Word) -> Option<TextMode>
 }
 
 /// Whether the words are texts with commas between them, which are then put behind those found.
-fn read_texts(
-    alloc: Global,
-    found: &mut Vec<Text>,
-    words: &[Word],
-) -> Result<bool, NoMemory>
+fn read_texts(alloc: Global, found: &mut Vec<Text>, words: &[Word]) -> Result<bool, NoMemory>
     ensures { IfOk result (λ read. spec.read_texts mode.Want found.old.items words.now ≡ spec.if_read read found.new.items) }
 {
     let mut mode = TextMode::Want;
@@ -197,11 +193,7 @@ fn last_label(found: &mut Vec<Label>, mode: LabelMode) -> Result<bool, NoMemory>
 }
 
 /// Whether the words are labels with commas between them, which are then put behind those found.
-fn read_labels(
-    alloc: Global,
-    found: &mut Vec<Label>,
-    words: &[Word],
-) -> Result<bool, NoMemory>
+fn read_labels(alloc: Global, found: &mut Vec<Label>, words: &[Word]) -> Result<bool, NoMemory>
     ensures { IfOk result (λ read. spec.read_labels label_mode.Want found.old.items words.now ≡ spec.if_read read found.new.items) }
 {
     let mut mode = LabelMode::Want;

@@ -304,6 +304,7 @@ fn set_cell(
 
 /// A list of names with their type, or of labels.
 fn listed(alloc: Global, words: &[Word]) -> Result<Form, NoMemory>
+    requires { spec.HasMore words.now }
     ensures { IfOk result (spec.TellsList words.now) }
 {
     match parted(words) {
@@ -322,7 +323,8 @@ fn listed(alloc: Global, words: &[Word]) -> Result<Form, NoMemory>
 fn typed(alloc: Global, before: &[Word], behind: &[Word]) -> Result<Form, NoMemory>
     ensures { IfOk result (spec.TellsTyped before.now behind.now) }
 {
-    match names(alloc, before)? {
+    let found = names(alloc, before)?;
+    match found {
         Some(names) => typed_as(alloc, names, behind),
         None => Ok(Form::Unknown),
     }

@@ -1,4 +1,4 @@
-use Rattle.std.proofs.Common.{rules, ◌≡◌, sym, ap, ◌∙◌, true}
+use Rattle.std.proofs.Common.{rules, sym, ap, ◌∙◌}
 use denote.Enum.Bare.{same_true}
 use Rattle.mos_scan.specs.declared.reading.Word.TheVariants as w
 use Rattle.mos_scan.specs.contracts.token.TokenKind.{the_type}

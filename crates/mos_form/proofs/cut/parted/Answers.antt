@@ -1,5 +1,4 @@
 use Rattle.mos_form.proofs.Parting.{parted_some, parted_none}
-use Rattle.mos_form.proofs.Opening.{key_head, name_next}
 use Rattle.mos_form.proofs.cut.parted.Goals as goal
 
 pub returns-in-Some : goal.returns-in-Some

@@ -1,10 +1,8 @@
-use Rattle.std.proofs.Common.{◌≡◌, refl, sym, ap, subst}
+use Rattle.std.proofs.Common.{◌≡◌, refl, subst}
 use Rattle.mos_expr.specs.Grammar.{IsSpelled, height, tree}
 use Rattle.std.proofs.Common.{IfOk, Some}
 use Rattle.mos_form.specs.Telling.{refused}
 use Rattle.mos_form.specs.declared.form.Form.TheVariants as f
-use Rattle.mos_form.specs.declared.form.Mould.TheVariants as m
-use Rattle.mos_form.specs.Telling.{Tells, by_height, assigned, called, filled, AreSome, TellsOne, TellsAll, TellsSome}
 use Rattle.mos_form.specs.Forms.{guard_mould}
 use Rattle.mos_form.proofs.Telling.{tell_ok, tell_err}
 use Rattle.mos_form.proofs.expressions.guarded.Goals as goal

@@ -1,4 +1,4 @@
-use Rattle.std.proofs.Common.{◌≡◌, Option, Some, None, IfOk, refl, sym, ap, subst}
+use Rattle.std.proofs.Common.{◌≡◌, Some, None, IfOk, sym, subst}
 use Rattle.mos_typing.specs.Typing.{AreFormals, tallest_formals, formals_of}
 use Rattle.mos_form.specs.declared.form.Mould.TheVariants as m
 use Rattle.mos_form.specs.Fixed.{heading, heading_mould}

@@ -1,4 +1,3 @@
-use Rattle.std.proofs.Common.{refl}
 use Rattle.mos_form.proofs.Keyed.{forall_piece, no_forall}
 use Rattle.mos_form.proofs.reading.loop_over.Goals as goal
 
