@@ -1,6 +1,6 @@
 -- A list that is read item by item: what is said of the rest, behind what is front, is said of the whole.
 
-use Rattle.std.proofs.Common.{◌≡◌, ℕ, List, [], Option, Some, None, Result, Ok, Err, refl, sym, subst}
+use Rattle.std.proofs.Common.{◌≡◌, ℕ, List, Option, Some, None, Result, Err, refl, sym, subst}
 use Rattle.std.specs.Prelude.{IsErrOf}
 use Rattle.mos_expr.specs.Outcome.{Gives}
 use Rattle.mos_expr.specs.declared.fault.ExprFault.{ExprFault}
@@ -11,13 +11,6 @@ use Rattle.mos_typing.proofs.Saying.{says_gives, says_want}
 
 pub record Carries {A : Type 0} (Rest Whole : List A → ℕ → Type 0) (front : Option (List A)) : Type 0 where
   pub over : (r : Result (List A) ExprFault) → Says Rest r → Says Whole (behind front r)
-
-before_all : {A : Type 0} (r : Result (List A) ExprFault) → behind (Some []) r ≡ r
-before_all (Ok made) = refl
-before_all (Err fault) = refl
-
-pub carries_none : {A : Type 0} (P : List A → ℕ → Type 0) → Carries P P (Some [])
-carries_none P = record { over = λ r k. subst (Says P) (sym (before_all r)) k }
 
 pub carries_more : {A : Type 0} (Rest Whole After : List A → ℕ → Type 0) (front next : Option (List A)) (read : Result A ExprFault) → Carries Rest Whole front → ((r : Result (List A) ExprFault) → Says After r → Says Rest (both first_of read r)) → ((q : Result (List A) ExprFault) → behind next q ≡ behind front (both first_of read q)) → Carries After Whole next
 carries_more Rest Whole After front next read k more e = record { over = λ r s. subst (Says Whole) (sym (e r)) (k.over (both first_of read r) (more r s)) }

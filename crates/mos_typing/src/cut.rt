@@ -1,4 +1,4 @@
-//! Where words are cut: at commas outside brackets.
+//! Where words are cut: at commas outside brackets, and at colons.
 ghost use Rattle.std.specs.Prelude.{◌≡◌, ◌+◌, ◌<◌, ◌^◌, None, Some, MatchOption, length};
 ghost use Rattle.mos_typing.specs.Cutting as cutting;
 

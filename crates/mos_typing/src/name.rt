@@ -21,7 +21,6 @@ fn behind_comma(words: &[Word]) -> Option<&[Word]>
 }
 
 /// The names that the words are.
-
 pub(crate) fn names_of_words(alloc: Global, words: &[Word]) -> Result<Option<Items<Text>>, NoMemory>
     ensures { IfOk result (λ all. all ≡ names_of words.now) }
 {
