@@ -131,10 +131,10 @@ mutual
       ap (λ z. z ++ texts_of (tree c)) (append-nil (list_of_names ns ++ texts_of (tree s)))
       ∙ append_assoc (list_of_names ns) (texts_of (tree s)) (texts_of (tree c))
       ∙ both (list_of_names ns) (texts_of (tree s) ++ texts_of (tree c)) (spell_names ns) (w.Key t.In ∷ (spell s ++ w.Key t.Bar ∷ spell c)) (texts_of_names ns)
-        (both (texts_of (tree s)) (texts_of (tree c)) (spell s) (w.Key t.Bar ∷ spell c) (texts_of_syntax s) (texts_of_syntax c))
+      (both (texts_of (tree s)) (texts_of (tree c)) (spell s) (w.Key t.Bar ∷ spell c) (texts_of_syntax s) (texts_of_syntax c))
   texts_of_over (another ns s i) =
       ap (λ z. z ++ conditions i) (append_assoc (list_of_names ns) (texts_of (tree s)) (groups i))
       ∙ append_assoc (list_of_names ns) (texts_of (tree s) ++ groups i) (conditions i)
       ∙ ap (λ z. list_of_names ns ++ z) (append_assoc (texts_of (tree s)) (groups i) (conditions i))
       ∙ both (list_of_names ns) (texts_of (tree s) ++ texts_over (index_of i)) (spell_names ns) (w.Key t.In ∷ (spell s ++ w.Key t.Comma ∷ spell_over i)) (texts_of_names ns)
-        (both (texts_of (tree s)) (texts_over (index_of i)) (spell s) (w.Key t.Comma ∷ spell_over i) (texts_of_syntax s) (texts_of_over i))
+      (both (texts_of (tree s)) (texts_over (index_of i)) (spell s) (w.Key t.Comma ∷ spell_over i) (texts_of_syntax s) (texts_of_over i))

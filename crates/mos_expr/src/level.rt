@@ -3,6 +3,9 @@ ghost use Rattle.mos_expr.specs.Grammar as grammar;
 
 use mos_tree::{AggregateOperator, BinaryOperator, UnaryOperator};
 
+/// The loosest operand of a relation, so that at most one stands at a level.
+const OF_A_RELATION: u32 = 5;
+
 /// The level of a prefix operator, and of the loosest operand that it takes.
 pub(crate) fn level_before(op: UnaryOperator) -> u32
     ensures { result ≡ grammar.level_before op }
@@ -39,7 +42,7 @@ pub(crate) fn left_of(op: BinaryOperator) -> u32
         BinaryOperator::Range => 4,
         BinaryOperator::And => 8,
         BinaryOperator::Or => 9,
-        _ => 5,
+        _ => OF_A_RELATION,
     }
 }
 
@@ -54,7 +57,7 @@ pub(crate) fn right_of(op: BinaryOperator) -> u32
         BinaryOperator::Range => 4,
         BinaryOperator::And => 7,
         BinaryOperator::Or => 8,
-        _ => 5,
+        _ => OF_A_RELATION,
     }
 }
 

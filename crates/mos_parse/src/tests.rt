@@ -10,7 +10,11 @@ const TOKENS: [Row; 8] = [
     ("model m\nwriteln(1/2)\nend-model", 2, "CHAR"),
     ("model m\nx:=)\ny:=1.5\nend-model", 3, "REAL"),
     ("model m\nx:=2147483648\nend-model", 2, "NUMBER"),
-    ("model m\ndeclarations\n  x: real\nend-declarations", 3, "OUT"),
+    (
+        "model m\ndeclarations\n  x: real\nend-declarations",
+        3,
+        "OUT",
+    ),
     ("model m\nwriteln(\"b\n\")\nend-model", 2, "STRING"),
     ("model m\n\n(! no end", 3, "COMMENT"),
     ("model m\nend-model real", 0, ""),
@@ -24,7 +28,11 @@ const STATEMENTS: [Row; 18] = [
     ("model m", 1, "SYNTAX"),
     ("model m\nx:=1+\nend-model", 2, "SYNTAX"),
     ("model m\nx:=1\ny:=)\nx:=2\nend-model", 3, "SYNTAX"),
-    ("model m\nif x then\nelse\nelse\nend-if\nend-model", 4, "SYNTAX"),
+    (
+        "model m\nif x then\nelse\nelse\nend-if\nend-model",
+        4,
+        "SYNTAX",
+    ),
     ("model m\nif x then y end-do\nend-model", 2, "SYNTAX"),
     ("model m\nif x then y\n\n", 4, "SYNTAX"),
     ("model m\nrepeat\nx\nend-model", 4, "SYNTAX"),
@@ -47,14 +55,38 @@ const DECLARATIONS: [Row; 14] = [
     ("model m\nx\nuses \"mmxprs\"\nend-model", 3, "SYNTAX"),
     ("model m\noptions other\nend-model", 2, "OUT"),
     ("model m\noptions \"noimplicit\"\nend-model", 2, "SYNTAX"),
-    ("model m\ndeclarations\nx:=1\nend-declarations\nend-model", 3, "SYNTAX"),
-    ("model m\ndeclarations\nr = record\nend-declarations", 4, "SYNTAX"),
-    ("model m\ndeclarations\na: array() of r\nend-declarations", 3, "SYNTAX"),
-    ("model m\nparameters\nx: integer\nend-parameters", 3, "SYNTAX"),
-    ("model m\nprocedure p(a, b)\nend-procedure\nend-model", 2, "SYNTAX"),
+    (
+        "model m\ndeclarations\nx:=1\nend-declarations\nend-model",
+        3,
+        "SYNTAX",
+    ),
+    (
+        "model m\ndeclarations\nr = record\nend-declarations",
+        4,
+        "SYNTAX",
+    ),
+    (
+        "model m\ndeclarations\na: array() of r\nend-declarations",
+        3,
+        "SYNTAX",
+    ),
+    (
+        "model m\nparameters\nx: integer\nend-parameters",
+        3,
+        "SYNTAX",
+    ),
+    (
+        "model m\nprocedure p(a, b)\nend-procedure\nend-model",
+        2,
+        "SYNTAX",
+    ),
     ("model m\nfunction f\nend-function\nend-model", 2, "SYNTAX"),
     ("model m\nprocedure p\nend-function\nend-model", 3, "SYNTAX"),
-    ("model m\ninitializations\nend-initializations\nend-model", 2, "SYNTAX"),
+    (
+        "model m\ninitializations\nend-initializations\nend-model",
+        2,
+        "SYNTAX",
+    ),
 ];
 
 /// Sources with a tree, and how many heads and tops it has.
@@ -62,18 +94,62 @@ const TREES: [(&str, usize, usize); 16] = [
     ("model m\nend-model", 0, 0),
     ("! c\n\nMODEL 'a b'; END-MODEL and more", 0, 0),
     ("model m\nuses \"mmjobs\"\nOptions:=1\nend-model", 1, 1),
-    ("model m\noptions noimplicit\nuses 'mmjobs','mmjobs'\nend-model", 2, 0),
-    ("model m\nparameters\nP = 1+1; Q='x'\nend-parameters\nend-model", 0, 1),
-    ("model m\ndeclarations\nN = 3\na, b: integer\nend-declarations\nend-model", 0, 1),
-    ("model m\ndeclarations\nr = record x, y: string; n: t\nend-record\nend-declarations\nend-model", 0, 1),
-    ("model m\ndeclarations A: dynamic array(1..3, range, set of string) of r\nend-declarations\nend-model", 0, 1),
-    ("model m\nforward function f(a: integer, b, c: set of t): t\nprocedure p()\nf(1)\nend-procedure\nend-model", 0, 2),
-    ("model m\nif a then b elif c then d else e end-if; f\nend-model", 0, 2),
-    ("model m\ncase a of\n1, 2:\nb\n3: do c; d end-do\nelse e\nend-case\nend-model", 0, 1),
-    ("model m\nforall(i in 1..3) do\nx\nend-do\nforall(i, j in S | i<j)\nx\nend-model", 0, 2),
+    (
+        "model m\noptions noimplicit\nuses 'mmjobs','mmjobs'\nend-model",
+        2,
+        0,
+    ),
+    (
+        "model m\nparameters\nP = 1+1; Q='x'\nend-parameters\nend-model",
+        0,
+        1,
+    ),
+    (
+        "model m\ndeclarations\nN = 3\na, b: integer\nend-declarations\nend-model",
+        0,
+        1,
+    ),
+    (
+        "model m\ndeclarations\nr = record x, y: string; n: t\nend-record\nend-declarations\nend-model",
+        0,
+        1,
+    ),
+    (
+        "model m\ndeclarations A: dynamic array(1..3, range, set of string) of r\nend-declarations\nend-model",
+        0,
+        1,
+    ),
+    (
+        "model m\nforward function f(a: integer, b, c: set of t): t\nprocedure p()\nf(1)\nend-procedure\nend-model",
+        0,
+        2,
+    ),
+    (
+        "model m\nif a then b elif c then d else e end-if; f\nend-model",
+        0,
+        2,
+    ),
+    (
+        "model m\ncase a of\n1, 2:\nb\n3: do c; d end-do\nelse e\nend-case\nend-model",
+        0,
+        1,
+    ),
+    (
+        "model m\nforall(i in 1..3) do\nx\nend-do\nforall(i, j in S | i<j)\nx\nend-model",
+        0,
+        2,
+    ),
     ("model m\nwhile(a) b; repeat c until d\nend-model", 0, 2),
-    ("model m\ninitializations from 'f'\na\nb as \"c\", d\nend-initialisations\nend-model", 0, 1),
-    ("model m\nA(1,2).x+=sum(i in 1..3 | not i in S) i; r.x:=1; n::[1,2]\nend-model", 0, 3),
+    (
+        "model m\ninitializations from 'f'\na\nb as \"c\", d\nend-initialisations\nend-model",
+        0,
+        1,
+    ),
+    (
+        "model m\nA(1,2).x+=sum(i in 1..3 | not i in S) i; r.x:=1; n::[1,2]\nend-model",
+        0,
+        3,
+    ),
     ("model m\nx:=(1+\n2)-\n3\nend-model", 0, 1),
 ];
 
@@ -161,7 +237,8 @@ fn line_at(alloc: Global, source: &str, place: usize) -> u32 {
 
 #[test]
 fn statements_have_the_lines_of_their_pieces(rt: HostRuntime) {
-    let source = "\nmodel m\ndeclarations\nend-declarations\n\nx:=1+\n2; y:=2\n\nif x then y end-if\nend-model";
+    let source =
+        "\nmodel m\ndeclarations\nend-declarations\n\nx:=1+\n2; y:=2\n\nif x then y end-if\nend-model";
     assert_eq!(rt; line_at(rt.alloc(), source, 0), 3);
     assert_eq!(rt; line_at(rt.alloc(), source, 1), 6);
     assert_eq!(rt; line_at(rt.alloc(), source, 2), 7);

@@ -165,11 +165,7 @@ fn tokens_between(tokens: &[Token], from: usize, to: usize) -> &[Token]
     between
 }
 
-fn words_but_newlines(
-    alloc: Global,
-    source: &[u8],
-    tokens: &[Token],
-) -> Result<Vec<Word>, NoMemory>
+fn words_but_newlines(alloc: Global, source: &[u8], tokens: &[Token]) -> Result<Vec<Word>, NoMemory>
     ensures { IfOk result (λ v. v.items ≡ spec.words_but_newlines source.now tokens.now) }
 {
     let mut found = Vec::new(alloc);

@@ -86,15 +86,15 @@ mutual
       ∙ append_assoc (flat_map texts_of_one_arm (trees_of_arms arms)) (texts_of c ++ texts_of_block (trees b)) (texts_of_block (trees_of_last last))
       ∙ ap (λ z. flat_map texts_of_one_arm (trees_of_arms arms) ++ z) (append_assoc (texts_of c) (texts_of_block (trees b)) (texts_of_block (trees_of_last last)))
       ∙ both (flat_map texts_of_one_arm (trees_of_arms arms)) (texts_of c ++ (texts_of_block (trees b) ++ texts_of_block (trees_of_last last)))
-        (spell_arms arms) (piece line (arm_form arms c) ∷ (spell_block b ++ (spell_last last ++ piece end (f.Keyword keyword.EndIf) ∷ []))) (texts_of_arms arms)
-        (armed arms c line (texts_of_block (trees b) ++ texts_of_block (trees_of_last last)) (spell_block b ++ (spell_last last ++ piece end (f.Keyword keyword.EndIf) ∷ []))
-          (both (texts_of_block (trees b)) (texts_of_block (trees_of_last last)) (spell_block b) (spell_last last ++ piece end (f.Keyword keyword.EndIf) ∷ []) (texts_of_trees b)
-            (ended (texts_of_block (trees_of_last last)) (spell_last last) (piece end (f.Keyword keyword.EndIf)) refl (texts_of_otherwise last))))
+      (spell_arms arms) (piece line (arm_form arms c) ∷ (spell_block b ++ (spell_last last ++ piece end (f.Keyword keyword.EndIf) ∷ []))) (texts_of_arms arms)
+      (armed arms c line (texts_of_block (trees b) ++ texts_of_block (trees_of_last last)) (spell_block b ++ (spell_last last ++ piece end (f.Keyword keyword.EndIf) ∷ []))
+      (both (texts_of_block (trees b)) (texts_of_block (trees_of_last last)) (spell_block b) (spell_last last ++ piece end (f.Keyword keyword.EndIf) ∷ []) (texts_of_trees b)
+      (ended (texts_of_block (trees_of_last last)) (spell_last last) (piece end (f.Keyword keyword.EndIf)) refl (texts_of_otherwise last))))
   texts_of_written (choice line value xs last end) =
       form.texts_of_case line value (trees_of_alternatives xs) (trees_of_last last)
       ∙ ap (λ z. texts_of value ++ z)
-        (both (flat_map texts_of_one_alternative (trees_of_alternatives xs)) (texts_of_block (trees_of_last last)) (spell_alternatives xs) (spell_last last ++ piece end (f.Keyword keyword.EndCase) ∷ []) (texts_of_alternatives xs)
-          (ended (texts_of_block (trees_of_last last)) (spell_last last) (piece end (f.Keyword keyword.EndCase)) refl (texts_of_otherwise last)))
+      (both (flat_map texts_of_one_alternative (trees_of_alternatives xs)) (texts_of_block (trees_of_last last)) (spell_alternatives xs) (spell_last last ++ piece end (f.Keyword keyword.EndCase) ∷ []) (texts_of_alternatives xs)
+      (ended (texts_of_block (trees_of_last last)) (spell_last last) (piece end (f.Keyword keyword.EndCase)) refl (texts_of_otherwise last)))
   texts_of_written (over line index body) = form.texts_of_forall line index (tree body) ∙ ap (λ z. texts_over index ++ z) (texts_of_written body)
   texts_of_written (as_long_as line c body) = form.texts_of_while line c (tree body) ∙ ap (λ z. texts_of c ++ z) (texts_of_written body)
   texts_of_written (repeated line b until c) =
@@ -114,7 +114,7 @@ mutual
   texts_of_arms (arm before line c b) =
       snoc texts_of_one_arm (trees_of_arms before) (arm_of line c (trees b))
       ∙ both (flat_map texts_of_one_arm (trees_of_arms before)) (texts_of c ++ texts_of_block (trees b)) (spell_arms before) (piece line (arm_form before c) ∷ spell_block b) (texts_of_arms before)
-        (armed before c line (texts_of_block (trees b)) (spell_block b) (texts_of_trees b))
+      (armed before c line (texts_of_block (trees b)) (spell_block b) (texts_of_trees b))
 
   texts_of_otherwise : (last : Last) → texts_of_block (trees_of_last last) ≡ texts_of_pieces (spell_last last)
   texts_of_otherwise without = refl
@@ -125,7 +125,7 @@ mutual
   texts_of_alternatives (alternative before line labels w) =
       snoc texts_of_one_alternative (trees_of_alternatives before) (alternative_of line labels (tree w))
       ∙ both (flat_map texts_of_one_alternative (trees_of_alternatives before)) (texts_of_all labels ++ texts_of_statement (tree w)) (spell_alternatives before) (piece line (f.Alternative labels) ∷ spell w) (texts_of_alternatives before)
-        (ap (λ z. texts_of_all labels ++ z) (texts_of_written w))
+      (ap (λ z. texts_of_all labels ++ z) (texts_of_written w))
 
 -- ---- declarations
 
@@ -148,7 +148,7 @@ texts_of_items (variables xs line names typ) =
 texts_of_items (record_type xs line name fields end) =
     snoc texts_of_item (items_of xs) (i.Record line name fields)
     ∙ both (flat_map texts_of_item (items_of xs)) (name ∷ flat_map texts_of_field fields) (spell_items xs) (piece line (f.RecordOf name) ∷ (map spell_field fields ++ piece end (f.Keyword keyword.EndRecord) ∷ [])) (texts_of_items xs)
-      (ap (λ z. name ∷ z) (ended (flat_map texts_of_field fields) (map spell_field fields) (piece end (f.Keyword keyword.EndRecord)) refl (texts_of_fields fields)))
+    (ap (λ z. name ∷ z) (ended (flat_map texts_of_field fields) (map spell_field fields) (piece end (f.Keyword keyword.EndRecord)) refl (texts_of_fields fields)))
 
 texts_of_declared : (line : ℕ) (items : Items) (end : ℕ) → flat_map texts_of_item (items_of items) ≡ texts_of_pieces (spell_declarations line items end)
 texts_of_declared line items end = ended (flat_map texts_of_item (items_of items)) (spell_items items) (piece end (f.Keyword keyword.EndDeclarations)) refl (texts_of_items items)
@@ -173,18 +173,18 @@ texts_of_tops no_top = refl
 texts_of_tops (sets xs line parameters end) =
     snoc texts_of_top (tops_of xs) (t.Parameters line parameters)
     ∙ both (flat_map texts_of_top (tops_of xs)) (flat_map texts_of_parameter parameters) (spell_tops xs) (piece line (f.Keyword keyword.Parameters) ∷ (map spell_parameter parameters ++ piece end (f.Keyword keyword.EndParameters) ∷ [])) (texts_of_tops xs)
-      (ended (flat_map texts_of_parameter parameters) (map spell_parameter parameters) (piece end (f.Keyword keyword.EndParameters)) refl (texts_of_parameters parameters))
+    (ended (flat_map texts_of_parameter parameters) (map spell_parameter parameters) (piece end (f.Keyword keyword.EndParameters)) refl (texts_of_parameters parameters))
 texts_of_tops (declares_top xs line items end) =
     snoc texts_of_top (tops_of xs) (t.Declarations (declared line items))
     ∙ both (flat_map texts_of_top (tops_of xs)) (flat_map texts_of_item (items_of items)) (spell_tops xs) (spell_declarations line items end) (texts_of_tops xs) (texts_of_declared line items end)
 texts_of_tops (defines xs heading parts end) =
     snoc texts_of_top (tops_of xs) (t.Routine (record { heading = heading; parts = parts_of parts }))
     ∙ both (flat_map texts_of_top (tops_of xs)) (texts_of_heading heading ++ flat_map texts_of_part (parts_of parts)) (spell_tops xs) (piece heading.line (heading_form heading) ∷ (spell_parts parts ++ piece end (end_form heading.result) ∷ [])) (texts_of_tops xs)
-      (ap (λ z. texts_of_heading heading ++ z) (ended (flat_map texts_of_part (parts_of parts)) (spell_parts parts) (piece end (end_form heading.result)) (no_text_at_the_end heading.result) (texts_of_parts parts)))
+    (ap (λ z. texts_of_heading heading ++ z) (ended (flat_map texts_of_part (parts_of parts)) (spell_parts parts) (piece end (end_form heading.result)) (no_text_at_the_end heading.result) (texts_of_parts parts)))
 texts_of_tops (announces xs heading) =
     snoc texts_of_top (tops_of xs) (t.Forward heading)
     ∙ both (flat_map texts_of_top (tops_of xs)) (texts_of_heading heading) (spell_tops xs) (piece heading.line (f.Forward heading.name heading.formals heading.result) ∷ []) (texts_of_tops xs)
-      (sym (only heading.line (f.Forward heading.name heading.formals heading.result)))
+    (sym (only heading.line (f.Forward heading.name heading.formals heading.result)))
 texts_of_tops (states_top xs w) =
     snoc texts_of_top (tops_of xs) (t.Statement (tree w))
     ∙ both (flat_map texts_of_top (tops_of xs)) (texts_of_statement (tree w)) (spell_tops xs) (spell w) (texts_of_tops xs) (texts_of_written w)
@@ -201,4 +201,4 @@ pub texts_of_source : (x : Source) → texts_of_tree (tree_of x) ≡ texts_of_pi
 texts_of_source x =
     ap (λ z. texts_of_name x.name ++ z)
     (both (flat_map texts_of_head x.heads) (flat_map texts_of_top (tops_of x.tops)) (map spell_head x.heads) (spell_tops x.tops ++ piece x.end (f.Keyword keyword.EndModel) ∷ []) (texts_of_heads x.heads)
-      (ended (flat_map texts_of_top (tops_of x.tops)) (spell_tops x.tops) (piece x.end (f.Keyword keyword.EndModel)) refl (texts_of_tops x.tops)))
+    (ended (flat_map texts_of_top (tops_of x.tops)) (spell_tops x.tops) (piece x.end (f.Keyword keyword.EndModel)) refl (texts_of_tops x.tops)))

@@ -3,8 +3,8 @@ ghost use Rattle.std.specs.Prelude.{◌≡◌, IfOk};
 ghost use Rattle.mos_source.specs.Machine as spec;
 
 use crate::discard::refuse;
-use mos_form::{Form, Guard};
 use crate::frame::{Frame, Part};
+use mos_form::{Form, Guard};
 use mos_text::NoMemory;
 use mos_tree::{
     Alternative, Arm, Declared, Expr, Head, Heading, Item, ModelName, Routine, RoutinePart,

@@ -3,8 +3,8 @@ ghost use Rattle.std.specs.Prelude.{◌≡◌, [], ◌∷◌, ◌++◌, IfOk};
 ghost use Rattle.mos_source.specs.Machine as spec;
 
 use crate::discard::refuse;
-use mos_form::{Form, Guard, Keyword, Simple};
 use crate::place::Place;
+use mos_form::{Form, Guard, Keyword, Simple};
 use mos_text::{NoMemory, Text};
 use mos_tree::{
     Alternative, Arm, Declared, Direction, Expr, FieldGroup, Head, Heading, Index, Item, Label,

@@ -15,9 +15,7 @@ mod place;
 mod reader;
 
 pub use fault::PieceFault;
-pub use laws::{
-    pieces_are_read_one_way, pieces_break_by_productions, sources_have_their_texts,
-};
+pub use laws::{pieces_are_read_one_way, pieces_break_by_productions, sources_have_their_texts};
 pub use reader::source;
 
 #[cfg(test)]

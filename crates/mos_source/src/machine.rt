@@ -6,9 +6,9 @@ ghost use Rattle.mos_source.specs.Sources.{limit, jobs_module, no_implicit};
 
 use crate::closing::{closed, looped, loops, with_part, with_statement};
 use crate::discard::refuse;
-use mos_form::{Form, PieceForm, mould_of};
 use crate::frame::{Frame, Part, alone, gone_on, opened, place_of};
 use crate::place::{Role, role_at};
+use mos_form::{Form, PieceForm, mould_of};
 use mos_text::{Kind, NoMemory, Text};
 use mos_tree::{Statement, Tree};
 use std::alloc::Global;

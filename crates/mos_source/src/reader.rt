@@ -5,8 +5,8 @@ ghost use Rattle.mos_source.specs.Sources.{limit, Source, IsSource, tree_of};
 ghost use Rattle.mos_source.specs.Answers.{IsTree, Gives, IsFaultOf};
 
 use crate::fault::PieceFault;
-use mos_form::PieceForm;
 use crate::machine::{finished, step};
+use mos_form::PieceForm;
 use mos_text::Kind;
 use mos_tree::Tree;
 use std::alloc::Global;

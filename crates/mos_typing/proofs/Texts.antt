@@ -62,7 +62,7 @@ group_texts law named (last_group ns x) = append-nil (list_of_names ns ++ texts_
 group_texts law named (and_group ns x rest) =
     append_assoc (list_of_names ns) (texts_of_type (type_of x)) (flat_map texts_of_formal (groups_of rest))
     ∙ both (list_of_names ns) (texts_of_type (type_of x) ++ flat_map texts_of_formal (groups_of rest)) (spell_names ns) (w.Key t.Colon ∷ (typing_words x ++ w.Key t.Comma ∷ group_words rest)) (named ns)
-      (both (texts_of_type (type_of x)) (flat_map texts_of_formal (groups_of rest)) (typing_words x) (w.Key t.Comma ∷ group_words rest) (type_texts law x) (group_texts law named rest))
+    (both (texts_of_type (type_of x)) (flat_map texts_of_formal (groups_of rest)) (typing_words x) (w.Key t.Comma ∷ group_words rest) (type_texts law x) (group_texts law named rest))
 
 pub formal_texts : TreeHasItsTexts → NamesHaveTheirTexts → (xs : Formals) → flat_map texts_of_formal (formals_of xs) ≡ texts_in (formal_words xs)
 formal_texts law named no_brackets = refl
