@@ -74,56 +74,28 @@ fn expect(
     Ok(())
 }
 
-/// Lane 0 holds run 0, and the child is loaded as model 1.
-fn loaded(rt: &impl Abort, alloc: Global, lanes: u32) -> Result<Hub, Fail> {
-    let mut hub = hub(rt, alloc, lanes)?;
-    let claimed = "Claimed { run: 0, source: 0, params: Text { text: \"\" } }";
-    expect(rt, alloc, &mut hub, (0, None), Call::Claim, claimed)?;
-    let (src, dst) = (text(alloc, "c.mos")?, text(alloc, "c.bim")?);
-    expect(
-        rt,
-        alloc,
-        &mut hub,
-        (0, Some(0)),
-        Call::Compile { src, dst },
-        "Code(0)",
-    )?;
-    let load = Call::Load {
-        file: text(alloc, "c.bim")?,
-    };
-    let answer = "Loaded { model: 1, source: 1 }";
-    expect(rt, alloc, &mut hub, (0, Some(0)), load, answer)?;
-    Ok(hub)
-}
-
-/// And the child runs on lane 1.
-fn running(rt: &impl Abort, alloc: Global) -> Result<Hub, Fail> {
-    let mut hub = loaded(rt, alloc, 2)?;
-    let params = text(alloc, "N=3")?;
-    let run = Call::Run { model: 1, params };
-    expect(rt, alloc, &mut hub, (0, Some(0)), run, "Started { run: 1 }")?;
-    let claimed = "Claimed { run: 1, source: 1, params: Text { text: \"N=3\" } }";
-    expect(rt, alloc, &mut hub, (1, None), Call::Claim, claimed)?;
-    Ok(hub)
-}
-
-/// A call in short: of the model 1, the pipe p, the block x.
+/// A call in short: a pipe is the pipe p, a run has the parameters N=3, an image is c.bim.
 #[derive(Clone, Copy)]
 enum Step {
     Claim,
-    Finish(i32),
-    Run,
-    Stop,
-    Status,
+    Quit,
+    Finish(End),
+    Compile(&'static str),
+    Load,
+    Run(u32),
     Wait,
     Next,
     Peek,
+    Drop,
     IsEmpty,
-    /// An event of class 2 for the child.
-    Send(i32),
-    /// An event of class 2 for the one that started the caller.
-    Tell(i32),
-    Read,
+    /// An event of class 2 with this value.
+    Send(Option<u32>, i32),
+    Status(u32),
+    ExitCode(u32),
+    Stop(u32),
+    Unload(u32),
+    Read(&'static str),
+    /// This byte, to the block x.
     Write(u8),
     OpenToRead,
     OpenToWrite,
@@ -133,21 +105,36 @@ enum Step {
     Close,
 }
 
-fn event_call(to: Option<u32>, value: i32) -> Call {
-    Call::Send {
-        to,
-        class: 2,
-        value,
+fn compile_call(alloc: Global, name: &str) -> Result<Call, Fail> {
+    let (src, dst) = (text(alloc, name)?, text(alloc, "c.bim")?);
+    Ok(Call::Compile { src, dst })
+}
+
+fn load_call(alloc: Global) -> Result<Call, Fail> {
+    let file = text(alloc, "c.bim")?;
+    Ok(Call::Load { file })
+}
+
+fn run_call(alloc: Global, model: u32) -> Result<Call, Fail> {
+    let params = text(alloc, "N=3")?;
+    Ok(Call::Run { model, params })
+}
+
+fn model_call(alloc: Global, step: Step) -> Result<Call, Fail> {
+    match step {
+        Step::Compile(name) => compile_call(alloc, name),
+        Step::Load => load_call(alloc),
+        Step::Run(model) => run_call(alloc, model),
+        Step::Status(model) => Ok(Call::Status { model }),
+        Step::ExitCode(model) => Ok(Call::ExitCode { model }),
+        Step::Stop(model) => Ok(Call::Stop { model }),
+        Step::Unload(model) => Ok(Call::Unload { model }),
+        _ => Ok(Call::Quit),
     }
 }
 
-fn run_call(alloc: Global) -> Result<Call, Fail> {
-    let params = text(alloc, "")?;
-    Ok(Call::Run { model: 1, params })
-}
-
-fn read_call(alloc: Global) -> Result<Call, Fail> {
-    let name = text(alloc, "shmem:x")?;
+fn read_call(alloc: Global, name: &str) -> Result<Call, Fail> {
+    let name = text(alloc, name)?;
     Ok(Call::Read { name })
 }
 
@@ -178,33 +165,29 @@ fn close_call(alloc: Global) -> Result<Call, Fail> {
     Ok(Call::PipeClose { name })
 }
 
-fn pipe_call(alloc: Global, step: Step) -> Result<Call, Fail> {
-    match step {
-        Step::OpenToRead => open_call(alloc, Way::Reads),
-        Step::OpenToWrite => open_call(alloc, Way::Writes),
-        Step::Put(many, byte) => put_call(alloc, many, byte),
-        Step::Take => take_call(alloc),
-        _ => close_call(alloc),
-    }
-}
-
 /// The call in full.
 fn call_of(alloc: Global, step: Step) -> Result<Call, Fail> {
     match step {
         Step::Claim => Ok(Call::Claim),
-        Step::Finish(code) => Ok(Call::Finish(End::Code(code))),
-        Step::Run => run_call(alloc),
-        Step::Stop => Ok(Call::Stop { model: 1 }),
-        Step::Status => Ok(Call::Status { model: 1 }),
+        Step::Finish(end) => Ok(Call::Finish(end)),
         Step::Wait => Ok(Call::Wait),
         Step::Next => Ok(Call::Next),
         Step::Peek => Ok(Call::Peek),
+        Step::Drop => Ok(Call::Drop),
         Step::IsEmpty => Ok(Call::IsEmpty),
-        Step::Send(value) => Ok(event_call(Some(1), value)),
-        Step::Tell(value) => Ok(event_call(None, value)),
-        Step::Read => read_call(alloc),
+        Step::Send(to, value) => Ok(Call::Send {
+            to,
+            class: 2,
+            value,
+        }),
+        Step::Read(name) => read_call(alloc, name),
         Step::Write(byte) => write_call(alloc, byte),
-        _ => pipe_call(alloc, step),
+        Step::OpenToRead => open_call(alloc, Way::Reads),
+        Step::OpenToWrite => open_call(alloc, Way::Writes),
+        Step::Put(many, byte) => put_call(alloc, many, byte),
+        Step::Take => take_call(alloc),
+        Step::Close => close_call(alloc),
+        _ => model_call(alloc, step),
     }
 }
 
@@ -220,9 +203,44 @@ fn play(rt: &impl Abort, alloc: Global, hub: &mut Hub, rows: &[Row]) -> Result<(
     Ok(())
 }
 
+const LOADED: &[Row] = &[
+    (
+        (0, None),
+        Step::Claim,
+        "Claimed { run: 0, source: 0, params: Text { text: \"\" } }",
+    ),
+    (MASTER, Step::Compile("c.mos"), "Code(0)"),
+    (MASTER, Step::Load, "Loaded { model: 1, source: 1 }"),
+];
+
+/// Lane 0 holds run 0, and the child is loaded as model 1.
+fn loaded(rt: &impl Abort, alloc: Global, lanes: u32) -> Result<Hub, Fail> {
+    let mut hub = hub(rt, alloc, lanes)?;
+    play(rt, alloc, &mut hub, LOADED)?;
+    Ok(hub)
+}
+
+/// The answer to lane 1, which claims the first child.
+const CLAIMED: &str = "Claimed { run: 1, source: 1, params: Text { text: \"N=3\" } }";
+
+const RUNNING: &[Row] = &[
+    (MASTER, Step::Run(1), "Started { run: 1 }"),
+    (LANE, Step::Claim, CLAIMED),
+];
+
+/// And the child runs on lane 1.
+fn running(rt: &impl Abort, alloc: Global) -> Result<Hub, Fail> {
+    let mut hub = loaded(rt, alloc, 2)?;
+    play(rt, alloc, &mut hub, RUNNING)?;
+    Ok(hub)
+}
+
 const MASTER: (u32, Option<u32>) = (0, Some(0));
 
 const CHILD: (u32, Option<u32>) = (1, Some(1));
 
 /// Lane 1 by itself.
 const LANE: (u32, Option<u32>) = (1, None);
+
+/// The end of a run by code 0.
+const END: Step = Step::Finish(End::Code(0));

@@ -1,83 +1,89 @@
-use super::{CHILD, MASTER, expect, running, text};
+//! Events, blocks and files, and a journal that is full.
+use super::{CHILD, END, MASTER, Row, Step, expect, play, running, text};
 use job_calls::{Call, End};
 use mos_text::{Blob, SharedBlob};
 use std::alloc::Global;
 use std::test::Fail;
 
-fn send(to: Option<u32>, value: i32) -> Call {
-    Call::Send {
-        to,
-        class: 2,
-        value,
-    }
-}
+const IN_ORDER: &[Row] = &[
+    (MASTER, Step::Wait, "not yet"),
+    (MASTER, Step::Next, "Nothing"),
+    (CHILD, Step::Send(None, 5), "Queued { run: 0 }"),
+    (CHILD, Step::Send(None, 6), "Queued { run: 0 }"),
+    (CHILD, Step::Finish(End::Spent), "Unit"),
+    (MASTER, Step::Wait, "Unit"),
+    (
+        MASTER,
+        Step::Peek,
+        "Seen { place: Place(7), class: 2, value: 5 }",
+    ),
+    (
+        MASTER,
+        Step::Next,
+        "Took { place: Place(7), class: 2, value: 5 }",
+    ),
+    (
+        MASTER,
+        Step::Drop,
+        "Took { place: Place(8), class: 2, value: 6 }",
+    ),
+    (
+        MASTER,
+        Step::Next,
+        "Took { place: Place(9), class: 1, value: 101 }",
+    ),
+    (MASTER, Step::Peek, "Nothing"),
+    (MASTER, Step::IsEmpty, "Flag(true)"),
+];
 
 #[test]
 fn events_come_in_order(rt: HostRuntime) -> Result<(), Fail> {
     let alloc = rt.alloc();
     let mut hub = running(&rt, alloc)?;
-    expect(&rt, alloc, &mut hub, MASTER, Call::Wait, "not yet")?;
-    expect(&rt, alloc, &mut hub, MASTER, Call::Next, "Nothing")?;
-    expect(
-        &rt,
-        alloc,
-        &mut hub,
-        CHILD,
-        send(None, 5),
-        "Queued { run: 0 }",
-    )?;
-    expect(
-        &rt,
-        alloc,
-        &mut hub,
-        CHILD,
-        send(None, 6),
-        "Queued { run: 0 }",
-    )?;
-    expect(
-        &rt,
-        alloc,
-        &mut hub,
-        CHILD,
-        Call::Finish(End::Spent),
-        "Unit",
-    )?;
-    expect(&rt, alloc, &mut hub, MASTER, Call::Wait, "Unit")?;
-    let first = "Seen { place: Place(7), class: 2, value: 5 }";
-    expect(&rt, alloc, &mut hub, MASTER, Call::Peek, first)?;
-    let first = "Took { place: Place(7), class: 2, value: 5 }";
-    expect(&rt, alloc, &mut hub, MASTER, Call::Next, first)?;
-    let second = "Took { place: Place(8), class: 2, value: 6 }";
-    expect(&rt, alloc, &mut hub, MASTER, Call::Drop, second)?;
-    let end = "Took { place: Place(9), class: 1, value: 101 }";
-    expect(&rt, alloc, &mut hub, MASTER, Call::Next, end)?;
-    expect(&rt, alloc, &mut hub, MASTER, Call::Peek, "Nothing")?;
-    expect(&rt, alloc, &mut hub, MASTER, Call::IsEmpty, "Flag(true)")
+    play(&rt, alloc, &mut hub, IN_ORDER)
 }
+
+const LOST: &[Row] = &[
+    (MASTER, Step::Send(Some(1), 5), "Queued { run: 1 }"),
+    (MASTER, Step::Send(Some(9), 5), "Lost"),
+    (MASTER, Step::Send(None, 5), "Lost"),
+    (CHILD, END, "Unit"),
+    (MASTER, Step::Send(Some(1), 5), "Lost"),
+];
 
 #[test]
 fn events_that_are_lost(rt: HostRuntime) -> Result<(), Fail> {
     let alloc = rt.alloc();
     let mut hub = running(&rt, alloc)?;
-    expect(
-        &rt,
-        alloc,
-        &mut hub,
-        MASTER,
-        send(Some(1), 5),
-        "Queued { run: 1 }",
-    )?;
-    expect(&rt, alloc, &mut hub, MASTER, send(Some(9), 5), "Lost")?;
-    expect(&rt, alloc, &mut hub, MASTER, send(None, 5), "Lost")?;
-    expect(
-        &rt,
-        alloc,
-        &mut hub,
+    play(&rt, alloc, &mut hub, LOST)
+}
+
+const LAST_WRITE: &[Row] = &[
+    (MASTER, Step::Write(49), "Unit"),
+    (
         CHILD,
-        Call::Finish(End::Code(0)),
-        "Unit",
-    )?;
-    expect(&rt, alloc, &mut hub, MASTER, send(Some(1), 5), "Lost")
+        Step::Read("shmem:x"),
+        "Found { place: Place(6), bytes: SharedBlob { blob: Blob { bytes: [49] } } }",
+    ),
+    (MASTER, Step::Write(50), "Unit"),
+    (
+        CHILD,
+        Step::Read("shmem:x"),
+        "Found { place: Place(8), bytes: SharedBlob { blob: Blob { bytes: [50] } } }",
+    ),
+    (
+        CHILD,
+        Step::Read("d.dat"),
+        "Found { place: Place(0), bytes: SharedBlob { blob: Blob { bytes: [120, 58, 32, 49] } } }",
+    ),
+    (CHILD, Step::Read("c.mos"), "Fault(NoFile)"),
+];
+
+#[test]
+fn reads_give_the_last_write(rt: HostRuntime) -> Result<(), Fail> {
+    let alloc = rt.alloc();
+    let mut hub = running(&rt, alloc)?;
+    play(&rt, alloc, &mut hub, LAST_WRITE)
 }
 
 fn write(alloc: Global, bytes: &SharedBlob) -> Result<Call, Fail> {
@@ -85,37 +91,9 @@ fn write(alloc: Global, bytes: &SharedBlob) -> Result<Call, Fail> {
     Ok(Call::Write { name, bytes })
 }
 
-fn read(alloc: Global, name: &str) -> Result<Call, Fail> {
-    let name = text(alloc, name)?;
-    Ok(Call::Read { name })
-}
+const FULL: &[Row] = &[(MASTER, Step::Stop(1), "Unit")];
 
-#[test]
-fn reads_give_the_last_write(rt: HostRuntime) -> Result<(), Fail> {
-    let alloc = rt.alloc();
-    let mut hub = running(&rt, alloc)?;
-    let (one, two) = (
-        SharedBlob::new(alloc, Blob::new(alloc, b"1")?)?,
-        SharedBlob::new(alloc, Blob::new(alloc, b"2")?)?,
-    );
-    expect(&rt, alloc, &mut hub, MASTER, write(alloc, &one)?, "Unit")?;
-    let first = "Found { place: Place(6), bytes: SharedBlob { blob: Blob { bytes: [49] } } }";
-    expect(&rt, alloc, &mut hub, CHILD, read(alloc, "shmem:x")?, first)?;
-    expect(&rt, alloc, &mut hub, MASTER, write(alloc, &two)?, "Unit")?;
-    let second = "Found { place: Place(8), bytes: SharedBlob { blob: Blob { bytes: [50] } } }";
-    expect(&rt, alloc, &mut hub, CHILD, read(alloc, "shmem:x")?, second)?;
-    let file =
-        "Found { place: Place(0), bytes: SharedBlob { blob: Blob { bytes: [120, 58, 32, 49] } } }";
-    expect(&rt, alloc, &mut hub, CHILD, read(alloc, "d.dat")?, file)?;
-    expect(
-        &rt,
-        alloc,
-        &mut hub,
-        CHILD,
-        read(alloc, "c.mos")?,
-        "Fault(NoFile)",
-    )
-}
+const STILL: &[Row] = &[(CHILD, Step::Wait, "Halt"), (MASTER, END, "Unit")];
 
 #[test]
 fn a_journal_that_is_full(rt: HostRuntime) -> Result<(), Fail> {
@@ -126,29 +104,8 @@ fn a_journal_that_is_full(rt: HostRuntime) -> Result<(), Fail> {
     for _ in 0..3 {
         expect(&rt, alloc, &mut hub, MASTER, write(alloc, &large)?, "Unit")?;
     }
-    expect(
-        &rt,
-        alloc,
-        &mut hub,
-        MASTER,
-        Call::Stop { model: 1 },
-        "Unit",
-    )?;
-    expect(
-        &rt,
-        alloc,
-        &mut hub,
-        MASTER,
-        write(alloc, &large)?,
-        "Fault(HubFull)",
-    )?;
-    expect(&rt, alloc, &mut hub, CHILD, Call::Wait, "Halt")?;
-    expect(
-        &rt,
-        alloc,
-        &mut hub,
-        MASTER,
-        Call::Finish(End::Code(0)),
-        "Unit",
-    )
+    play(&rt, alloc, &mut hub, FULL)?;
+    let fault = "Fault(HubFull)";
+    expect(&rt, alloc, &mut hub, MASTER, write(alloc, &large)?, fault)?;
+    play(&rt, alloc, &mut hub, STILL)
 }

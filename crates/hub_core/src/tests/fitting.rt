@@ -1,5 +1,5 @@
 //! Calls that do not fit, one for each condition.
-use super::{CHILD, LANE, MASTER, Row, Step, hub, loaded, play, running};
+use super::{CHILD, END, LANE, MASTER, Row, Step, hub, loaded, play, running};
 use std::test::Fail;
 
 const NO_LANE: &[Row] = &[
@@ -16,7 +16,7 @@ fn only_lanes_of_the_job_call(rt: HostRuntime) -> Result<(), Fail> {
 }
 
 const NOT_CLAIMED: &[Row] = &[
-    (MASTER, Step::Run, "Started { run: 1 }"),
+    (MASTER, Step::Run(1), "Started { run: 1 }"),
     (CHILD, Step::Wait, "unfit"),
     ((0, Some(1)), Step::Wait, "unfit"),
     (LANE, Step::Wait, "unfit"),
@@ -34,11 +34,11 @@ const HELD: &[Row] = &[
     (LANE, Step::Claim, "unfit"),
     ((1, Some(0)), Step::IsEmpty, "unfit"),
     ((0, Some(1)), Step::IsEmpty, "unfit"),
-    (CHILD, Step::Finish(0), "Unit"),
+    (CHILD, END, "Unit"),
     (CHILD, Step::IsEmpty, "unfit"),
-    (CHILD, Step::Finish(0), "unfit"),
+    (CHILD, END, "unfit"),
     (LANE, Step::Claim, "not yet"),
-    (MASTER, Step::Finish(0), "Unit"),
+    (MASTER, END, "Unit"),
     (LANE, Step::Claim, "Done"),
     (LANE, Step::Claim, "unfit"),
 ];
@@ -51,13 +51,13 @@ fn a_lane_holds_one_run_at_a_time(rt: HostRuntime) -> Result<(), Fail> {
 }
 
 const OVER: &[Row] = &[
-    (MASTER, Step::Stop, "Unit"),
+    (MASTER, Step::Stop(1), "Unit"),
     (CHILD, Step::Wait, "Halt"),
     (CHILD, Step::Wait, "unfit"),
-    (CHILD, Step::Finish(0), "Unit"),
-    (MASTER, Step::Read, "Fault(NoFile)"),
+    (CHILD, END, "Unit"),
+    (MASTER, Step::Read("shmem:x"), "Fault(NoFile)"),
     (MASTER, Step::Wait, "unfit"),
-    (MASTER, Step::Finish(0), "Unit"),
+    (MASTER, END, "Unit"),
 ];
 
 #[test]

@@ -35,7 +35,7 @@ fn run_answer(rt: &impl Abort, alloc: Global, many: u32) -> Result<String, Fail>
     let journal = started(alloc, many)?;
     let few = journal.len() < 10_000 && files_of(&journal).is_empty();
     assert!(rt; few);
-    let call = run_call(alloc)?;
+    let call = run_call(alloc, 1)?;
     let answer = answer_of(alloc, &journal, 0, Some(0), &call)?;
     Ok(format!(in alloc; "{:?}", answer)?)
 }

@@ -2,6 +2,7 @@
 use super::reading::Reading;
 use super::{Step, ask, call_of, running};
 use crate::Hub;
+use job_calls::End;
 use std::alloc::Global;
 use std::process::Abort;
 use std::test::Fail;
@@ -25,17 +26,17 @@ impl Draws {
     fn step(&mut self) -> Step {
         let value = (self.draw() % 100) as u8;
         match self.draw() % 40 {
-            0 => Step::Finish(value as i32),
-            1 => Step::Stop,
+            0 => Step::Finish(End::Code(value as i32)),
+            1 => Step::Stop(1),
             2 | 3 => Step::Claim,
-            4 => Step::Status,
+            4 => Step::Status(1),
             5 | 6 => Step::Wait,
             7 | 8 | 9 | 10 => Step::Next,
             11 => Step::Peek,
             12 => Step::IsEmpty,
-            13 | 14 | 15 => Step::Send(value as i32),
-            16 | 17 | 18 => Step::Tell(value as i32),
-            19 => Step::Read,
+            13 | 14 | 15 => Step::Send(Some(1), value as i32),
+            16 | 17 | 18 => Step::Send(None, value as i32),
+            19 => Step::Read("shmem:x"),
             20 | 21 | 22 => Step::Write(value),
             _ => self.pipe_step(value),
         }

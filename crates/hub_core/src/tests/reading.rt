@@ -1,5 +1,6 @@
 //! A second reading of the rules, as docs/jobs.md tells them: queues, a block, a pipe and two runs, and no journal.
 use super::Step;
+use job_calls::End;
 use std::alloc::Global;
 use std::test::Fail;
 
@@ -59,6 +60,14 @@ fn plain(alloc: Global, words: &str) -> Result<Told, Fail> {
 
 fn last(alloc: Global, words: &str) -> Result<Told, Fail> {
     Ok(Told::Last(String::from_str(alloc, words)?))
+}
+
+/// The exit code; the calls that are drawn have no other ends.
+fn code_of(end: End) -> i32 {
+    match end {
+        End::Code(code) => code,
+        _ => 0,
+    }
 }
 
 impl Reading {
@@ -122,7 +131,7 @@ impl Reading {
         }
         match step {
             Step::Claim => return self.claim(alloc, run),
-            Step::Finish(code) => return self.finish(alloc, run, code),
+            Step::Finish(end) => return self.finish(alloc, run, code_of(end)),
             _ => {}
         }
         if self.stand(run).asked || self.master.ended {
@@ -130,9 +139,9 @@ impl Reading {
         }
         match step {
             Step::Wait | Step::Next | Step::Peek | Step::IsEmpty => self.look(alloc, run, step),
-            Step::Send(_) | Step::Tell(_) => self.send(alloc, run, step),
-            Step::Read | Step::Write(_) => self.memory(alloc, step),
-            Step::Stop | Step::Status => self.model(alloc, step),
+            Step::Send(to, value) => self.send(alloc, run, to, value),
+            Step::Read(_) | Step::Write(_) => self.memory(alloc, step),
+            Step::Stop(_) | Step::Status(_) => self.model(alloc, step),
             _ => self.piped(alloc, run, step),
         }
     }
@@ -163,7 +172,7 @@ impl Reading {
     pub fn is_final(&self, run: u32, step: Step) -> bool {
         match step {
             Step::Finish(_) => !self.stand(run).over,
-            Step::Stop => true,
+            Step::Stop(_) => true,
             Step::OpenToRead => self.pipe.reader.is_some(),
             Step::OpenToWrite => self.pipe.writer.is_some(),
             Step::Put(_, _) => !self.is_joined(),
@@ -234,10 +243,10 @@ impl Reading {
     }
 
     /// The master has no parent; the child can be sent events until it has ended.
-    fn send(&mut self, alloc: Global, run: u32, step: Step) -> Result<Told, Fail> {
-        let (to, value) = match step {
-            Step::Send(value) if !self.child.ended => (1, value),
-            Step::Tell(value) if run == 1 => (0, value),
+    fn send(&mut self, alloc: Global, run: u32, to: Option<u32>, value: i32) -> Result<Told, Fail> {
+        let to = match to {
+            Some(_) if !self.child.ended => 1,
+            None if run == 1 => 0,
             _ => return plain(alloc, "Lost"),
         };
         self.events.push(Event {
@@ -264,7 +273,7 @@ impl Reading {
     }
 
     fn model(&mut self, alloc: Global, step: Step) -> Result<Told, Fail> {
-        if let Step::Stop = step {
+        if let Step::Stop(_) = step {
             self.child.asked = true;
             return plain(alloc, "Unit");
         }
