@@ -1,12 +1,13 @@
 -- Laws of sources and faulty pieces.
 
-use Rattle.std.specs.Prelude.{◌≡◌, ◌⊎◌, ℕ, List, [], ◌++◌}
+use Rattle.std.specs.Prelude.{◌≡◌, ◌⊎◌, ℕ, true, List, [], ◌++◌}
+use Rattle.mos_form.specs.declared.form.Mould.{Mould}
 use Rattle.mos_form.specs.declared.form.PieceForm.{PieceForm}
 use Rattle.mos_tree.specs.Texts.{texts_of_tree}
 use Rattle.mos_form.specs.Texts.{texts_of_pieces}
 use Rattle.mos_source.specs.Sources.{Source, IsSource, spell_source, tree_of}
 use Rattle.mos_source.specs.Faults.{IsFaulty}
-use Rattle.mos_source.specs.Productions.{Rule, source, Reading, took, Reads, BreaksAt}
+use Rattle.mos_source.specs.Productions.{Rule, source, statement_is, differ, Reading, took, Reads, BreaksAt}
 
 -- pieces have at most one tree
 abbrev pub HaveOneTree : Type 0
@@ -39,6 +40,10 @@ ProductionsBreakThere = (before after : List PieceForm) → BreaksAt (before ++ 
 -- the productions break at each faulty piece
 abbrev pub ProductionsBreak : Type 0
 ProductionsBreak = (before after : List PieceForm) → IsFaulty before after → BreaksAt (before ++ after) after
+
+-- the alternatives of the grammar differ in the forms of their first pieces
+abbrev pub AlternativesDiffer : Type 0
+AlternativesDiffer = (x : Mould) → (differ source x ≡ true) × (differ statement_is x ≡ true)
 
 -- a production reads pieces in one way
 abbrev pub ProductionsReadOneWay : Type 0

@@ -1,6 +1,6 @@
 -- The grammar of a source over the forms of its pieces, and the first piece that a production cannot take.
 
-use Rattle.std.specs.Prelude.{◌≡◌, ◌≢◌, ℕ, suc, Bool, true, false, ◌||◌, ◌&&◌, nat_eq, nat_le, if◌then◌else◌, ◌⊎◌, List, [], ◌∷◌, is_some}
+use Rattle.std.specs.Prelude.{◌≡◌, ◌≢◌, ℕ, suc, Bool, true, false, ◌||◌, ◌&&◌, not, nat_eq, nat_le, if◌then◌else◌, ◌⊎◌, List, [], ◌∷◌, is_some}
 use Rattle.mos_form.specs.declared.form.Mould.{Mould}
 use Rattle.mos_form.specs.declared.form.Mould.TheVariants as m
 use Rattle.mos_form.specs.declared.form.PieceForm.{PieceForm}
@@ -186,6 +186,15 @@ begins_if named statement x = named
 -- whether a part begins with a piece of this form; no form of statement begins with a statement
 abbrev pub begins : Rule → Mould → Bool
 begins rule x = begins_if (begins_if false statement_is x) rule x
+
+-- whether of the alternatives of each choice in a part at most one begins with a piece of this form
+abbrev pub differ : Rule → Mould → Bool
+differ (block form rest) x = differ rest x
+differ (a ~ b) x = differ a x && differ b x
+differ (a or b) x = not (begins a x && begins b x) && (differ a x && differ b x)
+differ (optional a) x = differ a x
+differ (many a) x = differ a x
+differ _ x = true
 
 -- ---- what a production takes
 

@@ -1,7 +1,7 @@
 //! Laws of sources, as contracts of calls that do nothing.
 ghost use Rattle.mos_source.specs.Laws.{HaveOneTree, HaveOneFault, HaveNotBoth, HaveOneOfBoth, TreesHaveTheirTexts};
 ghost use Rattle.mos_source.specs.Laws.{ProductionsReadOneWay, ProductionsTakeSources, ProductionsTakeNothingElse};
-ghost use Rattle.mos_source.specs.Laws.{ProductionsBreak, ProductionsBreakThere};
+ghost use Rattle.mos_source.specs.Laws.{AlternativesDiffer, ProductionsBreak, ProductionsBreakThere};
 
 /// Pieces have at most one tree and at most one faulty piece, and always one of both and never both.
 pub fn pieces_are_read_one_way()
@@ -19,6 +19,7 @@ pub fn sources_have_their_texts()
 /// The productions of the grammar, each read with the number of blocks that are open, take the sources
 /// and nothing else, and the first piece that they cannot take is the faulty one.
 pub fn pieces_break_by_productions()
+    ensures differ { AlternativesDiffer }
     ensures one_way { ProductionsReadOneWay }
     ensures takes { ProductionsTakeSources }
     ensures takes_only { ProductionsTakeNothingElse }

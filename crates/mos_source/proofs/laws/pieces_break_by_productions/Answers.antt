@@ -1,6 +1,9 @@
-use Rattle.mos_source.proofs.OneWay.{one-way}
+use Rattle.mos_source.proofs.OneWay.{alternatives-differ, one-way}
 use Rattle.mos_source.proofs.Broken.{productions-take-sources, productions-take-nothing-else, productions-break, productions-break-there}
 use Rattle.mos_source.proofs.laws.pieces_break_by_productions.Goals as goal
+
+pub returns-clause-differ : goal.returns-clause-differ
+returns-clause-differ c = alternatives-differ
 
 pub returns-clause-one_way : goal.returns-clause-one_way
 returns-clause-one_way c = one-way
