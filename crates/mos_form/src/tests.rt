@@ -1,5 +1,5 @@
-use crate::{Form, form_of, mould_of};
-use mos_scan::{scan, words};
+use crate::{Form, Mould, form_of, mould_of};
+use mos_scan::{Word, scan, words};
 use std::alloc::{AllocError, Global};
 
 /// A piece, and its mould, behind `high` where a tree in it is too high.
@@ -90,30 +90,49 @@ const HIGH_ROWS: [(&str, u32, &str, &str); 8] = [
     ("", 500, ",1:", "high Alternative"),
 ];
 
-/// The mould of the words.
-fn said(alloc: Global, source: &str) -> Result<String, AllocError> {
+fn words_of(alloc: Global, source: &str) -> Option<Vec<Word>> {
     if source.len() > 1048576 {
-        return String::from_str(alloc, "long");
+        return None;
     }
-    let Ok(tokens) = scan(alloc, source.as_bytes()) else {
-        return String::from_str(alloc, "lexical");
-    };
+    let tokens = scan(alloc, source.as_bytes()).ok()?;
     if tokens.len() > 1048576 {
-        return String::from_str(alloc, "long");
+        return None;
     }
-    let Ok(found) = words(alloc, source.as_bytes(), tokens.as_slice()) else {
-        return String::from_str(alloc, "no memory");
-    };
-    match form_of(alloc, found.as_slice()) {
-        Ok(form) => shown(alloc, &form),
-        Err(_) => String::from_str(alloc, "no memory"),
+    words(alloc, source.as_bytes(), tokens.as_slice()).ok()
+}
+
+fn is_high(form: &Form) -> bool {
+    matches!(form, Form::TooHigh(_))
+}
+
+/// The mould, and whether a tree is too high.
+fn told(form: Form) -> (bool, Mould) {
+    (is_high(&form), mould_of(&form))
+}
+
+fn read(alloc: Global, words: &[Word]) -> Option<(bool, Mould)> {
+    match form_of(alloc, words) {
+        Ok(form) => Some(told(form)),
+        Err(_) => None,
     }
 }
 
-fn shown(alloc: Global, form: &Form) -> Result<String, AllocError> {
-    match form {
-        Form::TooHigh(mould) => format!(in alloc; "high {mould:?}"),
-        form => format!(in alloc; "{:?}", mould_of(form)),
+fn shown(alloc: Global, high: bool, mould: Mould) -> Result<String, AllocError> {
+    if high {
+        format!(in alloc; "high {mould:?}")
+    } else {
+        format!(in alloc; "{mould:?}")
+    }
+}
+
+/// The mould of the words.
+fn said(alloc: Global, source: &str) -> Result<String, AllocError> {
+    let Some(found) = words_of(alloc, source) else {
+        return String::from_str(alloc, "no words");
+    };
+    match read(alloc, found.as_slice()) {
+        Some((high, mould)) => shown(alloc, high, mould),
+        None => String::from_str(alloc, "no memory"),
     }
 }
 
