@@ -152,9 +152,9 @@ fn nested(alloc: Global, before: &str, depth: u32, behind: &str) -> Result<Strin
 
 #[test]
 fn knows_each_piece(rt: HostRuntime) -> Result<(), std::test::Fail> {
-    for (source, wanted) in ROWS {
+    for (source, wanted) in &ROWS {
         let found = said(rt.alloc(), source)?;
-        assert_eq!(rt; found.as_str(), wanted, "{source}");
+        assert_eq!(rt; found.as_str(), *wanted, "{source}");
     }
     Ok(())
 }
@@ -162,10 +162,10 @@ fn knows_each_piece(rt: HostRuntime) -> Result<(), std::test::Fail> {
 #[test]
 fn knows_what_is_too_high(rt: HostRuntime) -> Result<(), std::test::Fail> {
     let alloc = rt.alloc();
-    for (before, depth, behind, wanted) in HIGH_ROWS {
-        let source = nested(alloc, before, depth, behind)?;
+    for (before, depth, behind, wanted) in &HIGH_ROWS {
+        let source = nested(alloc, before, *depth, behind)?;
         let found = said(alloc, source.as_str())?;
-        assert_eq!(rt; found.as_str(), wanted, "{before}{depth}{behind}");
+        assert_eq!(rt; found.as_str(), *wanted, "{before}{depth}{behind}");
     }
     Ok(())
 }
