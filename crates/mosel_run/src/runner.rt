@@ -49,6 +49,3 @@ pub(crate) fn run(alloc: Global, image: &Image, budget: u32) -> Result<Ran, NoMe
         steps += 1;
     }
 }
-
-#[cfg(test)]
-mod tests;
