@@ -106,13 +106,20 @@ fn is_high(form: &Form) -> bool {
 }
 
 /// The mould, and whether a tree is too high.
-fn told(form: Form) -> (bool, Mould) {
-    (is_high(&form), mould_of(&form))
+fn told(form: &Form) -> (bool, Mould) {
+    (is_high(form), mould_of(form))
 }
+
+/// Lets go of a value; a function of its own, since so much hangs on a form.
+fn let_go<T: Drop>(_value: T) {}
 
 fn read(alloc: Global, words: &[Word]) -> Option<(bool, Mould)> {
     match form_of(alloc, words) {
-        Ok(form) => Some(told(form)),
+        Ok(form) => {
+            let found = told(&form);
+            let_go(form);
+            Some(found)
+        }
         Err(_) => None,
     }
 }
