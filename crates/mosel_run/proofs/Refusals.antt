@@ -6,7 +6,7 @@ use Rattle.std.specs.Result.{IsErrAnd}
 use Rattle.mos_text.specs.declared.kind.Kind.{Kind}
 use Rattle.mos_tree.specs.declared.source.Tree.{Tree}
 use Rattle.mos_parse.specs.Parsed.{IsParsed, IsSyntaxFault}
-use Rattle.mos_parse.specs.Answers.{IsFaultOf}
+use Rattle.mos_parse.specs.Answers.{IsFaultOf, GivesTree as ParsesTo, GivesFault as ParsesNot}
 use Rattle.mos_parse.specs.declared.fault.SyntaxFault.{SyntaxFault}
 use Rattle.mos_parse.specs.declared.fault.SyntaxFault.TheVariants as syntax
 use Rattle.mos_check.specs.NotBuilt.{unbuilt_of}
@@ -88,3 +88,16 @@ pub handed-on : (P : Result Tree ReadFault → Type 0) (fault : ReadFault) (resu
     → IsErrAnd result (λ x. x ≡ fault) → P result
 handed-on P fault (Ok x) h e = absurd e
 handed-on P fault (Err x) h e = subst (λ (y : ReadFault). P (Err y)) (sym e) h
+
+pub syntax-only_tree : (source : List ℕ) (fault : SyntaxFault) (result : Result Tree ReadFault) → ((tree : Tree) → IsParsed source tree → ParsesTo (Err fault) tree)
+    → IsErrAnd result (λ x. x ≡ of_syntax fault) → (tree : Tree) → IsAccepted source tree → GivesTree result tree
+syntax-only_tree source (syntax.At line kind) result only e tree accepted = absurd (only tree accepted.parsed)
+syntax-only_tree source syntax.NoMemory result only e tree accepted = handed-on (λ (r : Result Tree ReadFault). GivesTree r tree) NoMemory result tt e
+
+pub syntax-only_refusal : (source : List ℕ) (fault : SyntaxFault) (result : Result Tree ReadFault) → ((tree : Tree) → IsParsed source tree → ParsesTo (Err fault) tree)
+    → ((line : ℕ) (kind : Kind) → IsSyntaxFault source line kind → ParsesNot (Err fault) line kind) → IsErrAnd result (λ x. x ≡ of_syntax fault)
+    → (line : ℕ) (kind : Kind) → IsRefusedAt source line kind → GivesRefusal result line kind
+syntax-only_refusal _ (syntax.At at what) result only named e _ _ (unparsed source line kind h) =
+    handed-on (λ (r : Result Tree ReadFault). GivesRefusal r line kind) (At at what) result (named line kind h) e
+syntax-only_refusal _ (syntax.At at what) result only named e _ _ (wrong source line kind tree h w) = absurd (only tree h)
+syntax-only_refusal source syntax.NoMemory result only named e line kind refused = handed-on (λ (r : Result Tree ReadFault). GivesRefusal r line kind) NoMemory result tt e
