@@ -1,17 +1,21 @@
 //! A job over one source: the source is compiled and its image carried out, and what happened is
 //! written down.
-ghost use Rattle.std.specs.Prelude.{◌≡◌, ◌≢◌, ◌≤◌, ◌∷◌, [], IfOk, Some, true, length};
+ghost use Rattle.std.specs.Prelude.{◌≡◌, ◌≢◌, ◌<◌, ◌≤◌, ◌^◌, ◌∷◌, [], IfOk, Some, true, length};
+ghost use Rattle.bim_code.specs.Code.{code_size};
 ghost use Rattle.bim_code.specs.Limits.{FitsFields};
 ghost use Rattle.bim_code.specs.Tables.{image_bytes};
+ghost use Rattle.bim_compile.specs.Means.{Means, NeverStuck};
+ghost use Rattle.bim_compile.specs.Plain.{IsPlain};
 ghost use Rattle.job_calls.specs.ReportText.{report_text};
 ghost use Rattle.job_calls.specs.Runs.{finish_of};
+ghost use Rattle.mos_meaning.specs.MachineLaws.{KeepsTicks};
 ghost use Rattle.mos_meaning.specs.State.{Stuck};
 ghost use Rattle.mos_meaning.specs.Follows.{end_of};
 ghost use Rattle.mos_meaning.specs.Syntax.{statements_of};
 ghost use Rattle.mos_words.specs.Fit.{IsFit};
 ghost use Rattle.mos_words.specs.Words.{is_source_name};
 ghost use Rattle.mos_words.specs.declared.words.commands.Command.TheVariants.{Run as RunCommand};
-ghost use Rattle.mosel_run.specs.Accepted.{IsAccepted, IsOnlyTree};
+ghost use Rattle.mosel_run.specs.Accepted.{IsAccepted, IsOnlyTree, IsSound};
 ghost use Rattle.mosel_run.specs.InSize.{IsInSize};
 ghost use Rattle.mosel_run.specs.Jobs.{opening_on};
 ghost use Rattle.mosel_run.specs.Outputs.{IsOutput, IsOwnEnd};
@@ -94,7 +98,7 @@ fn carry_out(
     ensures own { IfOk result (λ f. IsOwnEnd f.end) }
     ensures fields { IfOk result (λ f. FitsFields f.image) }
 {
-    let image = compile(alloc, tree)?;
+    let image = image_of(alloc, tree)?;
     let ran = run(alloc, &image, budget)?;
     let end = end_by(ran.halt);
     let journal = journal(alloc, name, lanes, budget, source, end)?;
@@ -105,6 +109,20 @@ fn carry_out(
         lines,
         end,
     })
+}
+
+/// The image of a sound tree, with which the machine is never stuck.
+pub(crate) fn image_of(alloc: Global, tree: &Tree) -> Result<Image, NoMemory>
+    requires sound { IsSound tree.now }
+    requires in_size { IsInSize (statements_of tree.now) }
+    ensures means { IfOk result (Means (statements_of tree.now)) }
+    ensures never_stuck { NeverStuck (statements_of tree.now) }
+    ensures keeps { IfOk result KeepsTicks }
+    ensures fields { IfOk result FitsFields }
+    ensures plain { IfOk result IsPlain }
+    ensures small { IfOk result (λ image. code_size image.code < 2 ^ 30) }
+{
+    compile(alloc, tree)
 }
 
 /// The end of a run that halted so.

@@ -49,3 +49,6 @@ pub(crate) fn run(alloc: Global, image: &Image, budget: u32) -> Result<Ran, NoMe
         steps += 1;
     }
 }
+
+#[cfg(test)]
+mod tests;

@@ -1,32 +1,17 @@
--- a sound tree in size is compiled, is never stuck, and its journal is whole
+-- the run is never stuck, and its journal is whole
 use Rattle.std.proofs.Common.{◌∙◌, ◌∷◌, [], ap, arith}
 use Rattle.job_calls.specs.Runs.{finish_of}
 use Rattle.mos_meaning.specs.Syntax.{statements_of}
 use Rattle.mosel_run.specs.Jobs.{opening_on}
 use Rattle.mosel_run.specs.Puts.{puts_of}
 use Rattle.mosel_run.specs.Reported.{model_of}
-use Rattle.mosel_run.proofs.KnownStatements.{sound-works}
-use Rattle.mosel_run.proofs.SmallModels.{block_short}
 use Rattle.mosel_run.proofs.Whole.{finish_is}
 use Rattle.mosel_run.proofs.WholeJobs.{not_stuck, is_job, puts_are}
 use Rattle.mosel_run.proofs.jobs.carry_out.Goals as goal
 
-pub compile-requires : goal.compile-requires
-compile-requires c = record {
-  works = sound-works c.args.tree.now c.requires.accepted.sound c.requires.in_size.small;
-  small = c.requires.in_size.size;
-  short = block_short (statements_of c.args.tree.now) c.requires.in_size.small;
-}
-
-pub run-requires-clause-small : goal.run-requires-clause-small
-run-requires-clause-small c =
-    let size = c.requires.in_size.size in
-    let code = c.in_ok-image.ensures.size in
-    omega (arith, size, code)
-
 pub end_by-end-requires : goal.end_by-end-requires
 end_by-end-requires c =
-    not_stuck c.args.budget (statements_of c.args.tree.now) c.in_ok-image.image c.in_ok-ran.ran c.in_ok-image.ensures.means c.compile.ensures.never_stuck c.in_ok-ran.ensures.course
+    not_stuck c.args.budget (statements_of c.args.tree.now) c.in_ok-image.image c.in_ok-ran.ran c.in_ok-image.ensures.means c.image_of.ensures.never_stuck c.in_ok-ran.ensures.course
 
 pub returns-clause-job : goal.returns-clause-job
 returns-clause-job c =
