@@ -120,6 +120,7 @@ impl Hub {
         ensures legal { IsLegal (journal_of self.new) }
         ensures few { length (journal_of self.new) < 1100000 }
         ensures spare { spare_of self.old ≤ spare_of self.new + 1 }
+        ensures kept { OnErr result (spare_of self.old ≤ spare_of self.new) }
         ensures room { 1 ≤ spare_of self.old → IsTrue (takes_no_memory call) → IfErr result (λ held. IsFalse (wants_memory held)) }
     {
         match answer_of(self.alloc, &self.entries, lane, run, &call) {
@@ -140,6 +141,7 @@ impl Hub {
         ensures legal { IsLegal (journal_of self.new) }
         ensures few { length (journal_of self.new) < 1100000 }
         ensures spare { spare_of self.old ≤ spare_of self.new + 1 }
+        ensures kept { OnErr result (spare_of self.old ≤ spare_of self.new) }
         ensures room { 1 ≤ spare_of self.old → IsTrue (is_plain reply) → IfErr result (λ held. IsFalse (wants_memory held)) }
     {
         let place = Place(self.entries.len() as u32);

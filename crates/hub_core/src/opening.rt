@@ -12,7 +12,8 @@ use mos_text::is_file_name;
 
 /// The first of the files can be the master.
 fn is_master(files: &[Listed]) -> bool
-    ensures { IsTrue result → IsMaster files.now }
+    ensures yes { IsTrue result → IsMaster files.now }
+    ensures no { IsMaster files.now → IsTrue result }
 {
     match files {
         [] => false,
@@ -33,7 +34,8 @@ fn is_among(name: &Listed, files: &[Listed]) -> bool
 }
 
 fn are_distinct(files: &[Listed]) -> bool
-    ensures { IsTrue result → HaveDistinctNames files.now }
+    ensures yes { IsTrue result → HaveDistinctNames files.now }
+    ensures no { HaveDistinctNames files.now → IsTrue result }
 {
     match files {
         [] => true,
@@ -45,7 +47,8 @@ fn are_distinct(files: &[Listed]) -> bool
 /// ticks, and 1 to 128 files whose names are distinct file names, the first of them an accepted source or
 /// an image.
 pub fn can_open(lanes: u32, budget: u32, files: &[Listed]) -> bool
-    ensures { IsTrue result → (params : List ℕ) → CanOpen (record { lanes = lanes; budget = budget; params = params; files = files.now }) }
+    ensures yes { IsTrue result → (params : List ℕ) → CanOpen (record { lanes = lanes; budget = budget; params = params; files = files.now }) }
+    ensures no { (params : List ℕ) → CanOpen (record { lanes = lanes; budget = budget; params = params; files = files.now }) → IsTrue result }
 {
     let numbers = lanes >= 1 && lanes <= 64 && budget >= 1 && budget <= 1_000_000_000;
     numbers

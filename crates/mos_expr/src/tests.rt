@@ -1,5 +1,5 @@
 use crate::{ExprFault, expression, expressions_of_words, index_of_words};
-use mos_scan::{Word, scan, words};
+use mos_scan::{Token, Word, scan, words};
 use std::alloc::{AllocError, Global};
 
 /// Words, and whether they have a tree: `ok`, `none` or `deep`.
@@ -52,6 +52,18 @@ const ROWS: [(&str, &str); 46] = [
     ("1\n+2", "none"),
 ];
 
+fn said_of(alloc: Global, source: &[u8], tokens: &[Token]) -> &'static str {
+    if tokens.len() > 1048576 {
+        return "long";
+    }
+    match expression(alloc, source, tokens) {
+        Ok(_) => "ok",
+        Err(ExprFault::NoExpr) => "none",
+        Err(ExprFault::Deep) => "deep",
+        Err(ExprFault::NoMemory) => "no memory",
+    }
+}
+
 fn said(alloc: Global, source: &str) -> &'static str {
     if source.len() > 1048576 {
         return "long";
@@ -59,15 +71,7 @@ fn said(alloc: Global, source: &str) -> &'static str {
     let Ok(tokens) = scan(alloc, source.as_bytes()) else {
         return "lexical";
     };
-    if tokens.len() > 1048576 {
-        return "long";
-    }
-    match expression(alloc, source.as_bytes(), tokens.as_slice()) {
-        Ok(_) => "ok",
-        Err(ExprFault::NoExpr) => "none",
-        Err(ExprFault::Deep) => "deep",
-        Err(ExprFault::NoMemory) => "no memory",
-    }
+    said_of(alloc, source.as_bytes(), tokens.as_slice())
 }
 
 fn words_of(alloc: Global, source: &str) -> Option<Vec<Word>> {
@@ -99,6 +103,28 @@ fn reads_what_is_an_expression(rt: HostRuntime) {
     for (source, wanted) in ROWS {
         assert_eq!(rt; said(rt.alloc(), source), wanted, "{source}");
     }
+}
+
+/// From which token to which of `x:=1+2*(3);y` a slice goes, and whether it has a tree.
+const SLICES: [(usize, usize, &str); 7] = [
+    (2, 9, "ok"),
+    (4, 5, "ok"),
+    (6, 9, "ok"),
+    (0, 3, "none"),
+    (2, 4, "none"),
+    (6, 8, "none"),
+    (9, 9, "none"),
+];
+
+#[test]
+fn reads_a_slice_of_a_source(rt: HostRuntime) -> Result<(), std::test::Fail> {
+    let source = b"x:=1+2*(3);y";
+    let tokens = scan(rt.alloc(), source).ok().ok_or("tokens")?;
+    for (from, to, wanted) in SLICES {
+        let slice = tokens.get(from..to).ok_or("slice")?;
+        assert_eq!(rt; said_of(rt.alloc(), source, slice), wanted);
+    }
+    Ok(())
 }
 
 #[test]

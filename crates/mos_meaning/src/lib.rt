@@ -3,7 +3,7 @@
 //! `specs/` says of each expression its value, of each statement its effect, of each model its
 //! meaning: output, calls, ticks and end. It says the same of an image, instruction by instruction,
 //! and when a journal with its run lines follows from its sources. Meaning and machine share the
-//! state of a run and the operators on values, and nothing else.
+//! state of a run, what is told of it, the defaults and the operators on values, and nothing else.
 #![tactic(auto)]
 
 mod examples;

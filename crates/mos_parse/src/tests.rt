@@ -1,6 +1,7 @@
 use crate::{SyntaxFault, parse};
 use mos_tree::{Statement, Top, Tree};
 use std::alloc::Global;
+use std::test::Fail;
 
 /// A source, the line of its fault, and the word for it.
 type Row = (&'static str, u32, &'static str);
@@ -22,7 +23,7 @@ const TOKENS: [Row; 8] = [
 ];
 
 /// Sources with a faulty piece among statements.
-const STATEMENTS: [Row; 18] = [
+const STATEMENTS: [Row; 19] = [
     ("", 1, "SYNTAX"),
     ("\n\n", 3, "SYNTAX"),
     ("model m", 1, "SYNTAX"),
@@ -35,6 +36,7 @@ const STATEMENTS: [Row; 18] = [
     ),
     ("model m\nif x then y end-do\nend-model", 2, "SYNTAX"),
     ("model m\nif x then y\n\n", 4, "SYNTAX"),
+    ("model m\nif x then\ny:=1+\nend-if\nend-model", 3, "SYNTAX"),
     ("model m\nrepeat\nx\nend-model", 4, "SYNTAX"),
     ("model m\ncase x of\ny\nend-case\nend-model", 3, "SYNTAX"),
     ("model m\ncase x of\n:\ny\nend-case\nend-model", 3, "SYNTAX"),
@@ -90,7 +92,7 @@ const DECLARATIONS: [Row; 14] = [
 ];
 
 /// Sources with a tree, and how many heads and tops it has.
-const TREES: [(&str, usize, usize); 16] = [
+const TREES: [(&str, usize, usize); 19] = [
     ("model m\nend-model", 0, 0),
     ("! c\n\nMODEL 'a b'; END-MODEL and more", 0, 0),
     ("model m\nuses \"mmjobs\"\nOptions:=1\nend-model", 1, 1),
@@ -139,6 +141,9 @@ const TREES: [(&str, usize, usize); 16] = [
         0,
         2,
     ),
+    ("model m\nforall(i in 1..3)\ndo\nx\nend-do\nend-model", 0, 1),
+    ("model m\ncase a of\n1,\n2: b\nend-case\nend-model", 0, 1),
+    ("model m\nif a then\nb\nelse\nend-if end-model", 0, 1),
     ("model m\nwhile(a) b; repeat c until d\nend-model", 0, 2),
     (
         "model m\ninitializations from 'f'\na\nb as \"c\", d\nend-initialisations\nend-model",
@@ -170,6 +175,15 @@ fn fault_of(alloc: Global, source: &str) -> (u32, &'static str) {
     }
 }
 
+/// The name in the fault of a source, where it has one.
+fn name_of(alloc: Global, source: &str) -> Result<String, Fail> {
+    let fault = tree_of(alloc, source);
+    let Err(SyntaxFault::At { kind, .. }) = fault else {
+        return Ok(String::new(alloc));
+    };
+    Ok(format!(in alloc; "{:?}", kind.name())?)
+}
+
 /// How many heads and tops the tree of a source has.
 fn counts_of(alloc: Global, source: &str) -> (usize, usize) {
     match tree_of(alloc, source) {
@@ -185,6 +199,23 @@ fn first_fault_of_tokens_counts(rt: HostRuntime) {
         assert_eq!(rt; found.0, *line, "{source:?}");
         assert_eq!(rt; found.1, *word, "{source:?}");
     }
+}
+
+/// Sources that are refused with a name: a word, a module, an option.
+const NAMED: [(&str, &str); 4] = [
+    ("model m\nx: real", "Some(Text { text: \"real\" })"),
+    ("model m\nuses 'mmxprs'", "Some(Text { text: \"mmxprs\" })"),
+    ("model m\noptions other", "Some(Text { text: \"other\" })"),
+    ("model m\nx:=)", "None"),
+];
+
+#[test]
+fn what_is_left_out_is_named(rt: HostRuntime) -> Result<(), Fail> {
+    for (source, wanted) in &NAMED {
+        let found = name_of(rt.alloc(), source)?;
+        assert_eq!(&rt; found.as_str(), *wanted);
+    }
+    Ok(())
 }
 
 #[test]

@@ -437,9 +437,10 @@ fn all_pieces(alloc: Global, tokens: &[Token]) -> Result<Vec<Piece>, NoMemory>
     Ok(found)
 }
 
-/// The pieces that the tokens are cut into: at each semicolon and each newline that ends something, before
-/// and behind the words that open, part or close a block, behind what a loop or `case` is over, and behind
-/// a label of `case`.
+/// The pieces that the tokens are cut into: at each semicolon and each newline that ends something; before
+/// `elif`, `else`, `until` and each `end-` word; behind each `end-` word, `then`, `else`, `do`, `repeat`,
+/// `declarations`, `parameters` and `record`; behind the bracket of a loop and the `of` of a `case`; and behind
+/// a colon outside brackets that is part of no heading and no item.
 pub fn pieces(alloc: Global, tokens: &[Token]) -> Result<Vec<Piece>, NoMemory>
     requires { length tokens.now ≤ 1048576 }
     ensures exact { IfOk result (λ v. v.items ≡ spec.pieces_of tokens.now) }

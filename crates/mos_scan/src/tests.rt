@@ -1,5 +1,6 @@
-use crate::{LexFault, pieces, scan, words};
+use crate::{LexFault, Piece, Token, TokenKind, pieces, scan, words};
 use std::alloc::Global;
+use std::test::Fail;
 
 /// A source, the line and column of its fault, and the word for it.
 type Row = (&'static str, u32, u32, &'static str);
@@ -69,19 +70,58 @@ fn fault_of(alloc: Global, source: &[u8]) -> (u32, u32, &'static str) {
     }
 }
 
-fn counts_of(alloc: Global, source: &str) -> (usize, usize) {
+/// A source of two pieces and more, with a comment over two lines and a character of two bytes.
+const PLACED: &str = "x1:='é' (! y\n!)\n007;end-if";
+
+/// Its tokens: what each is, its line, and from where to where it goes.
+const TOKENS: [(TokenKind, u32, u32, u32); 7] = [
+    (TokenKind::Name, 1, 0, 2),
+    (TokenKind::Assign, 1, 2, 4),
+    (TokenKind::Text, 1, 4, 8),
+    (TokenKind::Newline, 2, 16, 17),
+    (TokenKind::Number, 3, 17, 20),
+    (TokenKind::Semicolon, 3, 20, 21),
+    (TokenKind::EndIf, 3, 21, 27),
+];
+
+/// Its pieces: the line, and from which token to which each goes.
+const PIECES: [(u32, u32, u32); 3] = [(1, 0, 3), (3, 4, 5), (3, 6, 7)];
+
+fn cut(alloc: Global, source: &str) -> Option<(Vec<Token>, Vec<Piece>)> {
     if source.len() > 1048576 {
-        return (9999, 9999);
+        return None;
     }
-    let Ok(tokens) = scan(alloc, source.as_bytes()) else {
-        return (9999, 9999);
-    };
+    let tokens = scan(alloc, source.as_bytes()).ok()?;
     if tokens.len() > 1048576 {
-        return (9999, 9999);
+        return None;
     }
-    match pieces(alloc, &tokens) {
-        Ok(found) => (tokens.len(), found.len()),
-        Err(_) => (9999, 9999),
+    let found = pieces(alloc, &tokens).ok()?;
+    Some((tokens, found))
+}
+
+#[test]
+fn tokens_and_pieces_have_their_places(rt: HostRuntime) -> Result<(), Fail> {
+    let (tokens, found) = cut(rt.alloc(), PLACED).ok_or("no tokens")?;
+    assert_eq!(rt; tokens.len(), TOKENS.len());
+    for (token, wanted) in tokens.iter().zip(&TOKENS) {
+        assert_eq!(rt; token.kind, wanted.0);
+        assert_eq!(rt; token.line, wanted.1);
+        assert_eq!(rt; token.from, wanted.2);
+        assert_eq!(rt; token.to, wanted.3);
+    }
+    assert_eq!(rt; found.len(), PIECES.len());
+    for (piece, wanted) in found.iter().zip(&PIECES) {
+        assert_eq!(rt; piece.line, wanted.0);
+        assert_eq!(rt; piece.from, wanted.1);
+        assert_eq!(rt; piece.to, wanted.2);
+    }
+    Ok(())
+}
+
+fn counts_of(alloc: Global, source: &str) -> (usize, usize) {
+    match cut(alloc, source) {
+        Some((tokens, found)) => (tokens.len(), found.len()),
+        None => (9999, 9999),
     }
 }
 

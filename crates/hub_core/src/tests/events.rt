@@ -12,6 +12,7 @@ const IN_ORDER: &[Row] = &[
     (CHILD, Step::Send(None, 6), "Queued { run: 0 }"),
     (CHILD, Step::Finish(End::Spent), "Unit"),
     (MASTER, Step::Wait, "Unit"),
+    (MASTER, Step::IsEmpty, "Flag(false)"),
     (
         MASTER,
         Step::Peek,
@@ -33,6 +34,7 @@ const IN_ORDER: &[Row] = &[
         "Took { place: Place(9), class: 1, value: 101 }",
     ),
     (MASTER, Step::Peek, "Nothing"),
+    (MASTER, Step::Drop, "Nothing"),
     (MASTER, Step::IsEmpty, "Flag(true)"),
 ];
 
@@ -77,6 +79,7 @@ const LAST_WRITE: &[Row] = &[
         "Found { place: Place(0), bytes: SharedBlob { blob: Blob { bytes: [120, 58, 32, 49] } } }",
     ),
     (CHILD, Step::Read("c.mos"), "Fault(NoFile)"),
+    (MASTER, Step::Read("shmem:y"), "Fault(NoFile)"),
 ];
 
 #[test]

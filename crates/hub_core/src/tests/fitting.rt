@@ -1,5 +1,7 @@
 //! Calls that do not fit, one for each condition.
-use super::{CHILD, END, LANE, MASTER, Row, Step, hub, loaded, play, running};
+use super::{CHILD, END, LANE, MASTER, Row, Step, file, hub, loaded, play, running, text};
+use job_calls::Call;
+use sqlite_items::Items;
 use std::test::Fail;
 
 const NO_LANE: &[Row] = &[
@@ -13,6 +15,23 @@ fn only_lanes_of_the_job_call(rt: HostRuntime) -> Result<(), Fail> {
     let alloc = rt.alloc();
     let mut hub = hub(&rt, alloc, 2)?;
     play(&rt, alloc, &mut hub, NO_LANE)
+}
+
+#[test]
+fn a_job_is_opened_once(rt: HostRuntime) -> Result<(), Fail> {
+    let alloc = rt.alloc();
+    let hub = hub(&rt, alloc, 2)?;
+    let mut files = Items::new(alloc);
+    files.push(file(alloc, "m.mos", 0)?)?;
+    let call = Call::Open {
+        lanes: 2,
+        budget: 100,
+        params: text(alloc, "")?,
+        files,
+    };
+    assert_eq!(&rt; hub.fits(0, None, &call), false);
+    assert_eq!(&rt; hub.fits(1, None, &call), false);
+    Ok(())
 }
 
 const NOT_CLAIMED: &[Row] = &[

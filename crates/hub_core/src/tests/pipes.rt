@@ -43,7 +43,7 @@ const READER_GONE: &[Row] = &[
     (CHILD, Step::OpenToRead, "Session { place: Place(6) }"),
     (MASTER, Step::OpenToWrite, "Session { place: Place(6) }"),
     (CHILD, END, "Unit"),
-    (MASTER, Step::Put(1, 0), "Fault(Broken)"),
+    (MASTER, Step::Put(4097, 0), "Fault(Broken)"),
 ];
 
 #[test]
