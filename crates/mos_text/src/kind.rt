@@ -11,13 +11,13 @@ pub enum Kind {
     None,
     /// Bytes that are no UTF-8.
     Utf8,
-    /// A character that begins no token.
+    /// A character that begins no token, or has no place in one: a wrong escape too.
     Char,
     /// An integer literal above its limit.
     Number,
     /// A literal of a real number.
     Real,
-    /// A text literal that is not closed or has a wrong escape.
+    /// A text literal that is not closed on its line.
     Str,
     /// A comment that is not closed.
     Comment,
@@ -27,7 +27,7 @@ pub enum Kind {
     Syntax,
     /// Trees or blocks nested too deep.
     Deep,
-    /// A module other than the one there is.
+    /// A module other than the one there is, or the one there is while it cannot be used yet.
     Module(Text),
     /// A name of the jobs module without its `uses`.
     Jobs,
