@@ -3,7 +3,8 @@ use Rattle.std.proofs.Common.{◌≡◌, ◌≢◌, ◌≤◌, ℕ, Bool, true, 
 use Rattle.std.specs.Prelude.{All}
 use Rattle.std.specs.List.{list_any}
 use Rattle.std.specs.Str.{bytes_eq}
-use Rattle.std.proofs.lemmas.List.Elements.{All-nil, All-cons}
+use Rattle.std.proofs.lemmas.List.Elements.{All-weaker}
+use Rattle.std.proofs.lemmas.List.Folds.{list_any_none}
 use Rattle.std.proofs.lemmas.Slice.Eq.{bytes_eq-Decides}
 use Rattle.job_calls.specs.declared.entry.Listed.{Listed}
 use Rattle.job_calls.specs.Legal.{HaveDistinctNames}
@@ -23,3 +24,32 @@ distinct_first files file m some is apart rest all =
     let whole : take m (drop 1 files) ≡ drop 1 files = take_all m (drop 1 files) all in
     distinct_by files file some is
     (ap (list_any (λ (other : Listed). bytes_eq other.name file.name)) (sym whole) ∙ apart) (subst HaveDistinctNames whole rest)
+
+not_so : (b : Bool) → (b ≡ true → ⊥) → b ≡ false
+not_so true never = absurd (never refl)
+not_so false never = refl
+
+none_named : (name : List ℕ) (files : List Listed) → All (λ other. other.name ≢ name) files → list_any (λ other. bytes_eq other.name name) files ≡ false
+none_named name files apart =
+    list_any_none (λ (other : Listed). bytes_eq other.name name) files
+    (All-weaker (λ (other : Listed). other.name ≢ name) (λ other. bytes_eq other.name name ≡ false)
+    (λ other differs. not_so (bytes_eq other.name name) (λ same. differs ((bytes_eq-Decides other.name name).0 same))) files apart)
+
+distinct_parts : (files : List Listed) (file : Listed) → 1 ≤ length files → file ≡ get_or files 0 file → HaveDistinctNames files
+    → All (λ other. other.name ≢ file.name) (drop 1 files) × HaveDistinctNames (drop 1 files)
+distinct_parts [] file some is all = absurd (omega (arith, some))
+distinct_parts (x ∷ xs) file some is all =
+    (subst (λ (y : Listed). All (λ (other : Listed). other.name ≢ y.name) xs) (sym is) all.0, all.1)
+
+-- where all differ, the first name is none of the others'
+pub first_apart : (files : List Listed) (file : Listed) (m : ℕ) → 1 ≤ length files → file ≡ get_or files 0 file
+    → length (drop 1 files) ≤ m → HaveDistinctNames files → list_any (λ other. bytes_eq other.name file.name) (take m (drop 1 files)) ≡ false
+first_apart files file m some is all distinct =
+    ap (list_any (λ (other : Listed). bytes_eq other.name file.name)) (take_all m (drop 1 files) all)
+    ∙ none_named file.name (drop 1 files) (distinct_parts files file some is distinct).0
+
+-- and the others differ
+pub rest_distinct : (files : List Listed) (file : Listed) (m : ℕ) → 1 ≤ length files → file ≡ get_or files 0 file
+    → length (drop 1 files) ≤ m → HaveDistinctNames files → HaveDistinctNames (take m (drop 1 files))
+rest_distinct files file m some is all distinct =
+    subst HaveDistinctNames (sym (take_all m (drop 1 files) all)) (distinct_parts files file some is distinct).1
