@@ -1,15 +1,18 @@
 -- Worked examples of meanings and of what images do.
 
 use Rattle.std.specs.Prelude.{◌≡◌, ℕ, List, [], ◌∷◌, Option, Some, None, pos, true, false, codes}
+use Rattle.std.specs.List.{find}
+use Rattle.std.specs.Str.{bytes_eq}
 use Rattle.mos_text.specs.declared.fault_kind.FaultKind.TheVariants.{Overflow, BadParam}
 use Rattle.bim_code.specs.declared.image.Image.{Image}
 use Rattle.bim_code.specs.declared.instruction.Instruction.TheVariants.{Tick, PushInt, PushBool, PushText, Show, Write, Line, End}
 use Rattle.job_calls.specs.declared.run_line.RunLine.{RunLine}
 use Rattle.job_calls.specs.ReportExamples.{hello_entries, hello_runs}
 use Rattle.bim_code.specs.declared.instruction.Comparison.TheVariants.{Greater}
-use Rattle.mos_meaning.specs.State.{Outcome, Stop, Exited, Failed, Spent}
+use Rattle.mos_meaning.specs.State.{State, Outcome, Stop, Exited, Failed, Spent, Stuck, beginning}
 use Rattle.mos_meaning.specs.Syntax.{Block, done, first, assign, change, decrease, write, loop, group, skip, nothing, one_more, number, text, truth, name, apply, plus, compare}
-use Rattle.mos_meaning.specs.Meaning.{meaning_of}
+use Rattle.mos_meaning.specs.Effects.{Ends}
+use Rattle.mos_meaning.specs.Meaning.{Body, routines, meaning_of, told_done}
 use Rattle.mos_meaning.specs.Machine.{course_of}
 use Rattle.mos_meaning.specs.Follows.{Model, FollowsSources}
 
@@ -36,6 +39,10 @@ down = first (assign (codes "x") (number (pos 3)))
 -- write("a") and while(true) next
 abbrev pub endless : Block
 endless = first (write false (one_more (text (codes "a")) nothing)) (first (loop (truth true) skip) done)
+
+-- a routine that writes hello
+abbrev pub greeting : List Body
+greeting = record { name = codes "greet"; statements = hello } ∷ []
 
 -- an image that writes hello
 abbrev pub hello_image : Image
@@ -78,6 +85,15 @@ DownEnough = meaning_of down [] [] 8 ≡ told [] 8 (Exited (pos 0))
 
 abbrev pub EndlessSpent : Type 0
 EndlessSpent = meaning_of endless [] [] 100 ≡ told (codes "a") 100 Spent
+
+-- a call of a routine does what its statements do
+abbrev pub GreetingCalled : Type 0
+GreetingCalled = told_done 10 (routines greeting [] 10 (codes "greet") (beginning [] [] 10)) ≡ told (codes "hello\n") 1 (Exited (pos 0))
+
+-- one of a name that no routine has means nothing, however many calls may stand inside one another
+abbrev pub UnknownCalled : Type 0
+UnknownCalled = (bodies : List Body) (names : List (List ℕ)) (most : ℕ) (n : List ℕ) (s : State)
+    → find (λ (body : Body). bytes_eq n body.name) bodies ≡ None → routines bodies names most n s ≡ Ends Stuck s
 
 -- the image takes eight steps, and means the same
 abbrev pub HelloCourse : Type 0
