@@ -8,9 +8,9 @@ use Rattle.bim_code.specs.declared.image.Image.{Image}
 use Rattle.bim_code.specs.declared.instruction.Instruction.TheVariants.{Tick, PushInt, PushBool, PushText, Show, Write, Line, End}
 use Rattle.job_calls.specs.declared.run_line.RunLine.{RunLine}
 use Rattle.job_calls.specs.ReportExamples.{hello_entries, hello_runs}
-use Rattle.bim_code.specs.declared.instruction.Comparison.TheVariants.{Greater}
+use Rattle.bim_code.specs.declared.instruction.Comparison.TheVariants.{Greater, AtLeast}
 use Rattle.mos_meaning.specs.State.{State, Outcome, Stop, Exited, Failed, Spent, Stuck, beginning}
-use Rattle.mos_meaning.specs.Syntax.{Block, done, first, assign, change, decrease, write, loop, group, skip, nothing, one_more, number, text, truth, name, apply, plus, compare}
+use Rattle.mos_meaning.specs.Syntax.{Block, done, first, assign, change, increase, decrease, write, choose, branch, otherwise, loop, group, leave, skip, nothing, one_more, number, text, truth, name, apply, plus, compare}
 use Rattle.mos_meaning.specs.Effects.{Ends}
 use Rattle.mos_meaning.specs.Meaning.{Body, routines, meaning_of, told_done}
 use Rattle.mos_meaning.specs.Machine.{course_of}
@@ -39,6 +39,22 @@ down = first (assign (codes "x") (number (pos 3)))
 -- write("a") and while(true) next
 abbrev pub endless : Block
 endless = first (write false (one_more (text (codes "a")) nothing)) (first (loop (truth true) skip) done)
+
+-- write of a text alone
+abbrev pub wrote : List ℕ → Block
+wrote t = first (write false (one_more (text t) nothing)) done
+
+-- if(1>2) then write("a") elif(false) then write("b") else write("c") end-if
+abbrev pub last_way : Block
+last_way = first (choose (branch (apply (compare Greater) (number (pos 1)) (number (pos 2))) (wrote (codes "a"))
+    (branch (truth false) (wrote (codes "b")) (otherwise (wrote (codes "c")))))) done
+
+-- x:=0, while(true) do x+=1 if(x>=2) then break end-if end-do, writeln(x)
+abbrev pub until_two : Block
+until_two = first (assign (codes "x") (number (pos 0)))
+    (first (loop (truth true) (group (first (change increase (codes "x") (number (pos 1)))
+    (first (choose (branch (apply (compare AtLeast) (name (codes "x")) (number (pos 2))) (first leave done) (otherwise done))) done))))
+    (first (write true (one_more (name (codes "x")) nothing)) done))
 
 -- a routine that writes hello
 abbrev pub greeting : List Body
@@ -73,6 +89,10 @@ FiveMeans = meaning_of five [] [] 10000000 ≡ told (codes "5\n") 2 (Exited (pos
 abbrev pub TooMuchMeans : Type 0
 TooMuchMeans = meaning_of too_much [] [] 10000000 ≡ told [] 1 (Failed Overflow)
 
+-- an `if`, and the statement under its `else`
+abbrev pub LastWayMeans : Type 0
+LastWayMeans = meaning_of last_way [] [] 10000000 ≡ told (codes "c") 2 (Exited (pos 0))
+
 -- an assignment, a `while`, and three passes with a statement each
 abbrev pub DownMeans : Type 0
 DownMeans = meaning_of down [] [] 10000000 ≡ told [] 8 (Exited (pos 0))
@@ -85,6 +105,10 @@ DownEnough = meaning_of down [] [] 8 ≡ told [] 8 (Exited (pos 0))
 
 abbrev pub EndlessSpent : Type 0
 EndlessSpent = meaning_of endless [] [] 100 ≡ told (codes "a") 100 Spent
+
+-- an assignment, a `while`, a pass with two statements, one with three of which the last leaves the loop, and `writeln`
+abbrev pub UntilTwoMeans : Type 0
+UntilTwoMeans = meaning_of until_two [] [] 10000000 ≡ told (codes "2\n") 10 (Exited (pos 0))
 
 -- a call of a routine does what its statements do
 abbrev pub GreetingCalled : Type 0
