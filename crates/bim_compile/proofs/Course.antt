@@ -9,7 +9,7 @@ use Rattle.bim_code.specs.Code.{instruction_at}
 use Rattle.mos_meaning.specs.State.{State, Stop, Exited, beginning}
 use Rattle.mos_meaning.specs.Syntax.{Block, variables_of}
 use Rattle.mos_meaning.specs.Effects.{Done, Goes, Broke, Continues, Ends, effects_of}
-use Rattle.mos_meaning.specs.Meaning.{told, told_done, defaults, meaning_of}
+use Rattle.mos_meaning.specs.Meaning.{bodies_of, routines, told, told_done, defaults, meaning_of}
 use Rattle.mos_meaning.specs.Machine.{Machine, At, Over, start, most_steps, told_machine}
 use Rattle.mos_meaning.specs.MachineLaws.{OverInTime, TicksFall, OneEnd}
 use Rattle.bim_compile.specs.Compiled.{block_code, block_end, image_of}
@@ -52,15 +52,16 @@ comes : TicksFall → (model : Block) (replies : List Reply) (budget : ℕ) → 
 comes fall model replies budget built =
     let image = image_of model in
     let names = variables_of model in
+    let call = routines (bodies_of model) names budget in
     let s = beginning (defaults (length names)) replies budget in
     let end : ℕ = block_end 0 model in
     let cuts = cut_at image.code 0 end (block_code names 0 0 end end model) (PushInt (pos 0) ∷ End ∷ []) (block_after names 0 0 end end model) (whole image.code) in
-    let last = landed image budget end (effects_of names model s) cuts.1.0 cuts.1.1.0 in
-    let runs = block_runs fall image names model 0 0 end end built cuts.0 (all_texts image.constants) s in (
+    let last = landed image budget end (effects_of call names model s) cuts.1.0 cuts.1.1.0 in
+    let runs = block_runs fall call image names model 0 0 end end built cuts.0 (all_texts image.constants) s in (
       last.0,
       last.1,
       subst (λ (from : Machine). Leads image from (Over last.0 last.1)) (sym (begins model replies budget))
-          (chain image (At 0 idle s) (land end end end (effects_of names model s)) (Over last.0 last.1) runs last.2),
+          (chain image (At 0 idle s) (land end end end (effects_of call names model s)) (Over last.0 last.1) runs last.2),
       last.3,
     )
 

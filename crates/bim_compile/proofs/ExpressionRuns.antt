@@ -12,7 +12,7 @@ use Rattle.bim_code.specs.Code.{instruction_at}
 use Rattle.mos_meaning.specs.State.{State, Got, Gave, Halts, Stuck}
 use Rattle.mos_meaning.specs.Values.{sum_of, difference_of, compared, limited}
 use Rattle.mos_meaning.specs.Syntax.{Operator, plus, minus, compare, Expression, number, text, truth, name, apply, unbuilt}
-use Rattle.mos_meaning.specs.Effects.{place_of, give, or_fault, or_stuck, combined, told_truth, applied, value_of}
+use Rattle.mos_meaning.specs.Effects.{place_of, give, or_fault, or_stuck, combined, told_truth, applied, Routine, value_of}
 use Rattle.mos_meaning.specs.Machine.{Machine, At, Over, Frame, On, pushed, act, target, settle, on_some, on_integers, on_compared, or_fault as act_or_fault}
 use Rattle.bim_compile.specs.Compiled.{texts_in, operator_code, expression_code, expression_end}
 use Rattle.bim_compile.specs.Built.{IsBuilt}
@@ -137,26 +137,26 @@ two image names k address a b i h t =
     let texts = text_parts image.constants k (texts_in a) (texts_in b) t in
     record { left = cuts.0; right = ends.0; operator = ends.1.0; left_texts = texts.0; right_texts = texts.1 }
 
-pub expression_runs : (image : Image) (names : List (List ℕ)) (e : Expression) (k address : ℕ)
+pub expression_runs : (call : Routine) (image : Image) (names : List (List ℕ)) (e : Expression) (k address : ℕ)
     → IsBuilt e → HasAt image.code address (expression_code names k e) → HasTexts image.constants k (texts_in e)
-    → Computes image address (expression_end address e) (value_of names e)
-expression_runs image names (number n) k address built h t f s =
+    → Computes image address (expression_end address e) (value_of call names e)
+expression_runs call image names (number n) k address built h t f s =
     one_gives image (PushInt n) address (address + 5) f s (Gave (Int n) s) h.0 refl
-expression_runs image names (truth b) k address built h t f s =
+expression_runs call image names (truth b) k address built h t f s =
     one_gives image (PushBool b) address (address + 5) f s (Gave (Truth b) s) h.0 refl
-expression_runs image names (text t) k address built h held f s =
+expression_runs call image names (text t) k address built h held f s =
     one_gives image (PushText k) address (address + 5) f s (or_fault TooBig (limited t) Str s) h.0
     (ap (λ found. settle (on_some found (λ text. act_or_fault TooBig (limited text) (λ t. On (pushed (Str t) f) s.memory))) (address + 5) (address + 5) s) held.0
     ∙ texted (address + 5) (address + 5) f (limited t) s)
-expression_runs image names (name n) k address built h t f s =
+expression_runs call image names (name n) k address built h t f s =
     one_gives image (LoadGlobal (place_of n names)) address (address + 5) f s _ h.0
     (loads (address + 5) (address + 5) f (slice_get s.memory.store (place_of n names)) s)
-expression_runs image names (apply operator a b) k address built h t f s =
+expression_runs call image names (apply operator a b) k address built h t f s =
     let w = two image names k address a b (operator_code operator) h t in
     let l : ℕ = k + length (texts_in a) in
     let last : ℕ = expression_end (expression_end address a) b in
     two_run image (operator_code operator) last (last + 1) (applied operator) (applies image operator last) address (expression_end address a)
-    (value_of names a) (value_of names b)
-    (expression_runs image names a k address built.0 w.left w.left_texts)
-    (expression_runs image names b l (expression_end address a) built.1 w.right w.right_texts) w.operator f s
-expression_runs image names unbuilt k address built h t f s = absurd built
+    (value_of call names a) (value_of call names b)
+    (expression_runs call image names a k address built.0 w.left w.left_texts)
+    (expression_runs call image names b l (expression_end address a) built.1 w.right w.right_texts) w.operator f s
+expression_runs call image names unbuilt k address built h t f s = absurd built

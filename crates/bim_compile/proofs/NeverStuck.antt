@@ -16,8 +16,8 @@ use Rattle.bim_code.specs.declared.instruction.Comparison.TheVariants.{Equal, No
 use Rattle.mos_meaning.specs.State.{State, Stop, Failed, Spent, Stuck, Got, Gave, Halts, ticked}
 use Rattle.mos_meaning.specs.Values.{limited, shown, line_end, sum_of, difference_of, compared}
 use Rattle.mos_meaning.specs.Syntax.{plus, minus, compare, Expression, number, text, truth, name, apply, unbuilt, Arguments, nothing, one_more, Change, Effect, assign, change, write, choose, loop, group, leave, skip, unbuilt_effect, Branches, otherwise, branch, Block, done, first, has_name, variables_of}
-use Rattle.mos_meaning.specs.Effects.{Done, Goes, Broke, Continues, Ends, give, or_fault, or_stuck, combined, told_truth, change_operator, value_of, place_of, do_with, then_do, do_ticked, do_shown, do_loaded, do_truth, put, put_written, change_by, after_pass, passes, write_all, effect_of, branch_of, effects_of}
-use Rattle.mos_meaning.specs.Meaning.{told_done}
+use Rattle.mos_meaning.specs.Effects.{Done, Goes, Broke, Continues, Ends, give, or_fault, or_stuck, combined, told_truth, change_operator, Routine, value_of, place_of, do_with, then_do, do_ticked, do_shown, do_loaded, do_truth, put, put_written, change_by, after_pass, passes, write_all, effect_of, branch_of, effects_of}
+use Rattle.mos_meaning.specs.Meaning.{bodies_of, routines, told_done}
 use Rattle.bim_compile.specs.Working.{IsNumeric, IsShown, IsCondition, AreShown, Works, BranchesWork, AllWork}
 use Rattle.bim_compile.specs.Means.{NeverStuck}
 
@@ -61,18 +61,18 @@ fine_combined operator b s _ (gives x) k = second (b s) k
     second _ (halts stop after n) = halts stop after n
     second _ (gives y) = fine_fault Overflow (operator x y) s
 
-fine_value : (names : List (List ℕ)) (e : Expression) (s : State) → Sound names s → IsNumeric names e → FineValue s (value_of names e s)
-fine_value names (number n) s sound h = gives n
-fine_value names (name n) s sound h =
+fine_value : (call : Routine) (names : List (List ℕ)) (e : Expression) (s : State) → Sound names s → IsNumeric names e → FineValue s (value_of call names e s)
+fine_value call names (number n) s sound h = gives n
+fine_value call names (name n) s sound h =
     let place = place_within n names h in
     let within : place_of n names < length s.memory.store = omega (arith, sound.wide) in
     fine_loaded _ s _ (slice_get-get_or s.memory.store (place_of n names) (Int (pos 0)) within) (sound.ints (place_of n names) (Int (pos 0)) within)
-fine_value names (apply plus a b) s sound h = fine_combined sum_of (value_of names b) s (value_of names a s) (fine_value names a s sound h.0) (fine_value names b s sound h.1)
-fine_value names (apply minus a b) s sound h = fine_combined difference_of (value_of names b) s (value_of names a s) (fine_value names a s sound h.0) (fine_value names b s sound h.1)
-fine_value names (apply (compare how) a b) s sound h = absurd h
-fine_value names (text t) s sound h = absurd h
-fine_value names (truth b) s sound h = absurd h
-fine_value names unbuilt s sound h = absurd h
+fine_value call names (apply plus a b) s sound h = fine_combined sum_of (value_of call names b) s (value_of call names a s) (fine_value call names a s sound h.0) (fine_value call names b s sound h.1)
+fine_value call names (apply minus a b) s sound h = fine_combined difference_of (value_of call names b) s (value_of call names a s) (fine_value call names a s sound h.0) (fine_value call names b s sound h.1)
+fine_value call names (apply (compare how) a b) s sound h = absurd h
+fine_value call names (text t) s sound h = absurd h
+fine_value call names (truth b) s sound h = absurd h
+fine_value call names unbuilt s sound h = absurd h
 
 -- a truth, the state as it was, or a stop for a reason
 data FineTruth (s : State) : Got → Type 0 where
@@ -87,23 +87,23 @@ fine_compared AtMost m n s = tells _
 fine_compared Greater m n s = tells _
 fine_compared AtLeast m n s = tells _
 
-fine_condition : (names : List (List ℕ)) (e : Expression) (s : State) → Sound names s → IsCondition names e → FineTruth s (value_of names e s)
-fine_condition names (truth b) s sound h = tells b
-fine_condition names (apply (compare how) a b) s sound h = first_is (value_of names a s) (fine_value names a s sound h.0)
+fine_condition : (call : Routine) (names : List (List ℕ)) (e : Expression) (s : State) → Sound names s → IsCondition names e → FineTruth s (value_of call names e s)
+fine_condition call names (truth b) s sound h = tells b
+fine_condition call names (apply (compare how) a b) s sound h = first_is (value_of call names a s) (fine_value call names a s sound h.0)
   where
     second_is : (m : ℤ) (got : Got) → FineValue s got → FineTruth s (give got (λ y s2. told_truth (compared how (Int m) y) s2))
     second_is m _ (gives n) = fine_compared how m n s
     second_is m _ (halts stop after why) = fails stop after why
 
-    first_is : (got : Got) → FineValue s got → FineTruth s (give got (λ x s1. give (value_of names b s1) (λ y s2. told_truth (compared how x y) s2)))
-    first_is _ (gives m) = second_is m (value_of names b s) (fine_value names b s sound h.1)
+    first_is : (got : Got) → FineValue s got → FineTruth s (give got (λ x s1. give (value_of call names b s1) (λ y s2. told_truth (compared how x y) s2)))
+    first_is _ (gives m) = second_is m (value_of call names b s) (fine_value call names b s sound h.1)
     first_is _ (halts stop after why) = fails stop after why
-fine_condition names (apply plus a b) s sound h = absurd h
-fine_condition names (apply minus a b) s sound h = absurd h
-fine_condition names (number n) s sound h = absurd h
-fine_condition names (name n) s sound h = absurd h
-fine_condition names (text t) s sound h = absurd h
-fine_condition names unbuilt s sound h = absurd h
+fine_condition call names (apply plus a b) s sound h = absurd h
+fine_condition call names (apply minus a b) s sound h = absurd h
+fine_condition call names (number n) s sound h = absurd h
+fine_condition call names (name n) s sound h = absurd h
+fine_condition call names (text t) s sound h = absurd h
+fine_condition call names unbuilt s sound h = absurd h
 
 -- statements that leave integers in all variables and no more ticks than these, or stop the run for a reason
 data Fine (names : List (List ℕ)) (most : ℕ) : Done → Type 0 where
@@ -177,21 +177,21 @@ fine_change names most place how n s within sound less =
     loaded found (Model m) e h = absurd h
     loaded found (Event a b) e h = absurd h
 
-fine_argument : (names : List (List ℕ)) (most : ℕ) (e : Expression) (s : State) (go : Scalar → State → Done) → Sound names s → IsShown names e
-    → ((value : Scalar) → Fine names most (go value s)) → Fine names most (do_with (value_of names e s) go)
-fine_argument names most (text t) s go sound h k = fine_text names most (limited t) s go (λ u. k (Str u))
-fine_argument names most (number n) s go sound h k = k (Int n)
-fine_argument names most (name n) s go sound h k = fine_with names most s (value_of names (name n) s) go (fine_value names (name n) s sound h) (λ i. k (Int i))
-fine_argument names most (apply operator a b) s go sound h k =
-    fine_with names most s (value_of names (apply operator a b) s) go (fine_value names (apply operator a b) s sound h) (λ i. k (Int i))
-fine_argument names most (truth b) s go sound h k = absurd h
-fine_argument names most unbuilt s go sound h k = absurd h
+fine_argument : (call : Routine) (names : List (List ℕ)) (most : ℕ) (e : Expression) (s : State) (go : Scalar → State → Done) → Sound names s → IsShown names e
+    → ((value : Scalar) → Fine names most (go value s)) → Fine names most (do_with (value_of call names e s) go)
+fine_argument call names most (text t) s go sound h k = fine_text names most (limited t) s go (λ u. k (Str u))
+fine_argument call names most (number n) s go sound h k = k (Int n)
+fine_argument call names most (name n) s go sound h k = fine_with names most s (value_of call names (name n) s) go (fine_value call names (name n) s sound h) (λ i. k (Int i))
+fine_argument call names most (apply operator a b) s go sound h k =
+    fine_with names most s (value_of call names (apply operator a b) s) go (fine_value call names (apply operator a b) s sound h) (λ i. k (Int i))
+fine_argument call names most (truth b) s go sound h k = absurd h
+fine_argument call names most unbuilt s go sound h k = absurd h
 
-fine_all : (names : List (List ℕ)) (most : ℕ) (newline : Bool) (all : Arguments) (held : List ℕ) (s : State) → Sound names s → AreShown names all → s.ticks ≤ most
-    → Fine names most (write_all names newline all held s)
-fine_all names most newline nothing held s sound h less = fine_written names most s (held ++ line_end newline) _ sound less
-fine_all names most newline (one_more e es) held s sound h less =
-    fine_argument names most e s _ sound h.0 (λ value. fine_shown names most (shown value) s _ (λ t. fine_all names most newline es (held ++ t) s sound h.1 less))
+fine_all : (call : Routine) (names : List (List ℕ)) (most : ℕ) (newline : Bool) (all : Arguments) (held : List ℕ) (s : State) → Sound names s → AreShown names all → s.ticks ≤ most
+    → Fine names most (write_all call names newline all held s)
+fine_all call names most newline nothing held s sound h less = fine_written names most s (held ++ line_end newline) _ sound less
+fine_all call names most newline (one_more e es) held s sound h less =
+    fine_argument call names most e s _ sound h.0 (λ value. fine_shown names most (shown value) s _ (λ t. fine_all call names most newline es (held ++ t) s sound h.1 less))
 
 -- one way or the other
 fine_truth : (names : List (List ℕ)) (most : ℕ) (s : State) (got : Got) (when_true when_false : State → Done) → FineTruth s got
@@ -224,46 +224,49 @@ fine_passes names test body tests does (suc n) most s sound fewer less =
     again later few more _ (ends stop s3 why) = ends stop s3 why
 
 mutual
-  fine_effect : (names : List (List ℕ)) (e : Effect) → Works names e → IsFineBody names (effect_of names e)
-  fine_effect names (assign n e) h most s sound less =
+  fine_effect : (call : Routine) (names : List (List ℕ)) (e : Effect) → Works names e → IsFineBody names (effect_of call names e)
+  fine_effect call names (assign n e) h most s sound less =
       fine_tick names most s.ticks s _ sound (λ s1 sound1 few.
-      fine_with names most s1 (value_of names e s1) _ (fine_value names e s1 sound1 h.1) (λ i.
+      fine_with names most s1 (value_of call names e s1) _ (fine_value call names e s1 sound1 h.1) (λ i.
       fine_put names most (place_of n names) i s1 (place_within n names h.0) sound1 (omega (arith, few, less))))
-  fine_effect names (change how n e) h most s sound less =
+  fine_effect call names (change how n e) h most s sound less =
       fine_tick names most s.ticks s _ sound (λ s1 sound1 few.
-      fine_with names most s1 (value_of names e s1) _ (fine_value names e s1 sound1 h.1) (λ i.
+      fine_with names most s1 (value_of call names e s1) _ (fine_value call names e s1 sound1 h.1) (λ i.
       fine_change names most (place_of n names) how i s1 (place_within n names h.0) sound1 (omega (arith, few, less))))
-  fine_effect names (write newline all) h most s sound less =
-      fine_tick names most s.ticks s _ sound (λ s1 sound1 few. fine_all names most newline all [] s1 sound1 h (omega (arith, few, less)))
-  fine_effect names (choose all) h most s sound less =
-      fine_tick names most s.ticks s _ sound (λ s1 sound1 few. fine_branches names all h most s1 sound1 (omega (arith, few, less)))
-  fine_effect names (loop e body) h most s sound less =
+  fine_effect call names (write newline all) h most s sound less =
+      fine_tick names most s.ticks s _ sound (λ s1 sound1 few. fine_all call names most newline all [] s1 sound1 h (omega (arith, few, less)))
+  fine_effect call names (choose all) h most s sound less =
+      fine_tick names most s.ticks s _ sound (λ s1 sound1 few. fine_branches call names all h most s1 sound1 (omega (arith, few, less)))
+  fine_effect call names (loop e body) h most s sound less =
       fine_tick names most s.ticks s _ sound (λ s1 sound1 few.
-      fine_passes names (value_of names e) (effect_of names body) (λ s2 sound2. fine_condition names e s2 sound2 h.0) (fine_effect names body h.1)
+      fine_passes names (value_of call names e) (effect_of call names body) (λ s2 sound2. fine_condition call names e s2 sound2 h.0) (fine_effect call names body h.1)
       (suc s1.ticks) most s1 sound1 (omega arith) (omega (arith, few, less)))
-  fine_effect names (group all) h most s sound less = fine_block names all h most s sound less
-  fine_effect names leave h most s sound less = fine_tick names most s.ticks s _ sound (λ s1 sound1 few. broke s1 sound1 (omega (arith, few, less)))
-  fine_effect names skip h most s sound less = fine_tick names most s.ticks s _ sound (λ s1 sound1 few. continues s1 sound1 (omega (arith, few, less)))
-  fine_effect names unbuilt_effect h most s sound less = absurd h
+  fine_effect call names (group all) h most s sound less = fine_block call names all h most s sound less
+  fine_effect call names leave h most s sound less = fine_tick names most s.ticks s _ sound (λ s1 sound1 few. broke s1 sound1 (omega (arith, few, less)))
+  fine_effect call names skip h most s sound less = fine_tick names most s.ticks s _ sound (λ s1 sound1 few. continues s1 sound1 (omega (arith, few, less)))
+  fine_effect call names unbuilt_effect h most s sound less = absurd h
 
-  fine_branches : (names : List (List ℕ)) (all : Branches) → BranchesWork names all → IsFineBody names (branch_of names all)
-  fine_branches names (otherwise all) h most s sound less = fine_block names all h most s sound less
-  fine_branches names (branch e all rest) h most s sound less =
-      fine_truth names most s (value_of names e s) (effects_of names all) (branch_of names rest) (fine_condition names e s sound h.0)
-      (fine_block names all h.1 most s sound less) (fine_branches names rest h.2 most s sound less)
+  fine_branches : (call : Routine) (names : List (List ℕ)) (all : Branches) → BranchesWork names all → IsFineBody names (branch_of call names all)
+  fine_branches call names (otherwise all) h most s sound less = fine_block call names all h most s sound less
+  fine_branches call names (branch e all rest) h most s sound less =
+      fine_truth names most s (value_of call names e s) (effects_of call names all) (branch_of call names rest) (fine_condition call names e s sound h.0)
+      (fine_block call names all h.1 most s sound less) (fine_branches call names rest h.2 most s sound less)
 
-  fine_block : (names : List (List ℕ)) (all : Block) → AllWork names all → IsFineBody names (effects_of names all)
-  fine_block names done h most s sound less = goes s sound less
-  fine_block names (first e rest) h most s sound less =
-      fine_then names most (effect_of names e s) _ (fine_effect names e h.0 most s sound less) (λ s1 sound1 less1. fine_block names rest h.1 most s1 sound1 less1)
+  fine_block : (call : Routine) (names : List (List ℕ)) (all : Block) → AllWork names all → IsFineBody names (effects_of call names all)
+  fine_block call names done h most s sound less = goes s sound less
+  fine_block call names (first e rest) h most s sound less =
+      fine_then names most (effect_of call names e s) _ (fine_effect call names e h.0 most s sound less) (λ s1 sound1 less1. fine_block call names rest h.1 most s1 sound1 less1)
 
 -- what it means is not to be stuck
 pub never_stuck : (model : Block) → AllWork (variables_of model) model → NeverStuck model
 never_stuck model h (byte ∷ params) replies budget = λ e. cc
-never_stuck model h [] replies budget = stopped (effects_of (variables_of model) model _) (fine_block (variables_of model) model h budget _ (record {
-  wide = length-replicate (length (variables_of model)) (Int (pos 0));
-  ints = All-replicate IsInt (length (variables_of model)) (Int (pos 0)) tt;
-}) (omega arith))
+never_stuck model h [] replies budget =
+    let names = variables_of model in
+    let call = routines (bodies_of model) names budget in
+    stopped (effects_of call names model _) (fine_block call names model h budget _ (record {
+      wide = length-replicate (length names) (Int (pos 0));
+      ints = All-replicate IsInt (length names) (Int (pos 0)) tt;
+    }) (omega arith))
   where
     stopped : (d : Done) → Fine (variables_of model) budget d → (told_done budget d).stop ≢ Stuck
     stopped _ (goes s sound less) = λ e. cc

@@ -1,11 +1,11 @@
 -- Worked examples: what small models are compiled to, and what their machine does.
 
-use Rattle.std.specs.Prelude.{◌≡◌, [], ◌∷◌, pos, codes}
-use Rattle.bim_code.specs.declared.instruction.Comparison.TheVariants.{Greater}
-use Rattle.bim_code.specs.declared.instruction.Instruction.TheVariants.{Tick, PushInt, LoadGlobal, StoreGlobal, Swap, Subtract, Compare, Jump, JumpIf, End}
+use Rattle.std.specs.Prelude.{◌≡◌, [], ◌∷◌, pos, true, false, codes}
+use Rattle.bim_code.specs.declared.instruction.Comparison.TheVariants.{Greater, AtLeast}
+use Rattle.bim_code.specs.declared.instruction.Instruction.TheVariants.{Tick, PushInt, PushBool, PushText, LoadGlobal, StoreGlobal, Swap, Add, Subtract, Compare, Jump, JumpIf, JumpNot, Show, Write, Line, End}
 use Rattle.mos_meaning.specs.State.{Exited, Spent}
 use Rattle.mos_meaning.specs.Machine.{course_of}
-use Rattle.mos_meaning.specs.Examples.{hello, hello_image, down, endless, told}
+use Rattle.mos_meaning.specs.Examples.{hello, hello_image, down, endless, last_way, until_two, told}
 use Rattle.bim_compile.specs.Compiled.{image_of}
 
 -- the model that writes hello
@@ -21,6 +21,32 @@ DownCode = (image_of down).code ≡
     ∷ LoadGlobal 0 ∷ PushInt (pos 0) ∷ Compare Greater ∷ JumpIf 17
     ∷ PushInt (pos 0) ∷ End ∷ []
 
+-- if(1>2) then write("a") elif(false) then write("b") else write("c") end-if: each condition leads on to the next
+-- one, and behind each block but the last a jump leads out
+abbrev pub LastWayCode : Type 0
+LastWayCode = (image_of last_way).code ≡
+    Tick ∷ PushInt (pos 1) ∷ PushInt (pos 2) ∷ Compare Greater ∷ JumpNot 36
+    ∷ Tick ∷ PushText 0 ∷ Show ∷ Write ∷ PushBool false ∷ Line ∷ Jump 79
+    ∷ PushBool false ∷ JumpNot 65
+    ∷ Tick ∷ PushText 1 ∷ Show ∷ Write ∷ PushBool false ∷ Line ∷ Jump 79
+    ∷ Tick ∷ PushText 2 ∷ Show ∷ Write ∷ PushBool false ∷ Line
+    ∷ PushInt (pos 0) ∷ End ∷ []
+
+-- x:=0, while(true) do x+=1 if(x>=2) then break end-if end-do, writeln(x): the `break` leads behind the test
+abbrev pub UntilTwoCode : Type 0
+UntilTwoCode = (image_of until_two).code ≡
+    Tick ∷ PushInt (pos 0) ∷ StoreGlobal 0
+    ∷ Tick ∷ Jump 64
+    ∷ Tick ∷ Tick ∷ PushInt (pos 1) ∷ LoadGlobal 0 ∷ Swap ∷ Add ∷ StoreGlobal 0
+    ∷ Tick ∷ LoadGlobal 0 ∷ PushInt (pos 2) ∷ Compare AtLeast ∷ JumpNot 64
+    ∷ Tick ∷ Jump 74 ∷ Jump 64
+    ∷ PushBool true ∷ JumpIf 17
+    ∷ Tick ∷ LoadGlobal 0 ∷ Show ∷ Write ∷ PushBool true ∷ Line
+    ∷ PushInt (pos 0) ∷ End ∷ []
+
+abbrev pub LastWayCourse : Type 0
+LastWayCourse = course_of (image_of last_way) [] [] 10000000 ≡ record { outcome = told (codes "c") 2 (Exited (pos 0)); steps = 15 }
+
 abbrev pub DownCourse : Type 0
 DownCourse = course_of (image_of down) [] [] 10000000 ≡ record { outcome = told [] 8 (Exited (pos 0)); steps = 44 }
 
@@ -30,3 +56,6 @@ DownSpent = course_of (image_of down) [] [] 7 ≡ record { outcome = told [] 7 S
 -- write("a") and while(true) next
 abbrev pub EndlessSpent : Type 0
 EndlessSpent = course_of (image_of endless) [] [] 10 ≡ record { outcome = told (codes "a") 10 Spent; steps = 31 }
+
+abbrev pub UntilTwoCourse : Type 0
+UntilTwoCourse = course_of (image_of until_two) [] [] 10000000 ≡ record { outcome = told (codes "2\n") 10 (Exited (pos 0)); steps = 43 }

@@ -13,11 +13,12 @@ ghost use Rattle.bim_compile.specs.Working.{AllWork};
 
 use crate::draft::{Draft, Exits};
 use crate::ends::end_of_tops;
-use crate::names::variables;
+use crate::names::note_tops;
 use crate::statements::emit_tops;
 use bim_code::{Image, ImageType, Instruction};
 use mos_meaning::machine_laws;
-use mos_text::{NoMemory, Text};
+use mos_names::Names;
+use mos_text::NoMemory;
 use mos_tree::Tree;
 use sqlite_items::Items;
 use std::alloc::Global;
@@ -53,17 +54,18 @@ fn build(alloc: Global, tree: &Tree) -> Result<Image, NoMemory>
     ensures { IfOk result (λ image. image ≡ image_of (statements_of tree.now)) }
 {
     let tops = tree.tops.as_slice();
-    let names = variables(alloc, tops)?;
+    let mut names = Names::new(alloc);
+    note_tops(&mut names, tops)?;
     let end = end_of_tops(0, tops);
     let mut draft = Draft::new(alloc);
     let exits = Exits {
         out: end,
         next: end,
     };
-    emit_tops(alloc, &mut draft, names.as_slice(), exits, tops)?;
+    emit_tops(alloc, &mut draft, &names, exits, tops)?;
     draft.put(Instruction::PushInt(0))?;
     draft.put(Instruction::End)?;
-    let types = types(alloc, names.as_slice())?;
+    let types = types(alloc, &names)?;
     let globals = globals(alloc, names.len())?;
     let Draft {
         constants,
@@ -82,7 +84,7 @@ fn build(alloc: Global, tree: &Tree) -> Result<Image, NoMemory>
 }
 
 /// The types that the variables need: the integer, where there is one.
-fn types(alloc: Global, names: &[Text]) -> Result<Items<ImageType>, NoMemory>
+fn types(alloc: Global, names: &Names<'_>) -> Result<Items<ImageType>, NoMemory>
     ensures { IfOk result (λ types. types ≡ types_of names.now) }
 {
     let mut types = Items::new(alloc);

@@ -1,10 +1,17 @@
 //! Worked examples of the definitions: functions that do nothing, whose contracts are the examples.
-ghost use Rattle.bim_compile.specs.Examples.{HelloCompiled, DownCode, DownCourse, DownSpent, EndlessSpent};
+ghost use Rattle.bim_compile.specs.Examples.{HelloCompiled, DownCode, LastWayCode, UntilTwoCode, LastWayCourse, DownCourse, DownSpent, EndlessSpent, UntilTwoCourse};
 
 /// What small models are compiled to.
 pub fn compiled_models()
     ensures hello { HelloCompiled }
     ensures down { DownCode }
+    ensures last_way { LastWayCode }
+    ensures until_two { UntilTwoCode }
+{}
+
+/// What the machine does with the image of an `if`.
+pub fn course_of_a_choice()
+    ensures { LastWayCourse }
 {}
 
 /// What the machine does with the images of loops.
@@ -12,4 +19,5 @@ pub fn courses_of_loops()
     ensures down { DownCourse }
     ensures spent { DownSpent }
     ensures endless { EndlessSpent }
+    ensures until_two { UntilTwoCourse }
 {}

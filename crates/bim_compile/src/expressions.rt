@@ -6,8 +6,8 @@ ghost use Rattle.bim_compile.specs.Compiled.{expression_code, expression_end, op
 ghost use Rattle.bim_compile.specs.Sizes.{size_of};
 
 use crate::draft::Draft;
-use crate::names::place;
 use bim_code::{Comparison, Instruction};
+use mos_names::Names;
 use mos_text::{NoMemory, Text};
 use mos_tree::{BinaryOperator, Expr};
 use std::alloc::Global;
@@ -16,7 +16,7 @@ use std::alloc::Global;
 pub(crate) fn emit_expression(
     alloc: Global,
     draft: &mut Draft,
-    names: &[Text],
+    names: &Names<'_>,
     written: &Expr,
 ) -> Result<(), NoMemory>
     requires built { IsBuilt (expression written.now) }
@@ -32,7 +32,7 @@ pub(crate) fn emit_expression(
         Expr::Integer(number) => draft.put(Instruction::PushInt(*number)),
         Expr::Truth(truth) => draft.put(Instruction::PushBool(*truth)),
         Expr::Text(text) => emit_text(alloc, draft, text),
-        Expr::Name(name) => draft.put(Instruction::LoadGlobal(place(names, name) as u32)),
+        Expr::Name(name) => draft.put(Instruction::LoadGlobal(names.place(name) as u32)),
         Expr::Binary(operator, left, right) => {
             emit_expression(alloc, draft, names, left.get())?;
             emit_expression(alloc, draft, names, right.get())?;

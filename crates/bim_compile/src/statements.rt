@@ -9,9 +9,9 @@ ghost use Rattle.bim_compile.specs.Sizes.{size_of, size_of_all, size_of_effect, 
 use crate::draft::{Draft, Exits};
 use crate::ends::{end_of_block, end_of_expression, end_of_statement};
 use crate::expressions::emit_expression;
-use crate::names::place;
 use bim_code::Instruction;
-use mos_text::{NoMemory, Text};
+use mos_names::Names;
+use mos_text::NoMemory;
 use mos_tree::{Assignment, Expr, Reference, Statement, Top};
 use std::alloc::Global;
 
@@ -19,7 +19,7 @@ use std::alloc::Global;
 pub(crate) fn emit_tops(
     alloc: Global,
     draft: &mut Draft,
-    names: &[Text],
+    names: &Names<'_>,
     exits: Exits,
     tops: &[Top],
 ) -> Result<(), NoMemory>
@@ -41,7 +41,7 @@ pub(crate) fn emit_tops(
 fn emit_top(
     alloc: Global,
     draft: &mut Draft,
-    names: &[Text],
+    names: &Names<'_>,
     exits: Exits,
     top: &Top,
 ) -> Result<(), NoMemory>
@@ -64,7 +64,7 @@ fn emit_top(
 fn emit_statement(
     alloc: Global,
     draft: &mut Draft,
-    names: &[Text],
+    names: &Names<'_>,
     exits: Exits,
     statement: &Statement,
 ) -> Result<(), NoMemory>
@@ -124,7 +124,7 @@ fn emit_exit(draft: &mut Draft, to: u32) -> Result<(), NoMemory>
 fn emit_branches(
     alloc: Global,
     draft: &mut Draft,
-    names: &[Text],
+    names: &Names<'_>,
     end: u32,
     exits: Exits,
     statement: &Statement,
@@ -162,7 +162,7 @@ fn emit_branches(
 fn emit_loop(
     alloc: Global,
     draft: &mut Draft,
-    names: &[Text],
+    names: &Names<'_>,
     exits: Exits,
     statement: &Statement,
 ) -> Result<(), NoMemory>
@@ -208,7 +208,7 @@ fn emit_first_test(draft: &mut Draft, test: u32) -> Result<(), NoMemory>
 fn emit_test(
     alloc: Global,
     draft: &mut Draft,
-    names: &[Text],
+    names: &Names<'_>,
     condition: &Expr,
     pass: u32,
 ) -> Result<(), NoMemory>
@@ -229,7 +229,7 @@ fn emit_test(
 fn emit_block(
     alloc: Global,
     draft: &mut Draft,
-    names: &[Text],
+    names: &Names<'_>,
     exits: Exits,
     all: &[Statement],
 ) -> Result<(), NoMemory>
@@ -252,7 +252,7 @@ fn emit_block(
 fn emit_write(
     alloc: Global,
     draft: &mut Draft,
-    names: &[Text],
+    names: &Names<'_>,
     newline: bool,
     all: &[Expr],
 ) -> Result<(), NoMemory>
@@ -274,7 +274,7 @@ fn emit_write(
 fn emit_arguments(
     alloc: Global,
     draft: &mut Draft,
-    names: &[Text],
+    names: &Names<'_>,
     all: &[Expr],
 ) -> Result<(), NoMemory>
     requires built { AreBuilt (arguments (map expression all.now)) }
@@ -298,7 +298,7 @@ fn emit_arguments(
 fn emit_assignment(
     alloc: Global,
     draft: &mut Draft,
-    names: &[Text],
+    names: &Names<'_>,
     target: &Reference,
     operator: Assignment,
     value: &Expr,
@@ -315,7 +315,7 @@ fn emit_assignment(
     let Reference::Name(name) = target else {
         unreachable!()
     };
-    let slot = place(names, name) as u32;
+    let slot = names.place(name) as u32;
     draft.put(Instruction::Tick)?;
     emit_expression(alloc, draft, names, value)?;
     match operator {

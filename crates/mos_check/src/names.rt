@@ -1,9 +1,9 @@
 //! The first piece that uses a name without a value, or leaves or continues a loop where there is none.
 ghost use Rattle.std.specs.Prelude.{◌≡◌, IfOk, OnOk, IfErr, true, false, map, option_copied};
-ghost use Rattle.mos_meaning.specs.Syntax.{with_name};
 ghost use Rattle.mos_check.specs.Names.{Knows, Says, check_of, check_tops, check_top, check_statement, check_all, or_other, unknown_in, unknown_target, uses, with_target};
 
-use crate::unknown::{has, unknown_in, unknown_in_all, unknown_target};
+use crate::unknown::{unknown_in, unknown_in_all, unknown_target};
+use mos_names::Names;
 use mos_text::{Kind, NoMemory, Text};
 use mos_tree::{Assignment, Expr, Reference, Statement, Top, Tree};
 use sqlite_items::Items;
@@ -34,12 +34,12 @@ pub fn check(alloc: Global, tree: &Tree) -> Result<Items<Text>, CheckFault>
     ensures names { IfOk result (λ names. check_of tree.now ≡ Knows names) }
     ensures fault { IfErr result (Says (check_of tree.now)) }
 {
-    let mut known = Items::new(alloc);
+    let mut known = Names::new(alloc);
     check_tops(alloc, &mut known, tree.tops.as_slice())?;
-    Ok(known)
+    Ok(known.texts(alloc)?)
 }
 
-fn check_tops(alloc: Global, known: &mut Items<Text>, tops: &[Top]) -> Result<(), CheckFault>
+fn check_tops<'a>(alloc: Global, known: &mut Names<'a>, tops: &'a [Top]) -> Result<(), CheckFault>
     ensures names { OnOk result (check_tops tops.now known.old ≡ Knows known.new) }
     ensures fault { IfErr result (Says (check_tops tops.now known.old)) }
 {
@@ -49,7 +49,7 @@ fn check_tops(alloc: Global, known: &mut Items<Text>, tops: &[Top]) -> Result<()
     Ok(())
 }
 
-fn check_top(alloc: Global, known: &mut Items<Text>, top: &Top) -> Result<(), CheckFault>
+fn check_top<'a>(alloc: Global, known: &mut Names<'a>, top: &'a Top) -> Result<(), CheckFault>
     ensures names { OnOk result (check_top top.now known.old ≡ Knows known.new) }
     ensures fault { IfErr result (Says (check_top top.now known.old)) }
 {
@@ -60,11 +60,11 @@ fn check_top(alloc: Global, known: &mut Items<Text>, top: &Top) -> Result<(), Ch
 }
 
 #[cycle(checks)]
-fn check_statement(
+fn check_statement<'a>(
     alloc: Global,
-    known: &mut Items<Text>,
+    known: &mut Names<'a>,
     inside: bool,
-    statement: &Statement,
+    statement: &'a Statement,
 ) -> Result<(), CheckFault>
     ensures names { OnOk result (check_statement statement.now inside known.old ≡ Knows known.new) }
     ensures fault { IfErr result (Says (check_statement statement.now inside known.old)) }
@@ -76,9 +76,9 @@ fn check_statement(
             operator,
             value,
         } => {
-            let unknown = unknown_in_assignment(known.as_slice(), target, *operator, value);
-            refuse(alloc, *line, known.as_slice(), unknown)?;
-            note_target(alloc, known, target, *operator)?;
+            let unknown = unknown_in_assignment(known, target, *operator, value);
+            refuse(alloc, *line, known, unknown)?;
+            note_target(known, target, *operator)?;
             Ok(())
         }
         Statement::Call {
@@ -86,8 +86,8 @@ fn check_statement(
             arguments,
             ..
         } => {
-            let unknown = unknown_in_all(known.as_slice(), arguments.as_slice());
-            refuse(alloc, *line, known.as_slice(), unknown)
+            let unknown = unknown_in_all(known, arguments.as_slice());
+            refuse(alloc, *line, known, unknown)
         }
         Statement::If {
             arms,
@@ -95,8 +95,8 @@ fn check_statement(
             ..
         } => {
             for arm in arms.as_slice() {
-                let unknown = unknown_in(known.as_slice(), &arm.condition);
-                refuse(alloc, arm.line, known.as_slice(), unknown)?;
+                let unknown = unknown_in(known, &arm.condition);
+                refuse(alloc, arm.line, known, unknown)?;
                 check_all(alloc, known, inside, arm.body.as_slice())?;
             }
             check_all(alloc, known, inside, otherwise.as_slice())
@@ -106,8 +106,8 @@ fn check_statement(
             condition,
             body,
         } => {
-            let unknown = unknown_in(known.as_slice(), condition);
-            refuse(alloc, *line, known.as_slice(), unknown)?;
+            let unknown = unknown_in(known, condition);
+            refuse(alloc, *line, known, unknown)?;
             check_statement(alloc, known, true, body.get())
         }
         Statement::Do { body, .. } => check_all(alloc, known, inside, body.as_slice()),
@@ -117,11 +117,11 @@ fn check_statement(
 }
 
 #[cycle(checks)]
-fn check_all(
+fn check_all<'a>(
     alloc: Global,
-    known: &mut Items<Text>,
+    known: &mut Names<'a>,
     inside: bool,
-    all: &[Statement],
+    all: &'a [Statement],
 ) -> Result<(), CheckFault>
     ensures names { OnOk result (check_all (map check_statement all.now) inside known.old ≡ Knows known.new) }
     ensures fault { IfErr result (Says (check_all (map check_statement all.now) inside known.old)) }
@@ -136,7 +136,7 @@ fn check_all(
 fn refuse(
     alloc: Global,
     line: u32,
-    known: &[Text],
+    known: &Names<'_>,
     unknown: Option<&Text>,
 ) -> Result<(), CheckFault>
     ensures names { OnOk result (uses line known.now (option_copied unknown.entry) ≡ Knows known.now) }
@@ -166,7 +166,7 @@ fn in_loop(inside: bool, line: u32) -> Result<(), CheckFault>
 }
 
 fn unknown_in_assignment<'a>(
-    known: &[Text],
+    known: &Names<'_>,
     target: &'a Reference,
     operator: Assignment,
     value: &'a Expr,
@@ -180,26 +180,15 @@ fn unknown_in_assignment<'a>(
 }
 
 /// Adds the name that `:=` gives a value.
-fn note_target(
-    alloc: Global,
-    known: &mut Items<Text>,
-    target: &Reference,
+fn note_target<'a>(
+    known: &mut Names<'a>,
+    target: &'a Reference,
     operator: Assignment,
 ) -> Result<(), NoMemory>
     ensures { OnOk result (known.new ≡ with_target target.now operator known.old) }
 {
     match (target, operator) {
-        (Reference::Name(name), Assignment::Set) => note(alloc, known, name),
+        (Reference::Name(name), Assignment::Set) => known.note(name),
         _ => Ok(()),
     }
-}
-
-fn note(alloc: Global, known: &mut Items<Text>, name: &Text) -> Result<(), NoMemory>
-    ensures { OnOk result (known.new ≡ with_name known.old name.now) }
-{
-    if has(known.as_slice(), name) {
-        return Ok(());
-    }
-    known.push(name.copy(alloc)?)?;
-    Ok(())
 }

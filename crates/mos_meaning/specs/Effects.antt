@@ -1,6 +1,6 @@
 -- The value of an expression and the effect of a statement, by the tree. Operands are evaluated from
 -- left to right. Variables go by their names: `names` has, at each place of the store, the name of
--- the variable whose value stands there.
+-- the variable whose value stands there. So do routines: `call` is what each of them does.
 
 use Rattle.std.specs.Prelude.{ℕ, ◌+◌, zero, suc, ℤ, Bool, true, false, List, [], ◌∷◌, ◌++◌, Option, Some, None, slice_get, slice_set, nat_lt, length, if◌then◌else◌}
 use Rattle.mos_text.specs.declared.fault_kind.FaultKind.{FaultKind}
@@ -16,6 +16,19 @@ use Rattle.mos_meaning.specs.Values.{sum_of, difference_of, compared, limited, s
 abbrev pub place_of : List ℕ → List (List ℕ) → ℕ
 place_of n [] = 0
 place_of n (m ∷ names) = if bytes_eq n m then 0 else place_of n names + 1
+
+-- Routines.
+
+-- how statements end
+pub data Done : Type 0 where
+  Goes : (s : State) → Done  -- on to the next one
+  Broke : (s : State) → Done  -- out of the innermost loop
+  Continues : (s : State) → Done  -- to the next pass of the innermost loop
+  Ends : (stop : Stop) (s : State) → Done  -- the run
+
+-- what a call of a routine does, by its name: how its statements end, from a state on
+abbrev pub Routine : Type 0
+Routine = List ℕ → State → Done
 
 -- Values.
 
@@ -48,23 +61,16 @@ applied plus x y s = combined sum_of x y s
 applied minus x y s = combined difference_of x y s
 applied (compare how) x y s = told_truth (compared how x y) s
 
-abbrev pub value_of : List (List ℕ) → Expression → State → Got
-value_of names (number n) s = Gave (Int n) s
-value_of names (text t) s = or_fault TooBig (limited t) Str s
-value_of names (truth b) s = Gave (Truth b) s
-value_of names (name n) s = or_stuck (slice_get s.memory.store (place_of n names)) s
-value_of names (apply operator a b) s =
-    give (value_of names a s) (λ x s1. give (value_of names b s1) (λ y s2. applied operator x y s2))
-value_of names unbuilt s = Halts Stuck s
+abbrev pub value_of : Routine → List (List ℕ) → Expression → State → Got
+value_of call names (number n) s = Gave (Int n) s
+value_of call names (text t) s = or_fault TooBig (limited t) Str s
+value_of call names (truth b) s = Gave (Truth b) s
+value_of call names (name n) s = or_stuck (slice_get s.memory.store (place_of n names)) s
+value_of call names (apply operator a b) s =
+    give (value_of call names a s) (λ x s1. give (value_of call names b s1) (λ y s2. applied operator x y s2))
+value_of call names unbuilt s = Halts Stuck s
 
 -- Effects.
-
--- how statements end
-pub data Done : Type 0 where
-  Goes : (s : State) → Done  -- on to the next one
-  Broke : (s : State) → Done  -- out of the innermost loop
-  Continues : (s : State) → Done  -- to the next pass of the innermost loop
-  Ends : (stop : Stop) (s : State) → Done  -- the run
 
 abbrev pub do_with : Got → (Scalar → State → Done) → Done
 do_with (Gave value s) go = go value s
@@ -105,10 +111,10 @@ do_shown None s go = Ends (Failed TooBig) s
 do_shown (Some t) s go = go t
 
 -- the arguments are evaluated and printed in order before anything is written
-abbrev pub write_all : List (List ℕ) → Bool → Arguments → List ℕ → State → Done
-write_all names newline nothing held s = put_line newline held s
-write_all names newline (one_more e es) held s =
-    do_with (value_of names e s) (λ value s1. do_shown (shown value) s1 (λ t. write_all names newline es (held ++ t) s1))
+abbrev pub write_all : Routine → List (List ℕ) → Bool → Arguments → List ℕ → State → Done
+write_all call names newline nothing held s = put_line newline held s
+write_all call names newline (one_more e es) held s =
+    do_with (value_of call names e s) (λ value s1. do_shown (shown value) s1 (λ t. write_all call names newline es (held ++ t) s1))
 
 -- the value of a variable
 abbrev pub do_loaded : Option Scalar → State → (Scalar → Done) → Done
@@ -145,25 +151,25 @@ passes (suc n) test body s =
     do_with (test s) (λ c s1. do_truth c s1 (tick_do s1 (λ s2. after_pass (passes n test body) (body s2))) (Goes s1))
 
 abbrev mutual
-  pub effect_of : List (List ℕ) → Effect → State → Done
-  effect_of names (assign n e) s =
-      tick_do s (λ s1. do_with (value_of names e s1) (λ value s2. put (place_of n names) value s2))
-  effect_of names (change how n e) s =
-      tick_do s (λ s1. do_with (value_of names e s1) (λ value s2. change_by how (place_of n names) value s2))
-  effect_of names (write newline all) s = tick_do s (λ s1. write_all names newline all [] s1)
-  effect_of names (choose all) s = tick_do s (λ s1. branch_of names all s1)
-  effect_of names (loop e body) s = tick_do s (λ s1. passes (suc s1.ticks) (value_of names e) (effect_of names body) s1)
-  effect_of names (group all) s = effects_of names all s
-  effect_of names leave s = tick_do s (λ s1. Broke s1)
-  effect_of names skip s = tick_do s (λ s1. Continues s1)
-  effect_of names unbuilt_effect s = Ends Stuck s
+  pub effect_of : Routine → List (List ℕ) → Effect → State → Done
+  effect_of call names (assign n e) s =
+      tick_do s (λ s1. do_with (value_of call names e s1) (λ value s2. put (place_of n names) value s2))
+  effect_of call names (change how n e) s =
+      tick_do s (λ s1. do_with (value_of call names e s1) (λ value s2. change_by how (place_of n names) value s2))
+  effect_of call names (write newline all) s = tick_do s (λ s1. write_all call names newline all [] s1)
+  effect_of call names (choose all) s = tick_do s (λ s1. branch_of call names all s1)
+  effect_of call names (loop e body) s = tick_do s (λ s1. passes (suc s1.ticks) (value_of call names e) (effect_of call names body) s1)
+  effect_of call names (group all) s = effects_of call names all s
+  effect_of call names leave s = tick_do s (λ s1. Broke s1)
+  effect_of call names skip s = tick_do s (λ s1. Continues s1)
+  effect_of call names unbuilt_effect s = Ends Stuck s
 
   -- the first branch whose condition is true, or what stands under `else`
-  pub branch_of : List (List ℕ) → Branches → State → Done
-  branch_of names (otherwise all) s = effects_of names all s
-  branch_of names (branch e all rest) s =
-      do_with (value_of names e s) (λ c s1. do_truth c s1 (effects_of names all s1) (branch_of names rest s1))
+  pub branch_of : Routine → List (List ℕ) → Branches → State → Done
+  branch_of call names (otherwise all) s = effects_of call names all s
+  branch_of call names (branch e all rest) s =
+      do_with (value_of call names e s) (λ c s1. do_truth c s1 (effects_of call names all s1) (branch_of call names rest s1))
 
-  pub effects_of : List (List ℕ) → Block → State → Done
-  effects_of names done s = Goes s
-  effects_of names (first e rest) s = then_do (effect_of names e s) (λ s1. effects_of names rest s1)
+  pub effects_of : Routine → List (List ℕ) → Block → State → Done
+  effects_of call names done s = Goes s
+  effects_of call names (first e rest) s = then_do (effect_of call names e s) (λ s1. effects_of call names rest s1)

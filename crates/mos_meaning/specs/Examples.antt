@@ -1,15 +1,18 @@
 -- Worked examples of meanings and of what images do.
 
 use Rattle.std.specs.Prelude.{◌≡◌, ℕ, List, [], ◌∷◌, Option, Some, None, pos, true, false, codes}
+use Rattle.std.specs.List.{find}
+use Rattle.std.specs.Str.{bytes_eq}
 use Rattle.mos_text.specs.declared.fault_kind.FaultKind.TheVariants.{Overflow, BadParam}
 use Rattle.bim_code.specs.declared.image.Image.{Image}
 use Rattle.bim_code.specs.declared.instruction.Instruction.TheVariants.{Tick, PushInt, PushBool, PushText, Show, Write, Line, End}
 use Rattle.job_calls.specs.declared.run_line.RunLine.{RunLine}
 use Rattle.job_calls.specs.ReportExamples.{hello_entries, hello_runs}
-use Rattle.bim_code.specs.declared.instruction.Comparison.TheVariants.{Greater}
-use Rattle.mos_meaning.specs.State.{Outcome, Stop, Exited, Failed, Spent}
-use Rattle.mos_meaning.specs.Syntax.{Block, done, first, assign, change, decrease, write, loop, group, skip, nothing, one_more, number, text, truth, name, apply, plus, compare}
-use Rattle.mos_meaning.specs.Meaning.{meaning_of}
+use Rattle.bim_code.specs.declared.instruction.Comparison.TheVariants.{Greater, AtLeast}
+use Rattle.mos_meaning.specs.State.{State, Outcome, Stop, Exited, Failed, Spent, Stuck, beginning}
+use Rattle.mos_meaning.specs.Syntax.{Block, done, first, assign, change, increase, decrease, write, choose, branch, otherwise, loop, group, leave, skip, nothing, one_more, number, text, truth, name, apply, plus, compare}
+use Rattle.mos_meaning.specs.Effects.{Ends}
+use Rattle.mos_meaning.specs.Meaning.{Body, routines, meaning_of, told_done}
 use Rattle.mos_meaning.specs.Machine.{course_of}
 use Rattle.mos_meaning.specs.Follows.{Model, FollowsSources}
 
@@ -36,6 +39,26 @@ down = first (assign (codes "x") (number (pos 3)))
 -- write("a") and while(true) next
 abbrev pub endless : Block
 endless = first (write false (one_more (text (codes "a")) nothing)) (first (loop (truth true) skip) done)
+
+-- write of a text alone
+abbrev pub wrote : List ℕ → Block
+wrote t = first (write false (one_more (text t) nothing)) done
+
+-- if(1>2) then write("a") elif(false) then write("b") else write("c") end-if
+abbrev pub last_way : Block
+last_way = first (choose (branch (apply (compare Greater) (number (pos 1)) (number (pos 2))) (wrote (codes "a"))
+    (branch (truth false) (wrote (codes "b")) (otherwise (wrote (codes "c")))))) done
+
+-- x:=0, while(true) do x+=1 if(x>=2) then break end-if end-do, writeln(x)
+abbrev pub until_two : Block
+until_two = first (assign (codes "x") (number (pos 0)))
+    (first (loop (truth true) (group (first (change increase (codes "x") (number (pos 1)))
+    (first (choose (branch (apply (compare AtLeast) (name (codes "x")) (number (pos 2))) (first leave done) (otherwise done))) done))))
+    (first (write true (one_more (name (codes "x")) nothing)) done))
+
+-- a routine that writes hello
+abbrev pub greeting : List Body
+greeting = record { name = codes "greet"; statements = hello } ∷ []
 
 -- an image that writes hello
 abbrev pub hello_image : Image
@@ -66,6 +89,10 @@ FiveMeans = meaning_of five [] [] 10000000 ≡ told (codes "5\n") 2 (Exited (pos
 abbrev pub TooMuchMeans : Type 0
 TooMuchMeans = meaning_of too_much [] [] 10000000 ≡ told [] 1 (Failed Overflow)
 
+-- an `if`, and the statement under its `else`
+abbrev pub LastWayMeans : Type 0
+LastWayMeans = meaning_of last_way [] [] 10000000 ≡ told (codes "c") 2 (Exited (pos 0))
+
 -- an assignment, a `while`, and three passes with a statement each
 abbrev pub DownMeans : Type 0
 DownMeans = meaning_of down [] [] 10000000 ≡ told [] 8 (Exited (pos 0))
@@ -78,6 +105,19 @@ DownEnough = meaning_of down [] [] 8 ≡ told [] 8 (Exited (pos 0))
 
 abbrev pub EndlessSpent : Type 0
 EndlessSpent = meaning_of endless [] [] 100 ≡ told (codes "a") 100 Spent
+
+-- an assignment, a `while`, a pass with two statements, one with three of which the last leaves the loop, and `writeln`
+abbrev pub UntilTwoMeans : Type 0
+UntilTwoMeans = meaning_of until_two [] [] 10000000 ≡ told (codes "2\n") 10 (Exited (pos 0))
+
+-- a call of a routine does what its statements do
+abbrev pub GreetingCalled : Type 0
+GreetingCalled = told_done 10 (routines greeting [] 10 (codes "greet") (beginning [] [] 10)) ≡ told (codes "hello\n") 1 (Exited (pos 0))
+
+-- one of a name that no routine has means nothing, however many calls may stand inside one another
+abbrev pub UnknownCalled : Type 0
+UnknownCalled = (bodies : List Body) (names : List (List ℕ)) (most : ℕ) (n : List ℕ) (s : State)
+    → find (λ (body : Body). bytes_eq n body.name) bodies ≡ None → routines bodies names most n s ≡ Ends Stuck s
 
 -- the image takes eight steps, and means the same
 abbrev pub HelloCourse : Type 0

@@ -1,5 +1,5 @@
 //! Worked examples of the definitions: functions that do nothing, whose contracts are the examples.
-ghost use Rattle.mos_meaning.specs.Examples.{HelloMeans, HelloSpent, HelloRefused, FiveMeans, TooMuchMeans, DownMeans, DownSpent, DownEnough, EndlessSpent, HelloCourse, HelloCourseSpent, HelloFollows, TooFewLines, NoModel, AnotherSource};
+ghost use Rattle.mos_meaning.specs.Examples.{HelloMeans, HelloSpent, HelloRefused, FiveMeans, TooMuchMeans, LastWayMeans, DownMeans, DownSpent, DownEnough, EndlessSpent, UntilTwoMeans, GreetingCalled, UnknownCalled, HelloCourse, HelloCourseSpent, HelloFollows, TooFewLines, NoModel, AnotherSource};
 
 /// What a few models mean.
 pub fn meanings()
@@ -8,6 +8,7 @@ pub fn meanings()
     ensures refused { HelloRefused }
     ensures sum { FiveMeans }
     ensures overflow { TooMuchMeans }
+    ensures last_way { LastWayMeans }
 {}
 
 /// What models with loops mean.
@@ -16,6 +17,13 @@ pub fn meanings_of_loops()
     ensures spent { DownSpent }
     ensures enough { DownEnough }
     ensures endless { EndlessSpent }
+    ensures until_two { UntilTwoMeans }
+{}
+
+/// What calls of routines do.
+pub fn calls_of_routines()
+    ensures greeting { GreetingCalled }
+    ensures unknown { UnknownCalled }
 {}
 
 /// What the image that writes hello does.

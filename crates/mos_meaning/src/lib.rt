@@ -9,5 +9,7 @@
 mod examples;
 mod laws;
 
-pub use examples::{courses, hello_follows, meanings, meanings_of_loops, refused_lines};
+pub use examples::{
+    calls_of_routines, courses, hello_follows, meanings, meanings_of_loops, refused_lines,
+};
 pub use laws::machine_laws;

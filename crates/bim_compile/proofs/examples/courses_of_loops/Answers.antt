@@ -1,6 +1,8 @@
 -- by computing
 use Rattle.std.proofs.Common.{refl}
+use Rattle.std.specs.Fmt.{digits}
 use Rattle.bim_compile.proofs.examples.courses_of_loops.Goals as goal
 
 pub returns : goal.returns
-returns c = record { down = refl; spent = refl; endless = refl }
+unfolding digits
+returns c = record { down = refl; spent = refl; endless = refl; until_two = refl }
