@@ -122,7 +122,8 @@ pub(crate) fn image_of(alloc: Global, tree: &Tree) -> Result<Image, NoMemory>
     ensures plain { IfOk result IsPlain }
     ensures small { IfOk result (λ image. code_size image.code < 2 ^ 30) }
 {
-    compile(alloc, tree)
+    let image = compile(alloc, tree)?;
+    Ok(image)
 }
 
 /// The end of a run that halted so.
