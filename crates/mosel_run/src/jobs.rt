@@ -122,8 +122,7 @@ pub(crate) fn image_of(alloc: Global, tree: &Tree) -> Result<Image, NoMemory>
     ensures plain { IfOk result IsPlain }
     ensures small { IfOk result (λ image. code_size image.code < 2 ^ 30) }
 {
-    let image = compile(alloc, tree)?;
-    Ok(image)
+    compile(alloc, tree)
 }
 
 /// The end of a run that halted so.
