@@ -9,8 +9,8 @@ use sqlite_items::Items;
 use std::alloc::Global;
 use std::marker::Model;
 
-/// Distinct names, in the order in which they were first noted. To find one takes as long among many
-/// names as among few.
+/// Distinct names, in the order in which they were first noted. Each is found by its hash, in expected
+/// constant time.
 #[derive(Debug, Drop)]
 pub struct Names<'a> {
     noted: IndexSet<&'a str>,
