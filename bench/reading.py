@@ -2,7 +2,7 @@
 """Times the reading of sources that double in size:  python3 bench/reading.py PROGRAM
 
 PROGRAM is the built program. Each source is of one kind and ends with a fault on its last line, so that it
-is read to its end and nothing is run. Each is read nine times, the sizes by turns, and the least time
+is read to its end and nothing is run. Each is read forty times, the sizes by turns, and the least time
 counts, without the time of an empty source. The last columns are the greatest time a byte by the least, and the
 most memory that the program had while it read the largest source, in MiB.
 """
@@ -14,7 +14,7 @@ import time
 from pathlib import Path
 
 SIZES = [64 << 10, 128 << 10, 256 << 10, 512 << 10, 1 << 20]
-TURNS = 9
+TURNS = 40
 FIRST, LAST = b"model m\n", b"x:=\nend-model\n"
 KINDS = {
     "statements": b"total:=total+early-late\n",
