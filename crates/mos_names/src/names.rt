@@ -26,6 +26,7 @@ impl<'a> Model for Names<'a> {
 }
 
 impl<'a> Names<'a> {
+    /// No names; it takes no memory.
     pub fn new(alloc: Global) -> Names<'a>
         ensures { result ≡ [] }
     {
@@ -34,12 +35,14 @@ impl<'a> Names<'a> {
         }
     }
 
+    /// How many names there are.
     pub fn len(&self) -> usize
         ensures { result ≡ length self.now }
     {
         self.noted.len()
     }
 
+    /// Whether there are none.
     pub fn is_empty(&self) -> bool
         ensures { IsTrue result ↔ (self.now ≡ []) }
     {
@@ -64,7 +67,7 @@ impl<'a> Names<'a> {
         }
     }
 
-    /// Adds the name behind the others if it is none of them.
+    /// Adds the name behind the others if it is none of them. Where memory is wanting nothing is changed.
     pub fn note(&mut self, name: &'a Text) -> Result<(), NoMemory>
         ensures noted { OnOk result (self.new ≡ with_name self.old name.now) }
         ensures same { OnErr result (self.new ≡ self.old) }
@@ -73,7 +76,7 @@ impl<'a> Names<'a> {
         Ok(())
     }
 
-    /// A copy of the names, in their order.
+    /// A copy of the names, in their order, or that memory is wanting.
     pub fn texts(&self, alloc: Global) -> Result<Items<Text>, NoMemory>
         ensures { IfOk result (λ texts. texts ≡ self.now) }
     {
