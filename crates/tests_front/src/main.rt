@@ -1,12 +1,10 @@
 //! The tests of the front end: each line of standard input is a case, a subject and a text, and for each a line is
-//! printed that says what the public calls answer. In the text `\n`, `\t`, `\\` and `\xHH` stand for a newline, a tab,
-//! a backslash and the byte HH, and `%N*TEXT%` for TEXT, N times.
+//! printed that says what the public calls answer. `tests_lines` says how a text is written.
 #![tactic(auto)]
 
 ghost use Rattle.std.specs.Prelude.{◌≤◌, length};
 
 mod checks;
-mod decoder;
 mod expressions;
 mod pieces;
 mod sources;
@@ -14,6 +12,7 @@ mod tokens;
 
 use std::alloc::{AllocError, Global};
 use std::io::{self, BufRead, BufReader};
+use tests_lines::decoded;
 
 /// The longest source that is read.
 const LONGEST: usize = 1048576;
@@ -60,7 +59,7 @@ fn answer_on_source(alloc: Global, subject: &str, source: &[u8]) -> Result<Strin
 /// The answer to the case of a line.
 fn answer(alloc: Global, line: &str) -> Result<String, AllocError> {
     let (subject, text) = line.split_once(' ').unwrap_or((line, ""));
-    let source = decoder::decoded(alloc, text)?;
+    let source = decoded(alloc, text)?;
     if source.len() > LONGEST {
         return String::from_str(alloc, "too long");
     }

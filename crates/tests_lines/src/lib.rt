@@ -1,4 +1,6 @@
-//! The bytes that a text of a case stands for.
+//! How the cases of the test programs are written, a line each: `\n`, `\t`, `\\` and `\xHH` stand for a newline, a tab,
+//! a backslash and the byte HH, and `%N*TEXT%` for TEXT, N times.
+#![tactic(auto)]
 
 use std::alloc::{AllocError, Global};
 
