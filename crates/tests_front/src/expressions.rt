@@ -130,7 +130,10 @@ pub fn is_type(alloc: Global, source: &[u8]) -> Result<String, AllocError>
     requires { length source.now ≤ 1048576 }
 {
     match words_of(alloc, source) {
-        Some(words) => String::from_str(alloc, said(mos_typing::type_form(alloc, words.as_slice()))),
+        Some(words) => String::from_str(
+            alloc,
+            said(mos_typing::type_form(alloc, words.as_slice())),
+        ),
         None => String::from_str(alloc, "no words"),
     }
 }

@@ -9,9 +9,7 @@ use std::alloc::{AllocError, Global};
 fn fault(alloc: Global, fault: &LexFault) -> Result<String, AllocError> {
     match fault {
         LexFault::At { line, column, kind } => match kind.name() {
-            Some(name) => {
-                format!(in alloc; "{line}:{column} {} {}", kind.word(), name.as_str())
-            }
+            Some(name) => { format!(in alloc; "{line}:{column} {} {}", kind.word(), name.as_str()) }
             None => format!(in alloc; "{line}:{column} {}", kind.word()),
         },
         LexFault::NoMemory => String::from_str(alloc, "no memory"),
@@ -22,7 +20,10 @@ fn fault(alloc: Global, fault: &LexFault) -> Result<String, AllocError> {
 fn listed(alloc: Global, tokens: &[Token]) -> Result<String, AllocError> {
     let mut said = format!(in alloc; "{} tokens", tokens.len())?;
     for token in tokens {
-        let one = format!(in alloc; ", {:?} {}:{}-{}", token.kind, token.line, token.from, token.to)?;
+        let one = format!(in alloc;
+            ", {:?} {}:{}-{}",
+            token.kind, token.line, token.from, token.to
+        )?;
         said.push_str(one.as_str())?;
     }
     Ok(said)
@@ -67,9 +68,7 @@ pub fn counts(alloc: Global, source: &[u8]) -> Result<String, AllocError>
 {
     match mos_scan::scan(alloc, source) {
         Ok(tokens) => match mos_scan::pieces(alloc, tokens.as_slice()) {
-            Ok(found) => {
-                format!(in alloc; "{} tokens, {} pieces", tokens.len(), found.len())
-            }
+            Ok(found) => { format!(in alloc; "{} tokens, {} pieces", tokens.len(), found.len()) }
             Err(_) => String::from_str(alloc, "no memory"),
         },
         Err(found) => fault(alloc, &found),

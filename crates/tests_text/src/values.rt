@@ -25,7 +25,10 @@ pub fn text(alloc: Global, bytes: &[u8]) -> Result<String, AllocError> {
 
 /// The bytes before and behind the first bar.
 fn halves(bytes: &[u8]) -> (&[u8], &[u8]) {
-    let place = bytes.iter().position(|byte| *byte == b'|').unwrap_or(bytes.len());
+    let place = bytes
+        .iter()
+        .position(|byte| *byte == b'|')
+        .unwrap_or(bytes.len());
     let behind = bytes.get(place..).unwrap_or(&[]);
     (
         bytes.get(..place).unwrap_or(&[]),
