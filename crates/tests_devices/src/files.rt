@@ -1,13 +1,10 @@
-use crate::{Blob, Text};
+//! The files that folders begin with.
+
+use mos_text::{Blob, Text};
 use std::alloc::Global;
 use std::test::Fail;
 
-mod folders;
-mod kinds;
-mod sinks;
-mod values;
-
-fn text(alloc: Global, word: &str) -> Result<Text, Fail> {
+pub fn text(alloc: Global, word: &str) -> Result<Text, Fail> {
     Ok(Text::new(alloc, word.as_bytes())?)
 }
 
@@ -16,7 +13,7 @@ fn file(alloc: Global, name: &str, bytes: &[u8]) -> Result<(Text, Blob), Fail> {
 }
 
 /// The folder that most tests begin with: `a` with four bytes, and `b/c` that is empty.
-fn two_files(alloc: Global) -> Result<Vec<(Text, Blob)>, Fail> {
+pub fn two_files(alloc: Global) -> Result<Vec<(Text, Blob)>, Fail> {
     let mut files = Vec::new(alloc);
     files.push(file(alloc, "a", b"four")?)?;
     files.push(file(alloc, "b/c", b"")?)?;

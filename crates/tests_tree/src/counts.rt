@@ -1,4 +1,6 @@
-use crate::{Expr, Statement, nodes, statements};
+//! The smallest trees.
+
+use mos_tree::{Expr, Statement, nodes, statements};
 
 #[test]
 fn counts_one_node(rt: HostRuntime) {

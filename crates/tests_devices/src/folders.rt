@@ -1,5 +1,7 @@
-use super::{text, two_files};
-use crate::{DirFolder, Folder, Got, MemFolder, Stored, SureFolder};
+//! What folders in memory and the folder of the system answer, and what stands after each answer.
+
+use crate::files::{text, two_files};
+use mos_text::{DirFolder, Folder, Got, MemFolder, Stored, SureFolder};
 use std::alloc::Global;
 use std::fs;
 use std::test::Fail;

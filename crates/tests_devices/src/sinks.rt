@@ -1,4 +1,6 @@
-use crate::{MemSink, OutSink, Sink, SureSink, Written, Wrote, write_whole};
+//! What sinks in memory and a writer of the system take.
+
+use mos_text::{MemSink, OutSink, Sink, SureSink, Written, Wrote, write_whole};
 use std::io;
 use std::io::{Error, ErrorKind, Write};
 use std::test::Fail;
