@@ -90,9 +90,9 @@ pub IsOpen : List Token → List Token → Type 0
 IsOpen before [] = Unit {0}
 IsOpen before (x ∷ xs) = IsUncut before (x ∷ xs)
 
-none_open : {before : List Token} → IsOpen before []
+none_open : (before : List Token) → IsOpen before []
 unfolding IsOpen
-none_open = tt
+none_open before = tt
 
 uncut_open : (before xs : List Token) → IsUncut before xs → IsOpen before xs
 unfolding IsOpen
@@ -141,7 +141,7 @@ pieces_here before xs (t ∷ ts) o =
     on_bool (separates (before ++ xs) t.kind)
     (λ s.
     let all : List Token = (before ++ xs) ++ t ∷ [] in
-    let more : ArePiecesBehind all ts (pieces_from (context_of (all ++ [])) (open_of all []) ts) = pieces_here all [] ts none_open in
+    let more : ArePiecesBehind all ts (pieces_from (context_of (all ++ [])) (open_of all []) ts) = pieces_here all [] ts (none_open all) in
     let next : context_of (all ++ []) ≡ context_after here t.kind = ap (λ zs. context_of zs) (append-nil all) ∙ context_more (before ++ xs) t in
     let place : length all ≡ piece.from + piece.count + 1 = omega (arith, length-append (before ++ xs) (t ∷ []), length-append before xs) in
     let begun : open_of all [] ≡ nothing_at (piece.from + piece.count + 1) = open_none all ∙ ap (λ n. nothing_at n) place in

@@ -9,5 +9,5 @@ returns-clause-short c =
       arith,
       ap (λ (bs : List ℕ). length bs) c.loop-byte.invariant,
       length-append c.loop-byte.read.items (unescaped c.loop-byte.escaped (drop c.loop-byte.byte-index c.args.text.now)),
-      unescaped_short false c.args.text.now
+      unescaped_short false c.args.text.now,
     )
