@@ -135,7 +135,8 @@ fn take_token(
     requires depth { piece.depth < 2 ^ 32 - 1 }
     requires place { piece.from + piece.count < 2 ^ 32 - 1 }
     ensures value { IfOk result (λ next. (ts : List token_type)
-        → found.new.items ++ spec.pieces_from (spec.context_after context.now token.now.kind) next ts
+        → found.new.items
+            ++ spec.pieces_from (spec.context_after context.now token.now.kind) next ts
         ≡ found.old.items ++ spec.pieces_from context.now piece (token.now ∷ ts)) }
     ensures place { IfOk result (λ next. next.from + next.count ≡ piece.from + piece.count + 1) }
     ensures near { IfOk result (λ next. next.depth ≤ piece.depth + 1) }
@@ -153,7 +154,7 @@ fn take_token(
 
 fn all_pieces(alloc: Global, tokens: &[Token]) -> Result<Vec<Piece>, NoMemory>
     requires { length tokens.now ≤ source_limit }
-    ensures { IfOk result (λ v. v.items ≡ spec.pieces_from spec.no_context (spec.nothing_at 0) tokens.now) }
+    ensures { IfOk result (λ v. v.items ≡ spec.cut_pieces tokens.now) }
 {
     let mut found = Vec::new(alloc);
     let mut context = no_context();
@@ -173,7 +174,8 @@ fn all_pieces(alloc: Global, tokens: &[Token]) -> Result<Vec<Piece>, NoMemory>
 pub fn pieces(alloc: Global, tokens: &[Token]) -> Result<Vec<Piece>, NoMemory>
     requires { length tokens.now ≤ source_limit }
     ensures found { IfOk result (λ v. ArePieces tokens.now v.items) }
-    ensures only { (ps : List piece_type) → ArePieces tokens.now ps → IfOk result (λ v. v.items ≡ ps) }
+    ensures only { (ps : List piece_type) → ArePieces tokens.now ps
+        → IfOk result (λ v. v.items ≡ ps) }
 
     // All pieces together have at most as many words as there are tokens.
     ensures few { (source : List ℕ)
