@@ -23,8 +23,8 @@ pub(crate) enum LexicalError {
     Out,
 }
 
-/// What stands at the front of the bytes: a gap of so many bytes, a token of so many, or a fault at this
-/// offset from the front.
+/// What stands at the front of the bytes: a gap of so many bytes, a token of so many, or a fault at
+/// this offset from the front.
 #[derive(Clone, Copy, Debug, PartialEq, Eq)]
 pub(crate) enum Lexeme {
     Gap(usize),
