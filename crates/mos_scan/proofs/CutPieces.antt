@@ -1,7 +1,7 @@
 -- What the code cuts are the pieces, and there are no others.
 
-use Rattle.std.proofs.Common.{◌≡◌, ℕ, ◌+◌, nat_lt, nat_eq, Bool, ◌||◌, true, false, List, [], ◌∷◌, ◌++◌, length, Result, Ok, Err, IfOk, refl, sym, ◌∙◌, ap, subst, arith, append_assoc, length-append, fold}
-use Rattle.std.proofs.lemmas.Bool.{lt-ltb, le-ltb, ne_eqb}
+use Rattle.std.proofs.Common.{◌≡◌, ℕ, ◌+◌, nat_lt, nat_eq, Bool, ◌||◌, true, false, List, [], ◌∷◌, ◌++◌, length, Result, Ok, Err, IfOk, refl, sym, ◌∙◌, ap, subst, arith, append_assoc, length-append}
+use Rattle.std.proofs.lemmas.Bool.{lt-ltb, ne_eqb}
 use Rattle.std.proofs.lemmas.List.{append-nil}
 use Rattle.std.proofs.lemmas.List.Sums.{fold-append}
 use Rattle.mos_scan.specs.declared.token.TokenKind.{TokenKind}
@@ -11,7 +11,7 @@ use Rattle.mos_scan.specs.declared.context.Context.{Context}
 use Rattle.mos_scan.specs.declared.piece.Piece.{Piece}
 use Rattle.mos_scan.specs.declared.piece.OpenPiece.{OpenPiece}
 use Rattle.mos_scan.specs.Pieces.{last_kind, first_kind, second_kind, first_line, depth, depth_behind, declarations_after, parameters_after, initializations_after, in_declarations, in_parameters, in_initializations, separates, begins_piece, ends_piece, is_cut, IsUncut, one_token, one_more, IsEnded, piece_of, ArePiecesBehind, no_token, separator, whole_piece, ArePieces}
-use Rattle.mos_scan.specs.Cutting.{no_context, context_after, is_separator, nothing_at, piece_with, is_ended, starts, closed_piece, pieces_from, cut_pieces}
+use Rattle.mos_scan.specs.Cutting.{context_after, is_separator, nothing_at, piece_with, is_ended, starts, closed_piece, pieces_from, cut_pieces}
 use Rattle.mos_scan.proofs.Lists.{on_bool}
 
 -- ---- what the code keeps

@@ -1,4 +1,4 @@
-use Rattle.std.proofs.Common.{◌≤◌, length, false, arith, ap, List, ℕ, drop, length-append}
+use Rattle.std.proofs.Common.{length, false, arith, ap, List, ℕ, drop, length-append}
 use Rattle.mos_scan.specs.Reading.{unescaped}
 use Rattle.mos_scan.proofs.Short.{unescaped_short}
 use Rattle.mos_scan.proofs.reading.unescaped.Goals as goal
