@@ -19,6 +19,3 @@ mod tree;
 pub use fault::ExprFault;
 pub use laws::{trees_have_their_texts, words_have_one_tree};
 pub use tree::{expression, expression_of_words, expressions_of_words, index_of_words};
-
-#[cfg(test)]
-mod tests;

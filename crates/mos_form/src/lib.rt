@@ -14,6 +14,3 @@ mod reading;
 pub use form::{Form, Guard, Keyword, Mould, PieceForm, Simple, mould_of};
 pub use laws::forms_have_their_texts;
 pub use reading::form_of;
-
-#[cfg(test)]
-mod tests;

@@ -15,6 +15,3 @@ mod types;
 pub use base::base_type;
 pub use laws::{expressions_have_plain_words, types_have_their_texts};
 pub use reading::{formals, names, type_form};
-
-#[cfg(test)]
-mod tests;
