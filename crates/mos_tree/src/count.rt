@@ -1,3 +1,4 @@
+//! How many nodes and statements a tree has.
 ghost use Rattle.std.specs.Prelude.{◌≡◌, ◌<◌, ◌^◌, ℕ, ◌+◌};
 ghost use Rattle.mos_tree.specs.Nodes as spec;
 ghost use Rattle.mos_tree.specs.Statements as spec_of_statements;
