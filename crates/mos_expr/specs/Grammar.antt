@@ -44,7 +44,7 @@ mutual
     set : Written → Syntax
     list : Written → Syntax
     bracket : Syntax → Syntax
-    choice : Syntax → Syntax → Syntax → Syntax
+    if_expr : Syntax → Syntax → Syntax → Syntax
     convert : Conversion → Syntax → Syntax
     before : UnaryOperator → Syntax → Syntax
     between : BinaryOperator → Syntax → Syntax → Syntax
@@ -157,7 +157,7 @@ abbrev mutual
   takes (set xs) op = false
   takes (list xs) op = false
   takes (bracket s) op = false
-  takes (choice s x y) op = false
+  takes (if_expr s x y) op = false
   takes (convert c s) op = false
   takes (before p s) op = (nat_le (binds op) (level_before p) && nat_le (level s) (left_of op)) || takes s op
   takes (between o a s) op = (nat_le (binds op) (right_of o) && nat_le (level s) (left_of op)) || takes s op
@@ -173,7 +173,7 @@ abbrev mutual
   IsGrouped (set xs) = AreGrouped xs
   IsGrouped (list xs) = AreGrouped xs
   IsGrouped (bracket s) = IsGrouped s
-  IsGrouped (choice a b c) = IsGrouped a × IsGrouped b × IsGrouped c
+  IsGrouped (if_expr a b c) = IsGrouped a × IsGrouped b × IsGrouped c
   IsGrouped (convert c s) = IsGrouped s
   IsGrouped (before p s) = (level s ≤ level_before p) × IsGrouped s
   IsGrouped (between op a b) = (level a ≤ left_of op) × (level b ≤ right_of op) × IsGrouped a × IsGrouped b × (takes a op ≡ false)
@@ -253,7 +253,7 @@ abbrev mutual
   spell (set xs) = w.Key t.OpenCurly ∷ (spell_list xs ++ key t.CloseCurly)
   spell (list xs) = w.Key t.OpenSquare ∷ (spell_list xs ++ key t.CloseSquare)
   spell (bracket s) = w.Key t.OpenRound ∷ (spell s ++ key t.CloseRound)
-  spell (choice x y z) = w.Key t.If ∷ w.Key t.OpenRound ∷ (spell x ++ w.Key t.Comma ∷ (spell y ++ w.Key t.Comma ∷ (spell z ++ key t.CloseRound)))
+  spell (if_expr x y z) = w.Key t.If ∷ w.Key t.OpenRound ∷ (spell x ++ w.Key t.Comma ∷ (spell y ++ w.Key t.Comma ∷ (spell z ++ key t.CloseRound)))
   spell (convert c s) = spell_conversion c ∷ w.Key t.OpenRound ∷ (spell s ++ key t.CloseRound)
   spell (before p s) = spell_before p ∷ spell s
   spell (between op x y) = spell x ++ (spell_between op ++ spell y)
@@ -301,7 +301,7 @@ abbrev mutual
   height (set xs) = heights xs + 1
   height (list xs) = heights xs + 1
   height (bracket s) = height s + 1
-  height (choice x y z) = max (height x) (max (height y) (height z)) + 1
+  height (if_expr x y z) = max (height x) (max (height y) (height z)) + 1
   height (convert c s) = height s + 1
   height (before p s) = height s + 1
   height (between op x y) = max (height x) (height y) + 1
@@ -344,7 +344,7 @@ abbrev mutual
   tree (set xs) = e.Set (trees xs)
   tree (list xs) = e.List (trees xs)
   tree (bracket s) = tree s
-  tree (choice x y z) = e.If (tree x) (tree y) (tree z)
+  tree (if_expr x y z) = e.If (tree x) (tree y) (tree z)
   tree (convert c s) = e.Convert c (tree s)
   tree (before p s) = e.Unary p (tree s)
   tree (between op x y) = e.Binary op (tree x) (tree y)

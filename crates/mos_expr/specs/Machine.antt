@@ -7,7 +7,7 @@ use Rattle.mos_expr.specs.Grammar.{binds, left_of, right_of, level_before, level
 use Rattle.mos_expr.specs.Operands as o
 use Rattle.mos_expr.specs.declared.operand.Operand.{Operand}
 use Rattle.mos_expr.specs.declared.operand.Groups.{Groups}
-use Rattle.mos_expr.specs.declared.operand.Ready.{Ready}
+use Rattle.mos_expr.specs.declared.operand.WholeIndex.{WholeIndex}
 use Rattle.mos_expr.specs.declared.frame.IndexKind.{IndexKind}
 use Rattle.mos_expr.specs.declared.frame.IndexKind.TheVariants as i
 use Rattle.mos_expr.specs.declared.frame.Frame.{Frame}
@@ -31,21 +31,21 @@ State = Option (Mode × List Frame)
 abbrev pub nothing : State
 nothing = None
 
-abbrev pub on : Option Mode → List Frame → State
-on None fs = None
-on (Some mode) fs = Some (mode, fs)
+abbrev pub state_of : Option Mode → List Frame → State
+state_of None fs = None
+state_of (Some mode) fs = Some (mode, fs)
 
 -- an operand, in which frames
 abbrev pub Settled : Type 0
 Settled = Option (Operand × List Frame)
 
-abbrev pub beside : Option Operand → List Frame → Settled
-beside None fs = None
-beside (Some x) fs = Some (x, fs)
+abbrev pub settled_of : Option Operand → List Frame → Settled
+settled_of None fs = None
+settled_of (Some x) fs = Some (x, fs)
 
-abbrev pub when : Bool → List Frame → Option (List Frame)
-when true fs = Some fs
-when false fs = None
+abbrev pub frames_if : Bool → List Frame → Option (List Frame)
+frames_if true fs = Some fs
+frames_if false fs = None
 
 abbrev pub and_then : {A B : Type 0} → Option A → (A → Option B) → Option B
 and_then None go = None
@@ -69,7 +69,7 @@ abbrev pub room : Frame → ℕ
 room (f.Before op) = level_before op
 room (f.Between op a) = right_of op
 room (f.Body op index) = level_body op
-room (f.Within kind groups names) = 5
+room (f.IndexSet kind groups names) = 5
 room _ = 9
 
 -- what the frame makes of an operand that ends it
@@ -105,7 +105,7 @@ abbrev pub want_with : Frame → List Frame → State
 want_with g fs = Some (m.Want, g ∷ fs)
 
 -- a whole index, behind its closing bracket
-abbrev pub index_read : IndexKind → Ready → List Frame → State
+abbrev pub index_read : IndexKind → WholeIndex → List Frame → State
 index_read (i.Aggregate op) ready fs = want_with (f.Body op ready) fs
 index_read i.Count ready fs = Some (m.After (o.counted_of ready), fs)
 index_read i.Loop ready fs = None
@@ -114,53 +114,53 @@ index_read i.Loop ready fs = None
 abbrev pub if_set : {A : Type 0} → Operand → Option A → Option A
 if_set x next = if nat_le x.level 5 then next else None
 
-abbrev pub round_within : IndexKind → Groups → List (List ℕ) → Operand → List Frame → State
-round_within kind groups names x fs = if_set x (index_read kind (o.ready_of (o.groups_with groups names x)) fs)
+abbrev pub set_at_round : IndexKind → Groups → List (List ℕ) → Operand → List Frame → State
+set_at_round kind groups names x fs = if_set x (index_read kind (o.whole_index_of (o.groups_with groups names x)) fs)
 
-abbrev pub bar_within : IndexKind → Groups → List (List ℕ) → Operand → List Frame → State
-bar_within kind groups names x fs = if_set x (want_with (f.Such kind (o.groups_with groups names x)) fs)
+abbrev pub set_at_bar : IndexKind → Groups → List (List ℕ) → Operand → List Frame → State
+set_at_bar kind groups names x fs = if_set x (want_with (f.IndexCondition kind (o.groups_with groups names x)) fs)
 
-abbrev pub comma_within : IndexKind → Groups → List (List ℕ) → Operand → List Frame → State
-comma_within kind groups names x fs = if_set x (Some (m.WantName kind (o.groups_with groups names x) [], fs))
+abbrev pub set_at_comma : IndexKind → Groups → List (List ℕ) → Operand → List Frame → State
+set_at_comma kind groups names x fs = if_set x (Some (m.WantName kind (o.groups_with groups names x) [], fs))
 
-abbrev pub round : Frame → Operand → List Frame → State
-round f.Bracket x fs = Some (m.After (o.bracketed x), fs)
-round (f.Call n ps) x fs = Some (m.Called n (o.parts_with ps x), fs)
-round (f.ChoiceTwo p q) x fs = Some (m.After (o.choice_of p q x), fs)
-round (f.Convert to) x fs = Some (m.After (o.convert_of to x), fs)
-round (f.Within kind groups names) x fs = round_within kind groups names x fs
-round (f.Such kind groups) x fs = index_read kind (o.such_of groups x) fs
-round _ x fs = None
+abbrev pub at_round : Frame → Operand → List Frame → State
+at_round f.Bracket x fs = Some (m.After (o.bracketed x), fs)
+at_round (f.Call n ps) x fs = Some (m.Called n (o.parts_with ps x), fs)
+at_round (f.IfSecond p q) x fs = Some (m.After (o.if_expr_of p q x), fs)
+at_round (f.Convert to) x fs = Some (m.After (o.convert_of to x), fs)
+at_round (f.IndexSet kind groups names) x fs = set_at_round kind groups names x fs
+at_round (f.IndexCondition kind groups) x fs = index_read kind (o.conditioned_index_of groups x) fs
+at_round _ x fs = None
 
-abbrev pub curly : Frame → Operand → Option Mode
-curly (f.Set ps) x = Some (m.After (o.set_of (o.parts_with ps x)))
-curly _ x = None
+abbrev pub at_curly : Frame → Operand → Option Mode
+at_curly (f.Set ps) x = Some (m.After (o.set_of (o.parts_with ps x)))
+at_curly _ x = None
 
-abbrev pub square : Frame → Operand → Option Mode
-square (f.List ps) x = Some (m.After (o.list_of (o.parts_with ps x)))
-square _ x = None
+abbrev pub at_square : Frame → Operand → Option Mode
+at_square (f.List ps) x = Some (m.After (o.list_of (o.parts_with ps x)))
+at_square _ x = None
 
-abbrev pub comma : Frame → Operand → List Frame → State
-comma (f.Call n ps) x fs = want_with (f.Call n (o.parts_with ps x)) fs
-comma (f.Set ps) x fs = want_with (f.Set (o.parts_with ps x)) fs
-comma (f.List ps) x fs = want_with (f.List (o.parts_with ps x)) fs
-comma (f.Listed ps) x fs = want_with (f.Listed (o.parts_with ps x)) fs
-comma f.Choice x fs = want_with (f.ChoiceOne x) fs
-comma (f.ChoiceOne p) x fs = want_with (f.ChoiceTwo p x) fs
-comma (f.Within kind groups names) x fs = comma_within kind groups names x fs
-comma _ x fs = None
+abbrev pub at_comma : Frame → Operand → List Frame → State
+at_comma (f.Call n ps) x fs = want_with (f.Call n (o.parts_with ps x)) fs
+at_comma (f.Set ps) x fs = want_with (f.Set (o.parts_with ps x)) fs
+at_comma (f.List ps) x fs = want_with (f.List (o.parts_with ps x)) fs
+at_comma (f.BareList ps) x fs = want_with (f.BareList (o.parts_with ps x)) fs
+at_comma f.IfExpr x fs = want_with (f.IfFirst x) fs
+at_comma (f.IfFirst p) x fs = want_with (f.IfSecond p x) fs
+at_comma (f.IndexSet kind groups names) x fs = set_at_comma kind groups names x fs
+at_comma _ x fs = None
 
-abbrev pub bar : Frame → Operand → List Frame → State
-bar (f.Within kind groups names) x fs = bar_within kind groups names x fs
-bar _ x fs = None
+abbrev pub at_bar : Frame → Operand → List Frame → State
+at_bar (f.IndexSet kind groups names) x fs = set_at_bar kind groups names x fs
+at_bar _ x fs = None
 
 abbrev pub at_frame : TokenKind → Operand → List Frame → State
 at_frame k x [] = None
-at_frame t.CloseRound x (g ∷ fs) = round g x fs
-at_frame t.CloseCurly x (g ∷ fs) = on (curly g x) fs
-at_frame t.CloseSquare x (g ∷ fs) = on (square g x) fs
-at_frame t.Comma x (g ∷ fs) = comma g x fs
-at_frame t.Bar x (g ∷ fs) = bar g x fs
+at_frame t.CloseRound x (g ∷ fs) = at_round g x fs
+at_frame t.CloseCurly x (g ∷ fs) = state_of (at_curly g x) fs
+at_frame t.CloseSquare x (g ∷ fs) = state_of (at_square g x) fs
+at_frame t.Comma x (g ∷ fs) = at_comma g x fs
+at_frame t.Bar x (g ∷ fs) = at_bar g x fs
 at_frame _ x (g ∷ fs) = None
 
 -- ---- what may follow an operand

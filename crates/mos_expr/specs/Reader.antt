@@ -16,7 +16,7 @@ use Rattle.mos_expr.specs.declared.fault.ExprFault.TheVariants as x
 use Rattle.mos_expr.specs.declared.operand.Operand.{Operand}
 use Rattle.mos_expr.specs.declared.operand.Parts.{Parts}
 use Rattle.mos_expr.specs.declared.operand.Groups.{Groups}
-use Rattle.mos_expr.specs.declared.operand.Ready.{Ready}
+use Rattle.mos_expr.specs.declared.operand.WholeIndex.{WholeIndex}
 use Rattle.mos_expr.specs.declared.frame.IndexKind.{IndexKind}
 use Rattle.mos_expr.specs.declared.frame.IndexKind.TheVariants as i
 use Rattle.mos_expr.specs.declared.frame.Frame.{Frame}
@@ -54,7 +54,7 @@ want_key t.Returned fs = leaf_at e.Returned fs
 want_key t.OpenRound fs = want_with f.Bracket fs
 want_key t.OpenCurly fs = Some (m.WantFirst, f.Set o.no_parts ∷ fs)
 want_key t.OpenSquare fs = Some (m.WantFirst, f.List o.no_parts ∷ fs)
-want_key t.If fs = Some (m.WantOpen, f.Choice ∷ fs)
+want_key t.If fs = Some (m.WantOpen, f.IfExpr ∷ fs)
 want_key t.Integer fs = Some (m.WantOpen, f.Convert c.Integer ∷ fs)
 want_key t.StringWord fs = Some (m.WantOpen, f.Convert c.Text ∷ fs)
 want_key t.Minus fs = want_with (f.Before u.Minus) fs
@@ -118,7 +118,7 @@ want_name kind groups names _ fs = None
 
 abbrev pub after_name : IndexKind → Groups → List (List ℕ) → Word → List Frame → State
 after_name kind groups names (w.Key t.Comma) fs = Some (m.WantName kind groups names, fs)
-after_name kind groups names (w.Key t.In) fs = want_with (f.Within kind groups names) fs
+after_name kind groups names (w.Key t.In) fs = want_with (f.IndexSet kind groups names) fs
 after_name kind groups names _ fs = None
 
 abbrev pub dotted : List ℕ → Word → List Frame → State
@@ -194,33 +194,48 @@ only_frame [] = None
 only_frame (g ∷ fs) = only_of g fs
 
 -- the last of expressions with commas between them
-abbrev pub last_listed : Operand → Frame → Option Parts
-last_listed x (f.Listed ps) = Some (o.parts_with ps x)
-last_listed x _ = None
+abbrev pub last_of_list : Operand → Frame → Option Parts
+last_of_list x (f.BareList ps) = Some (o.parts_with ps x)
+last_of_list x _ = None
+
+-- the expressions that an operand ends
+abbrev pub list_at_end : Operand → List Frame → Option Parts
+list_at_end x fs = and_then (only_frame fs) (λ g. last_of_list x g)
+
+-- the frame of expressions with no bracket round them
+abbrev pub open_list : List Frame
+open_list = f.BareList o.no_parts ∷ []
 
 abbrev pub some_parts_of : List Word → Option Parts
-some_parts_of words = and_then (read m.Want (f.Listed o.no_parts ∷ []) words) (λ y. and_then (only_frame y.1) (λ g. last_listed y.0 g))
+some_parts_of words = and_then (read m.Want open_list words) (λ y. list_at_end y.0 y.1)
 
 abbrev pub parts_of : List Word → Option Parts
 parts_of [] = Some o.no_parts
 parts_of (word ∷ words) = some_parts_of (word ∷ words)
 
 -- the last set of the index of a loop, or its condition
-abbrev pub loop_within : IndexKind → Groups → List (List ℕ) → Operand → Option Ready
-loop_within i.Loop groups names x = if_set x (Some (o.ready_of (o.groups_with groups names x)))
-loop_within _ groups names x = None
+abbrev pub set_of_loop : Groups → List (List ℕ) → Operand → Option WholeIndex
+set_of_loop groups names x = if_set x (Some (o.whole_index_of (o.groups_with groups names x)))
 
-abbrev pub loop_such : IndexKind → Groups → Operand → Option Ready
-loop_such i.Loop groups x = Some (o.such_of groups x)
-loop_such _ groups x = None
+abbrev pub loop_set : IndexKind → Groups → List (List ℕ) → Operand → Option WholeIndex
+loop_set i.Loop groups names x = set_of_loop groups names x
+loop_set _ groups names x = None
 
-abbrev pub last_of_index : Operand → Frame → Option Ready
-last_of_index x (f.Within kind groups names) = loop_within kind groups names x
-last_of_index x (f.Such kind groups) = loop_such kind groups x
+abbrev pub loop_condition : IndexKind → Groups → Operand → Option WholeIndex
+loop_condition i.Loop groups x = Some (o.conditioned_index_of groups x)
+loop_condition _ groups x = None
+
+abbrev pub last_of_index : Operand → Frame → Option WholeIndex
+last_of_index x (f.IndexSet kind groups names) = loop_set kind groups names x
+last_of_index x (f.IndexCondition kind groups) = loop_condition kind groups x
 last_of_index x _ = None
 
-abbrev pub ready_of_words : List Word → Option Ready
-ready_of_words words = and_then (read (m.WantName i.Loop o.no_groups []) [] words) (λ y. and_then (only_frame y.1) (λ g. last_of_index y.0 g))
+-- the index that an operand ends
+abbrev pub index_at_end : Operand → List Frame → Option WholeIndex
+index_at_end x fs = and_then (only_frame fs) (λ g. last_of_index x g)
+
+abbrev pub whole_index_of_words : List Word → Option WholeIndex
+whole_index_of_words words = and_then (read (m.WantName i.Loop o.no_groups []) [] words) (λ y. index_at_end y.0 y.1)
 
 -- ---- what is said of it
 
@@ -237,6 +252,6 @@ abbrev pub outcome_of_parts : Option Parts → Result (List Expr) ExprFault
 outcome_of_parts None = Err x.NoExpr
 outcome_of_parts (Some parts) = made_or_deep parts.items
 
-abbrev pub outcome_of_index : Option Ready → Result (Index Expr) ExprFault
+abbrev pub outcome_of_index : Option WholeIndex → Result (Index Expr) ExprFault
 outcome_of_index None = Err x.NoExpr
 outcome_of_index (Some ready) = made_or_deep ready.index
