@@ -82,9 +82,9 @@ index_of_layer (o.Count i) = nodes_of_index i
 index_of_layer (o.Aggregate p i x) = nodes_of_index i
 index_of_layer _ = 0
 
-groups_of_layer : Expr-F ℕ → ℕ
-groups_of_layer (o.Count i) = nodes_of_groups i.groups
-groups_of_layer _ = 0
+layer_groups : Expr-F ℕ → List (Group ℕ)
+layer_groups (o.Count i) = i.groups
+layer_groups _ = []
 
 condition_of_layer : Expr-F ℕ → ℕ
 condition_of_layer (o.Count i) = nodes_of_condition i.condition
@@ -94,14 +94,13 @@ condition_of_layer _ = 0
 counts : List (Group Expr) → Option Expr → Expr-F ℕ
 counts groups condition = map-Expr Expr ℕ nodes (o.Count (record { groups = groups; condition = condition }))
 
-more_in_layer : (g : Group Expr) (gs : List (Group Expr)) (condition : Option Expr) → groups_of_layer (counts (g ∷ gs) condition) ≡ (nodes g.set + 1) + groups_of_layer (counts gs condition)
-unfolding groups_of_layer counts
-more_in_layer g gs condition = nodes_of_more _ _
+same_groups : (groups : List (Group Expr)) (condition : Option Expr) → layer_groups (counts groups condition) ≡ map (in_group nodes) groups
+unfolding layer_groups counts
+same_groups [] condition = refl
+same_groups (g ∷ gs) condition = ap (λ z. in_group nodes g ∷ z) (same_groups gs condition)
 
-groups_are : (groups : List (Group Expr)) (condition : Option Expr) → groups_of_layer (counts groups condition) ≡ nodes_in_groups groups
-unfolding groups_of_layer counts
-groups_are [] condition = refl
-groups_are (g ∷ gs) condition = more_in_layer g gs condition ∙ ap (λ z. (nodes g.set + 1) + z) (groups_are gs condition) ∙ sym (nodes_in_more_groups g gs)
+groups_are : (groups : List (Group Expr)) (condition : Option Expr) → nodes_of_groups (layer_groups (counts groups condition)) ≡ nodes_in_groups groups
+groups_are groups condition = ap nodes_of_groups (same_groups groups condition)
 
 condition_is : (groups : List (Group Expr)) (condition : Option Expr) → condition_of_layer (counts groups condition) ≡ nodes_of_condition (option_map nodes condition)
 unfolding condition_of_layer counts
@@ -109,9 +108,9 @@ condition_is groups None = refl
 condition_is groups (Some c) = refl
 
 index_is : (groups : List (Group Expr)) (condition : Option Expr) → index_of_layer (counts groups condition) ≡ nodes_in_index (record { groups = groups; condition = condition })
-unfolding index_of_layer groups_of_layer condition_of_layer counts
+unfolding index_of_layer layer_groups condition_of_layer counts
 index_is groups condition =
-    let first : groups_of_layer (counts groups condition) ≡ nodes_in_groups groups = groups_are groups condition in
+    let first : nodes_of_groups (layer_groups (counts groups condition)) ≡ nodes_in_groups groups = groups_are groups condition in
     let second : condition_of_layer (counts groups condition) ≡ nodes_of_condition (option_map nodes condition) = condition_is groups condition in
     ap (λ z. z + condition_of_layer (counts groups condition)) first ∙ ap (λ z. nodes_in_groups groups + z) second
 

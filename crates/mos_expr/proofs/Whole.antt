@@ -1,4 +1,4 @@
-use Rattle.std.proofs.Common.{◌≡◌, ℕ, ◌<◌, ◌≤◌, max, nat_le, if◌then◌else◌, List, [], ◌∷◌, ◌++◌, Option, Some, None, Result, Ok, Err, IfOk, refl, sym, ◌∙◌, ap, subst, arith}
+use Rattle.std.proofs.Common.{◌≡◌, ℕ, ◌<◌, ◌≤◌, max, nat_le, if◌then◌else◌, length, List, [], ◌∷◌, ◌++◌, Option, Some, None, Result, Ok, Err, IfOk, refl, sym, ◌∙◌, ap, subst, arith}
 use Rattle.std.proofs.lemmas.Bool.{leb-true}
 use Rattle.std.proofs.lemmas.List.{append-nil}
 use Rattle.mos_tree.specs.declared.expr.Expr.{Expr}
@@ -161,6 +161,14 @@ says_expressions words (Some y) r e d =
     let a : (a : WholeParts y) × (words ≡ spell_list a.written) = parts_are_whole words y e in
     says_kept AreGrouped spell_list trees heights words r a.0.written a.0.grouped a.1 (d ∙ ap (λ v. outcome_of_parts (Some v)) a.0.is)
     (λ ss g k. d ∙ ap outcome_of_parts (sym e ∙ parts_read words ss (record { grouped = g; exact = k })))
+
+pub no_words : (words : List Word) → length words < 1 → words ≡ []
+no_words [] less = refl
+no_words (word ∷ words) less = absurd (omega (arith, less))
+
+pub some_words : (words : List Word) → 1 ≤ length words → words ≡ [] → ⊥
+some_words [] more e = omega (arith, more)
+some_words (word ∷ words) more e = cc
 
 -- no words spell at least one expression
 none_spelled : (ss : Written) → AreSomeGrouped ss → [] ≡ spell_list ss → ⊥

@@ -15,6 +15,10 @@ abbrev pub or_nothing : {A : Type 0} → Option A → Result A ExprFault
 or_nothing None = Err x.NoExpr
 or_nothing (Some made) = Ok made
 
+-- two parts side by side
+abbrev pub pair : {A B : Type 0} → A → B → A × B
+pair first rest = (first, rest)
+
 -- a whole of two parts
 abbrev pub both : {A B C : Type 0} → (A → B → C) → Result A ExprFault → Result B ExprFault → Result C ExprFault
 both f (Ok made) r = on_ok (f made) r
@@ -35,3 +39,8 @@ alone made = made ∷ []
 -- an item, and the others
 abbrev pub first_of : {A : Type 0} → A → List A → List A
 first_of made more = made ∷ more
+
+-- two parts of which the first is too high
+abbrev pub beside_too_high : {A B : Type 0} → Result B ExprFault → Result (A × B) ExprFault
+beside_too_high (Ok rest) = Err x.Deep
+beside_too_high (Err fault) = Err fault

@@ -1,7 +1,7 @@
 //! Types of one word.
 ghost use Rattle.std.specs.Prelude.{◌≡◌, List, [], ◌∷◌, IfOk, MatchOption};
 ghost use Rattle.mos_tree.specs.declared.declaration.BaseType.{BaseType as Base};
-ghost use Rattle.mos_expr.specs.Outcome.{Gives};
+ghost use Rattle.mos_expr.specs.Said.{Gives};
 ghost use Rattle.mos_typing.specs.Typing.{base_words};
 ghost use Rattle.mos_typing.specs.Joining.{or_nothing};
 ghost use Rattle.mos_typing.specs.Reader.{base_of};
