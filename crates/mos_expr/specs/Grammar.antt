@@ -1,3 +1,6 @@
+-- Expressions as they are written: which ones there are, how they are grouped, how they are spelled, how high they are,
+-- and what tree each one has.
+
 use Rattle.std.specs.Prelude.{◌≡◌, ℕ, ℤ, ◌+◌, ◌≤◌, max, Bool, true, false, ◌&&◌, ◌||◌, nat_le, List, [], ◌∷◌, ◌++◌, Option, Some, None}
 use Rattle.mos_tree.specs.declared.expr.Expr.{Expr}
 use Rattle.mos_tree.specs.declared.expr.Expr.TheVariants as e
@@ -15,9 +18,6 @@ use Rattle.mos_scan.specs.declared.token.TokenKind.{TokenKind}
 use Rattle.mos_scan.specs.declared.token.TokenKind.TheVariants as t
 use Rattle.mos_scan.specs.declared.reading.Word.{Word}
 use Rattle.mos_scan.specs.declared.reading.Word.TheVariants as w
-
--- Expressions as they are written: which ones there are, how they are grouped, how they are spelled, how high they are,
--- and what tree each one has.
 
 -- ---- what is written
 
@@ -64,6 +64,7 @@ mutual
 
 -- ---- levels: the smaller binds tighter
 
+-- the level of an operator
 abbrev pub binds : BinaryOperator → ℕ
 binds b.Times = 3
 binds b.Div = 3
@@ -166,6 +167,7 @@ abbrev mutual
 
 -- each operand is tight enough, and none leaves an operator that it would take
 abbrev mutual
+  -- an expression
   pub IsGrouped : Syntax → Type 0
   IsGrouped (leaf x) = Unit {0}
   IsGrouped (call n xs) = AreGrouped xs
@@ -180,10 +182,12 @@ abbrev mutual
   IsGrouped (aggregate g i s) = (level s ≤ level_body g) × IsGroupedOver i × IsGrouped s
   IsGrouped (counted i) = IsGroupedOver i
 
+  -- expressions with commas between them
   pub AreGrouped : Written → Type 0
   AreGrouped no_more = Unit {0}
   AreGrouped (one_more s ss) = IsGrouped s × AreGrouped ss
 
+  -- an index, whose sets are tighter than a relation
   pub IsGroupedOver : Over → Type 0
   IsGroupedOver (last_set ns s) = (level s ≤ 5) × IsGrouped s
   IsGroupedOver (such_that ns s c) = (level s ≤ 5) × IsGrouped s × IsGrouped c
@@ -191,9 +195,11 @@ abbrev mutual
 
 -- ---- how it is spelled
 
+-- one token
 abbrev pub key : TokenKind → List Word
 key k = w.Key k ∷ []
 
+-- the words of an expression without parts
 abbrev pub spell_leaf : Leaf → List Word
 spell_leaf (number n) = w.Number n ∷ []
 spell_leaf (text x) = w.Text x ∷ []
@@ -203,11 +209,13 @@ spell_leaf (name n) = w.Name n ∷ []
 spell_leaf returned = key t.Returned
 spell_leaf (field n f) = w.Name n ∷ w.Key t.Dot ∷ w.Name f ∷ []
 
+-- the word of a prefix operator
 abbrev pub spell_before : UnaryOperator → Word
 spell_before u.Minus = w.Key t.Minus
 spell_before u.Plus = w.Key t.Plus
 spell_before u.Not = w.Key t.Not
 
+-- the words of an operator between two operands
 abbrev pub spell_between : BinaryOperator → List Word
 spell_between b.Times = key t.Times
 spell_between b.Div = key t.Div
@@ -228,6 +236,7 @@ spell_between b.NotIn = w.Key t.Not ∷ w.Key t.In ∷ []
 spell_between b.And = key t.And
 spell_between b.Or = key t.Or
 
+-- the word of an aggregate
 abbrev pub spell_aggregate : AggregateOperator → Word
 spell_aggregate g.Sum = w.Key t.Sum
 spell_aggregate g.Prod = w.Key t.Prod
@@ -237,15 +246,18 @@ spell_aggregate g.Union = w.Key t.Union
 spell_aggregate g.And = w.Key t.And
 spell_aggregate g.Or = w.Key t.Or
 
+-- the word of a conversion
 abbrev pub spell_conversion : Conversion → Word
 spell_conversion c.Integer = w.Key t.Integer
 spell_conversion c.Text = w.Key t.StringWord
 
+-- names with commas between them
 abbrev pub spell_names : Names → List Word
 spell_names (one_name n) = w.Name n ∷ []
 spell_names (and_name n ns) = w.Name n ∷ w.Key t.Comma ∷ spell_names ns
 
 abbrev mutual
+  -- the words of an expression
   pub spell : Syntax → List Word
   spell (leaf x) = spell_leaf x
   spell (call n xs) = w.Name n ∷ w.Key t.OpenRound ∷ (spell_list xs ++ key t.CloseRound)
@@ -294,6 +306,7 @@ pub record IsIndexSpelled (words : List Word) (i : Over) : Type 0 where
 -- ---- how high it is: a node is one more than its highest part, and so is a pair of brackets
 
 abbrev mutual
+  -- the height of an expression
   pub height : Syntax → ℕ
   height (leaf x) = 1
   height (call n xs) = heights xs + 1
@@ -308,6 +321,7 @@ abbrev mutual
   height (aggregate g i s) = max (height_over i) (height s) + 1
   height (counted i) = height_over i + 1
 
+  -- the height of the highest of several
   pub heights : Written → ℕ
   heights no_more = 0
   heights (one_more s ss) = max (height s) (heights ss)
@@ -324,6 +338,7 @@ limit = 500
 
 -- ---- its tree
 
+-- the tree of an expression without parts
 abbrev pub tree_of_leaf : Leaf → Expr
 tree_of_leaf (number n) = e.Integer n
 tree_of_leaf (text x) = e.Text x
@@ -332,11 +347,13 @@ tree_of_leaf (name n) = e.Name n
 tree_of_leaf returned = e.Returned
 tree_of_leaf (field n f) = e.Field n f
 
+-- the names, in order
 abbrev pub list_of_names : Names → List (List ℕ)
 list_of_names (one_name n) = n ∷ []
 list_of_names (and_name n ns) = n ∷ list_of_names ns
 
 abbrev mutual
+  -- the tree of an expression: its brackets are gone
   pub tree : Syntax → Expr
   tree (leaf x) = tree_of_leaf x
   tree (call n xs) = e.Call n (trees xs)
@@ -351,19 +368,23 @@ abbrev mutual
   tree (aggregate g i s) = e.Aggregate g (record { groups = groups_of i; condition = condition_of i }) (tree s)
   tree (counted i) = e.Count (record { groups = groups_of i; condition = condition_of i })
 
+  -- the trees of several, in order
   pub trees : Written → List Expr
   trees no_more = []
   trees (one_more s ss) = tree s ∷ trees ss
 
+  -- the sets of an index, each with its names
   pub groups_of : Over → List (Group Expr)
   groups_of (last_set ns s) = record { names = list_of_names ns; set = tree s } ∷ []
   groups_of (such_that ns s c) = record { names = list_of_names ns; set = tree s } ∷ []
   groups_of (another ns s i) = record { names = list_of_names ns; set = tree s } ∷ groups_of i
 
+  -- the condition of an index, where it has one
   pub condition_of : Over → Option Expr
   condition_of (last_set ns s) = None
   condition_of (such_that ns s c) = Some (tree c)
   condition_of (another ns s i) = condition_of i
 
+-- the index as the tree has it
 abbrev pub index_of : Over → Index Expr
 index_of i = record { groups = groups_of i; condition = condition_of i }

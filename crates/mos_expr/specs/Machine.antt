@@ -1,3 +1,6 @@
+-- As the code reads, apart from what the public clauses say: which open frames an operand ends, and what the frame that is
+-- then innermost makes of it. The innermost frame stands first.
+
 use Rattle.std.specs.Prelude.{ℕ, Bool, true, false, ◌&&◌, if◌then◌else◌, nat_le, List, [], ◌∷◌, reverse, Option, Some, None}
 use Rattle.mos_tree.specs.declared.expr.BinaryOperator.{BinaryOperator}
 use Rattle.mos_tree.specs.declared.expr.BinaryOperator.TheVariants as b
@@ -15,12 +18,11 @@ use Rattle.mos_expr.specs.declared.frame.Frame.TheVariants as f
 use Rattle.mos_expr.specs.declared.frame.Mode.{Mode}
 use Rattle.mos_expr.specs.declared.frame.Mode.TheVariants as m
 
--- The reader on lists, behind an operand: which open frames it ends, and what the frame that is then innermost makes of it.
--- The innermost frame stands first.
-
+-- the type of frames, by a name that clauses can say
 abbrev pub FrameType : Type 0
 FrameType = Frame
 
+-- the frames of the code, whose innermost stands last
 abbrev pub stack_of : List Frame → List Frame
 stack_of frames = reverse frames
 
@@ -28,9 +30,11 @@ stack_of frames = reverse frames
 abbrev pub State : Type 0
 State = Option (Mode × List Frame)
 
+-- the words so far begin nothing
 abbrev pub nothing : State
 nothing = None
 
+-- what comes next, with the frames that are open
 abbrev pub state_of : Option Mode → List Frame → State
 state_of None fs = None
 state_of (Some mode) fs = Some (mode, fs)
@@ -39,14 +43,17 @@ state_of (Some mode) fs = Some (mode, fs)
 abbrev pub Settled : Type 0
 Settled = Option (Operand × List Frame)
 
+-- an operand, with the frames that are open
 abbrev pub settled_of : Option Operand → List Frame → Settled
 settled_of None fs = None
 settled_of (Some x) fs = Some (x, fs)
 
+-- the frames, where the test holds
 abbrev pub frames_if : Bool → List Frame → Option (List Frame)
 frames_if true fs = Some fs
 frames_if false fs = None
 
+-- what is done with what there is
 abbrev pub and_then : {A B : Type 0} → Option A → (A → Option B) → Option B
 and_then None go = None
 and_then (Some x) go = go x
@@ -60,6 +67,7 @@ folds (f.Between op a) = true
 folds (f.Body op index) = true
 folds _ = false
 
+-- whether an operand ends the innermost frame
 abbrev pub top_folds : List Frame → Bool
 top_folds [] = false
 top_folds (g ∷ fs) = folds g
@@ -79,6 +87,7 @@ folded (f.Between op a) x = Some (o.between_of op a x)
 folded (f.Body op index) x = Some (o.aggregate_of op index x)
 folded _ x = None
 
+-- the same, where the operand is tight enough
 abbrev pub fold : Frame → Operand → Option Operand
 fold g x = if nat_le x.level (room g) then folded g x else None
 
@@ -101,6 +110,7 @@ placed op x (g ∷ fs) =
 
 -- ---- the innermost frame takes the operand at a bracket, a comma or a bar
 
+-- an operand comes next, in one more frame
 abbrev pub want_with : Frame → List Frame → State
 want_with g fs = Some (m.Want, g ∷ fs)
 
@@ -114,15 +124,19 @@ index_read i.Loop ready fs = None
 abbrev pub if_set : {A : Type 0} → Operand → Option A → Option A
 if_set x next = if nat_le x.level 5 then next else None
 
+-- the last set of an index, at the closing bracket
 abbrev pub set_at_round : IndexKind → Groups → List (List ℕ) → Operand → List Frame → State
 set_at_round kind groups names x fs = if_set x (index_read kind (o.whole_index_of (o.groups_with groups names x)) fs)
 
+-- the last set of an index, at the bar before its condition
 abbrev pub set_at_bar : IndexKind → Groups → List (List ℕ) → Operand → List Frame → State
 set_at_bar kind groups names x fs = if_set x (want_with (f.IndexCondition kind (o.groups_with groups names x)) fs)
 
+-- a set of an index, at the comma before more names
 abbrev pub set_at_comma : IndexKind → Groups → List (List ℕ) → Operand → List Frame → State
 set_at_comma kind groups names x fs = if_set x (Some (m.WantName kind (o.groups_with groups names x) [], fs))
 
+-- at a closing round bracket
 abbrev pub at_round : Frame → Operand → List Frame → State
 at_round f.Bracket x fs = Some (m.After (o.bracketed x), fs)
 at_round (f.Call n ps) x fs = Some (m.Called n (o.parts_with ps x), fs)
@@ -132,14 +146,17 @@ at_round (f.IndexSet kind groups names) x fs = set_at_round kind groups names x 
 at_round (f.IndexCondition kind groups) x fs = index_read kind (o.conditioned_index_of groups x) fs
 at_round _ x fs = None
 
+-- at a closing curly bracket
 abbrev pub at_curly : Frame → Operand → Option Mode
 at_curly (f.Set ps) x = Some (m.After (o.set_of (o.parts_with ps x)))
 at_curly _ x = None
 
+-- at a closing square bracket
 abbrev pub at_square : Frame → Operand → Option Mode
 at_square (f.List ps) x = Some (m.After (o.list_of (o.parts_with ps x)))
 at_square _ x = None
 
+-- at a comma
 abbrev pub at_comma : Frame → Operand → List Frame → State
 at_comma (f.Call n ps) x fs = want_with (f.Call n (o.parts_with ps x)) fs
 at_comma (f.Set ps) x fs = want_with (f.Set (o.parts_with ps x)) fs
@@ -150,10 +167,12 @@ at_comma (f.IfFirst p) x fs = want_with (f.IfSecond p x) fs
 at_comma (f.IndexSet kind groups names) x fs = set_at_comma kind groups names x fs
 at_comma _ x fs = None
 
+-- at the bar of an index
 abbrev pub at_bar : Frame → Operand → List Frame → State
 at_bar (f.IndexSet kind groups names) x fs = set_at_bar kind groups names x fs
 at_bar _ x fs = None
 
+-- at any of these
 abbrev pub at_frame : TokenKind → Operand → List Frame → State
 at_frame k x [] = None
 at_frame t.CloseRound x (g ∷ fs) = at_round g x fs
@@ -192,15 +211,19 @@ abbrev pub mode_behind : BinaryOperator → Mode
 mode_behind b.NotIn = m.WantIn
 mode_behind _ = m.Want
 
+-- a bracket, a comma or a bar behind an operand
 abbrev pub close : TokenKind → Operand → List Frame → State
 close k x fs = and_then (settled x fs) (λ y. at_frame k y.0 y.1)
 
+-- an operator behind an operand
 abbrev pub infix_at : BinaryOperator → Operand → List Frame → State
 infix_at op x fs = and_then (placed op x fs) (λ gs. Some (mode_behind op, gs))
 
+-- what a token behind an operand does, by the operator that it begins
 abbrev pub by_operator : Option BinaryOperator → TokenKind → Operand → List Frame → State
 by_operator None k x fs = close k x fs
 by_operator (Some op) k x fs = infix_at op x fs
 
+-- what a token behind an operand does
 unfoldable pub after_key : TokenKind → Operand → List Frame → State
 after_key k x fs = by_operator (operator_of k) k x fs

@@ -24,7 +24,7 @@ pub(crate) fn boxed<T: Drop, B: Drop>(
 }
 
 /// The items with one more at their end.
-pub(crate) fn pushed<T: Drop>(items: Items<T>, item: T) -> Result<Items<T>, NoMemory>
+pub fn with_item<T: Drop>(items: Items<T>, item: T) -> Result<Items<T>, NoMemory>
     ensures { IfOk result (λ all. all ≡ items ++ item ∷ []) }
 {
     let mut items = items;
@@ -38,7 +38,7 @@ pub(crate) fn pushed<T: Drop>(items: Items<T>, item: T) -> Result<Items<T>, NoMe
 }
 
 /// The names with a copy of one more at their end.
-pub(crate) fn named_too(
+pub fn with_name(
     alloc: Global,
     names: Items<SourceText>,
     name: &SourceText,
@@ -46,7 +46,7 @@ pub(crate) fn named_too(
     ensures { IfOk result (λ all. all ≡ names ++ name.now ∷ []) }
 {
     match name.copy(alloc) {
-        Ok(name) => pushed(names, name),
+        Ok(name) => with_item(names, name),
         Err(refused) => {
             let_go(names);
             Err(refused)

@@ -19,6 +19,7 @@ mod stack;
 mod taking;
 mod tree;
 
+pub use building::{with_item, with_name};
 pub use fault::ExprFault;
 pub use laws::{trees_are_small, words_have_one_tree};
 pub use tree::{

@@ -2,7 +2,7 @@
 ghost use Rattle.std.specs.Prelude.{◌≡◌, IfOk, Some};
 ghost use Rattle.mos_expr.specs.Operands as spec;
 
-use crate::building::{boxed, pushed};
+use crate::building::{boxed, with_item};
 use crate::operand::{Groups, Operand, Parts, WholeIndex, higher, keep, node};
 use mos_text::{NoMemory, SourceText, let_go};
 use mos_tree::{Expr, Group, Index};
@@ -22,7 +22,7 @@ pub(crate) fn no_parts(alloc: Global) -> Parts
 fn item_added(items: Items<Expr>, expr: Expr) -> Result<Option<Items<Expr>>, NoMemory>
     ensures { IfOk result (λ made. made ≡ Some (spec.pushed items expr)) }
 {
-    match pushed(items, expr) {
+    match with_item(items, expr) {
         Ok(all) => Ok(Some(all)),
         Err(refused) => Err(refused),
     }
@@ -154,7 +154,7 @@ fn group_added(
 ) -> Result<Option<Items<Group<Expr>>>, NoMemory>
     ensures { IfOk result (λ made. made ≡ Some (spec.grouped names items set)) }
 {
-    match pushed(items, Group { names, set }) {
+    match with_item(items, Group { names, set }) {
         Ok(all) => Ok(Some(all)),
         Err(refused) => Err(refused),
     }

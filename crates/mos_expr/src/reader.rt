@@ -4,7 +4,7 @@ ghost use Rattle.mos_expr.specs.Machine as spec;
 ghost use Rattle.mos_expr.specs.Reader as reads;
 
 use crate::frame::{Frame, IndexKind, Mode};
-use crate::building::named_too;
+use crate::building::with_name;
 use crate::machine::{operator_of, place, refuse, settle};
 use crate::operand::{Groups, Operand, Parts, leaf_of};
 use crate::parts::{call_field_of, call_of, list_of, no_groups, no_parts, set_of};
@@ -381,7 +381,7 @@ fn want_name(
     ensures { IfOk result (λ next. (fs : List spec.FrameType) → reads.want_name kind groups names word.now fs ≡ spec.state_of next fs) }
 {
     match word {
-        Word::Name(name) => match named_too(alloc, names, name) {
+        Word::Name(name) => match with_name(alloc, names, name) {
             Ok(names) => Ok(Some(Mode::AfterName(kind, groups, names))),
             Err(refused) => {
                 let_go(groups);

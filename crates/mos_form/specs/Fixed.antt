@@ -8,14 +8,14 @@ use Rattle.mos_scan.specs.declared.token.TokenKind.{TokenKind}
 use Rattle.mos_scan.specs.declared.token.TokenKind.TheVariants as t
 use Rattle.mos_scan.specs.declared.reading.Word.{Word}
 use Rattle.mos_scan.specs.declared.reading.Word.TheVariants as w
-use Rattle.mos_form.specs.declared.form.Form.{Form}
-use Rattle.mos_form.specs.declared.form.Form.TheVariants as f
-use Rattle.mos_form.specs.declared.form.Guard.{Guard}
-use Rattle.mos_form.specs.declared.form.Guard.TheVariants as guard
-use Rattle.mos_form.specs.declared.form.Keyword.{Keyword}
-use Rattle.mos_form.specs.declared.form.Mould.{Mould}
-use Rattle.mos_form.specs.declared.form.Mould.TheVariants as m
-use Rattle.mos_form.specs.declared.form.Simple.TheVariants as simple
+use Rattle.mos_tree.specs.declared.form.Form.{Form}
+use Rattle.mos_tree.specs.declared.form.Form.TheVariants as f
+use Rattle.mos_tree.specs.declared.form.ConditionKeyword.{ConditionKeyword}
+use Rattle.mos_tree.specs.declared.form.ConditionKeyword.TheVariants as condition
+use Rattle.mos_tree.specs.declared.form.Keyword.{Keyword}
+use Rattle.mos_tree.specs.declared.form.PieceKind.{PieceKind}
+use Rattle.mos_tree.specs.declared.form.PieceKind.TheVariants as m
+use Rattle.mos_tree.specs.declared.form.Simple.TheVariants as simple
 use Rattle.mos_typing.specs.Typing.{key, in_brackets}
 use Rattle.mos_form.specs.Heads.{keyword_of}
 
@@ -34,9 +34,9 @@ abbrev pub heading : Bool → List ℕ → List FormalGroup → Option BaseType 
 heading true n xs typ = f.Forward n xs typ
 heading false n xs typ = f.Routine n xs typ
 
-abbrev pub heading_mould : Bool → Mould → Mould
-heading_mould true routine = m.Forward
-heading_mould false routine = routine
+abbrev pub heading_kind : Bool → PieceKind → PieceKind
+heading_kind true routine = m.Forward
+heading_kind false routine = routine
 
 -- the first words of a heading
 abbrev pub lead : Bool → TokenKind → List Word → List Word
@@ -60,17 +60,17 @@ abbrev pub single : TokenKind → List Word → Form
 single kind [] = single_word kind
 single kind (word ∷ rest) = f.Unknown
 
-abbrev pub guard_word : Guard → TokenKind
-guard_word guard.If = t.If
-guard_word guard.Elif = t.Elif
-guard_word guard.Case = t.Case
-guard_word guard.While = t.While
-guard_word guard.Until = t.Until
+abbrev pub condition_word : ConditionKeyword → TokenKind
+condition_word condition.If = t.If
+condition_word condition.Elif = t.Elif
+condition_word condition.Case = t.Case
+condition_word condition.While = t.While
+condition_word condition.Until = t.Until
 
--- the words behind a guard with these words in its condition
-abbrev pub around : Guard → List Word → List Word
-around guard.If inside = inside ++ key t.Then
-around guard.Elif inside = inside ++ key t.Then
-around guard.Case inside = inside ++ key t.Of
-around guard.While inside = in_brackets inside
-around guard.Until inside = inside
+-- the words behind a keyword with these words in its condition
+abbrev pub around : ConditionKeyword → List Word → List Word
+around condition.If inside = inside ++ key t.Then
+around condition.Elif inside = inside ++ key t.Then
+around condition.Case inside = inside ++ key t.Of
+around condition.While inside = in_brackets inside
+around condition.Until inside = inside

@@ -6,21 +6,21 @@ use Rattle.mos_scan.specs.declared.token.TokenKind.{TokenKind}
 use Rattle.mos_scan.specs.declared.token.TokenKind.TheVariants as t
 use Rattle.mos_scan.specs.declared.reading.Word.{Word}
 use Rattle.mos_scan.specs.declared.reading.Word.TheVariants as w
-use Rattle.mos_form.specs.declared.form.Guard.TheVariants as guard
-use Rattle.mos_form.specs.declared.form.Keyword.{Keyword}
-use Rattle.mos_form.specs.declared.form.Keyword.TheVariants as keyword
+use Rattle.mos_tree.specs.declared.form.ConditionKeyword.TheVariants as condition
+use Rattle.mos_tree.specs.declared.form.Keyword.{Keyword}
+use Rattle.mos_tree.specs.declared.form.Keyword.TheVariants as keyword
 use Rattle.mos_form.specs.declared.head.Head.{Head}
 use Rattle.mos_form.specs.declared.head.Head.TheVariants as h
 use Rattle.mos_form.specs.declared.head.Next.{Next}
 use Rattle.mos_form.specs.declared.head.Next.TheVariants as n
 
-abbrev pub guard_or_single : TokenKind → Head
-guard_or_single t.If = h.Guarded guard.If
-guard_or_single t.Elif = h.Guarded guard.Elif
-guard_or_single t.Case = h.Guarded guard.Case
-guard_or_single t.While = h.Guarded guard.While
-guard_or_single t.Until = h.Guarded guard.Until
-guard_or_single _ = h.Single
+abbrev pub condition_or_single : TokenKind → Head
+condition_or_single t.If = h.Guarded condition.If
+condition_or_single t.Elif = h.Guarded condition.Elif
+condition_or_single t.Case = h.Guarded condition.Case
+condition_or_single t.While = h.Guarded condition.While
+condition_or_single t.Until = h.Guarded condition.Until
+condition_or_single _ = h.Single
 
 -- what the first word says, where it is a token
 abbrev pub head_of : TokenKind → Head
@@ -33,7 +33,7 @@ head_of t.Forward = h.Forward
 head_of t.Forall = h.Forall
 head_of t.Initializations = h.Initializations
 head_of t.Returned = h.Returned
-head_of kind = guard_or_single kind
+head_of kind = condition_or_single kind
 
 abbrev pub next_of_kind : TokenKind → Next
 next_of_kind t.Equal = n.Equal

@@ -5,8 +5,8 @@ use Rattle.mos_tree.specs.declared.statement.Label.{Label}
 use Rattle.mos_scan.specs.declared.token.TokenKind.TheVariants as t
 use Rattle.mos_scan.specs.declared.reading.Word.{Word}
 use Rattle.mos_scan.specs.declared.reading.Word.TheVariants as w
-use Rattle.mos_form.specs.declared.form.Form.{Form}
-use Rattle.mos_form.specs.declared.form.Form.TheVariants as f
+use Rattle.mos_tree.specs.declared.form.Form.{Form}
+use Rattle.mos_tree.specs.declared.form.Form.TheVariants as f
 use Rattle.mos_form.specs.declared.lists.TextMode.{TextMode}
 use Rattle.mos_form.specs.declared.lists.TextMode.TheVariants as x
 use Rattle.mos_form.specs.declared.lists.LabelMode.{LabelMode}

@@ -16,13 +16,13 @@ use Rattle.mos_scan.specs.declared.reading.Word.{Word}
 use Rattle.mos_scan.specs.declared.reading.Word.TheVariants as w
 use Rattle.mos_expr.specs.Grammar.{Syntax, Written, no_more, Over, Names, one_name, and_name, spell, spell_list, spell_over, spell_names, list_of_names, IsGrouped, AreGrouped, IsGroupedOver, height, heights, height_over, limit, tree, trees, index_of}
 use Rattle.mos_typing.specs.Typing.{Typing, Formals, key, in_brackets, base_words, typing_words, formal_words, type_of, formals_of, tallest_type, tallest_formals, TypeIsGrouped, FormalsAreGrouped}
-use Rattle.mos_form.specs.declared.form.Form.{Form}
-use Rattle.mos_form.specs.declared.form.Form.TheVariants as f
-use Rattle.mos_form.specs.declared.form.Guard.TheVariants as guard
-use Rattle.mos_form.specs.declared.form.Keyword.TheVariants as keyword
-use Rattle.mos_form.specs.declared.form.Keyword.{Keyword}
-use Rattle.mos_form.specs.declared.form.Simple.TheVariants as simple
-use Rattle.mos_form.specs.Forms.{mould_of}
+use Rattle.mos_tree.specs.declared.form.Form.{Form}
+use Rattle.mos_tree.specs.declared.form.Form.TheVariants as f
+use Rattle.mos_tree.specs.declared.form.ConditionKeyword.TheVariants as condition
+use Rattle.mos_tree.specs.declared.form.Keyword.TheVariants as keyword
+use Rattle.mos_tree.specs.declared.form.Keyword.{Keyword}
+use Rattle.mos_tree.specs.declared.form.Simple.TheVariants as simple
+use Rattle.mos_tree.specs.Forms.{piece_kind_of}
 
 -- ---- what is written
 
@@ -179,13 +179,13 @@ form_of (assign x operator s) = f.Simple (simple.Assign (reference_of x) operato
 form_of (fill n xs) = f.Simple (simple.Fill n (trees xs))
 form_of (call n xs) = f.Simple (simple.Call n (trees xs))
 form_of (bare n) = f.Bare n
-form_of (if_then s) = f.Guarded guard.If (tree s)
-form_of (elif_then s) = f.Guarded guard.Elif (tree s)
-form_of (case_of s) = f.Guarded guard.Case (tree s)
+form_of (if_then s) = f.Guarded condition.If (tree s)
+form_of (elif_then s) = f.Guarded condition.Elif (tree s)
+form_of (case_of s) = f.Guarded condition.Case (tree s)
 form_of (alternative xs) = f.Alternative (trees xs)
 form_of (forall_in i) = f.Forall (index_of i)
-form_of (while_so s) = f.Guarded guard.While (tree s)
-form_of (until_so s) = f.Guarded guard.Until (tree s)
+form_of (while_so s) = f.Guarded condition.While (tree s)
+form_of (until_so s) = f.Guarded condition.Until (tree s)
 form_of (initializations d s) = f.Initializations d (tree s)
 form_of (labels xs) = f.Labels (labels_of xs)
 
@@ -261,7 +261,7 @@ pub record IsPhrase (words : List Word) (p : Phrase) : Type 0 where
 
 -- the form of a piece, or that an expression in it is too high
 abbrev pub answer : Phrase → Form
-answer p = if nat_le (tallest p) limit then form_of p else f.TooHigh (mould_of (form_of p))
+answer p = if nat_le (tallest p) limit then form_of p else f.TooHigh (piece_kind_of (form_of p))
 
 -- the form of words: that of the piece that they are, or that they are none
 pub data IsFormOf (words : List Word) : Form → Type 0 where

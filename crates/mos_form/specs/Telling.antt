@@ -12,11 +12,11 @@ use Rattle.mos_expr.specs.Grammar.{Names, spell_names, list_of_names, Syntax, Wr
 use Rattle.mos_expr.specs.declared.fault.ExprFault.{ExprFault}
 use Rattle.mos_expr.specs.declared.fault.ExprFault.TheVariants as fault
 use Rattle.mos_typing.specs.Typing.{Typing, Formals, IsTyping, AreFormals, tallest_type, tallest_formals, type_of, formals_of}
-use Rattle.mos_form.specs.declared.form.Form.{Form}
-use Rattle.mos_form.specs.declared.form.Form.TheVariants as f
-use Rattle.mos_form.specs.declared.form.Mould.{Mould}
-use Rattle.mos_form.specs.declared.form.Simple.TheVariants as simple
-use Rattle.mos_form.specs.Forms.{mould_of}
+use Rattle.mos_tree.specs.declared.form.Form.{Form}
+use Rattle.mos_tree.specs.declared.form.Form.TheVariants as f
+use Rattle.mos_tree.specs.declared.form.PieceKind.{PieceKind}
+use Rattle.mos_tree.specs.declared.form.Simple.TheVariants as simple
+use Rattle.mos_tree.specs.Forms.{piece_kind_of}
 use Rattle.mos_form.specs.Phrases.{Phrase, alternative, call, typed, labels, assign, operator_word, target_words, IsPhrase, answer}
 use Rattle.mos_scan.specs.declared.token.TokenKind.TheVariants as t
 use Rattle.mos_scan.specs.declared.reading.Word.TheVariants as w
@@ -28,13 +28,13 @@ pub data Tells (A : Type 0) (Is : A → Type 0) (answer : A → Form) : Form →
 
 -- a form with expressions of this height
 abbrev pub by_height : ℕ → Form → Form
-by_height h form = if nat_le h limit then form else f.TooHigh (mould_of form)
+by_height h form = if nat_le h limit then form else f.TooHigh (piece_kind_of form)
 
--- what a piece of a mould is whose expressions have no trees
-abbrev pub refused : Mould → ExprFault → Option Form
-refused mould fault.NoExpr = Some f.Unknown
-refused mould fault.Deep = Some (f.TooHigh mould)
-refused mould fault.NoMemory = None
+-- what a piece of a kind is whose expressions have no trees
+abbrev pub refused : PieceKind → ExprFault → Option Form
+refused kind fault.NoExpr = Some f.Unknown
+refused kind fault.Deep = Some (f.TooHigh kind)
+refused kind fault.NoMemory = None
 
 -- a form with one expression
 abbrev pub TellsOne : (Expr → Form) → List Word → Form → Type 0
@@ -47,12 +47,6 @@ TellsAll make words = Tells Written (AreSpelled words) (λ ss. by_height (height
 -- at least one expression
 abbrev pub AreSome : List Word → Written → Type 0
 AreSome words ss = AreSpelled words ss × (ss ≢ no_more)
-
-abbrev pub AreSomeTrees : List Word → List Expr → Type 0
-AreSomeTrees words made = (ss : Written) × AreSome words ss × (heights ss ≤ limit) × (made ≡ trees ss)
-
-abbrev pub AreSomeTooHigh : List Word → Type 0
-AreSomeTooHigh words = (ss : Written) × AreSome words ss × (limit < heights ss)
 
 -- a form with at least one expression
 abbrev pub TellsSome : (List Expr → Form) → List Word → Form → Type 0

@@ -1,4 +1,5 @@
 pub mod Bases
+pub mod Beside
 pub mod Carrying
 pub mod Cases
 pub mod Cuts
@@ -10,6 +11,5 @@ pub mod Listed
 pub mod Plain
 pub mod Saying
 pub mod Shaped
-pub mod Sides
 pub mod Sizes
 pub mod Typed

@@ -5,6 +5,7 @@ ghost use Rattle.mos_scan.specs.declared.reading.Word.{Word as WordType};
 ghost use Rattle.mos_scan.specs.declared.reading.Word.TheVariants as w;
 ghost use Rattle.mos_typing.specs.Reader.{names_of};
 
+use mos_expr::with_name;
 use mos_scan::{TokenKind, Word};
 use mos_text::{NoMemory, SourceText, let_go};
 use sqlite_items::Items;
@@ -27,7 +28,7 @@ pub(crate) fn names_of_words(alloc: Global, words: &[Word]) -> Result<Option<Ite
     let mut found = Items::new(alloc);
     let mut rest = words;
     while let [Word::Name(name), after @ ..] = rest {
-        match named_too(alloc, found, name) {
+        match with_name(alloc, found, name) {
             Ok(more) => found = more,
             Err(refused) => return Err(refused),
         }

@@ -5,7 +5,7 @@ ghost use Rattle.mos_expr.specs.declared.fault.ExprFault.{ExprFault as Fault};
 ghost use Rattle.mos_expr.specs.declared.fault.ExprFault.TheVariants as fault;
 ghost use Rattle.mos_typing.specs.Joining as joining;
 
-use mos_expr::ExprFault;
+use mos_expr::{ExprFault, with_item};
 use mos_text::{NoMemory, let_go};
 use sqlite_items::Items;
 
@@ -17,16 +17,10 @@ fn pushed<T: Drop>(done: Option<Items<T>>, item: T) -> Result<Option<Items<T>>, 
             let_go(item);
             Ok(None)
         }
-        Some(items) => {
-            let mut items = items;
-            match items.push(item) {
-                Ok(()) => Ok(Some(items)),
-                Err(_) => {
-                    let_go(items);
-                    Err(NoMemory)
-                }
-            }
-        }
+        Some(items) => match with_item(items, item) {
+            Ok(items) => Ok(Some(items)),
+            Err(refused) => Err(refused),
+        },
     }
 }
 

@@ -1,4 +1,4 @@
-use Rattle.mos_typing.proofs.Sides.{says_sides}
+use Rattle.mos_typing.proofs.Beside.{says_sides}
 use Rattle.mos_typing.proofs.sides.indexes_and_value.Goals as goal
 
 pub returns : goal.returns
