@@ -1,3 +1,5 @@
+-- As the code looks for the next lexeme, from the left. No public clause cites this file.
+
 use Rattle.std.specs.Prelude.{◌≡◌, ℕ, ◌≢◌, ◌+◌, ◌<◌, ◌≤◌, ◌++◌, length, false, if◌then◌else◌, List, [], ◌∷◌, take, Option, Some, None, unwrap_or}
 use Rattle.std.specs.List.{prefix_len}
 use Rattle.std.specs.Char.{is_ascii_digit}
@@ -6,27 +8,33 @@ use Rattle.mos_scan.specs.Words.{end_at, plain_word}
 use Rattle.mos_scan.specs.Tokens.{closing, one_byte, two_bytes, gap_at, fault_at, kind_of}
 use Rattle.mos_scan.specs.declared.token.TokenKind.{TokenKind}
 use Rattle.mos_scan.specs.declared.token.TokenKind.TheVariants as t
-use Rattle.mos_scan.specs.declared.front.Wrong.{Wrong}
-use Rattle.mos_scan.specs.declared.front.Front.{Front}
-use Rattle.mos_scan.specs.declared.front.Front.TheVariants as f
+use Rattle.mos_scan.specs.declared.lexeme.LexicalError.{LexicalError}
+use Rattle.mos_scan.specs.declared.lexeme.LexicalError.TheVariants as e
+use Rattle.mos_text.specs.declared.kind.Kind.{Kind}
+use Rattle.mos_text.specs.declared.kind.Kind.TheVariants as k
+use Rattle.mos_scan.specs.declared.lexeme.Lexeme.{Lexeme}
+use Rattle.mos_scan.specs.declared.lexeme.Lexeme.TheVariants as f
 
--- What stands at the front of the bytes, by looking at them from the left.
-
+-- an `end-` word with its length, or the word at the front
 abbrev pub end_or_word : Option (TokenKind × ℕ) → List ℕ → TokenKind × ℕ
 end_or_word (Some found) bs = found
 end_or_word None bs = (plain_word (take (prefix_len is_word bs) bs), prefix_len is_word bs)
 
+-- a symbol of two bytes, or of one
 abbrev pub two_or_one : Option TokenKind → ℕ → TokenKind × ℕ
 two_or_one (Some kind) a = (kind, 2)
 two_or_one None a = (unwrap_or (one_byte a) t.Newline, 1)
 
+-- the symbol at the front
 abbrev pub symbol_at : ℕ → List ℕ → TokenKind × ℕ
 symbol_at a [] = two_or_one None a
 symbol_at a (b ∷ bs) = two_or_one (two_bytes a b) a
 
+-- the text in quotes at the front
 abbrev pub quoted_at : ℕ → List ℕ → TokenKind × ℕ
 quoted_at quote bs = (t.Text, unwrap_or (closing quote false 0 bs) 0 + 1)
 
+-- the word at the front
 unfoldable pub word_at : List ℕ → TokenKind × ℕ
 word_at bs = end_or_word (end_at bs) bs
 
@@ -38,16 +46,19 @@ token_at (a ∷ bs) =
     else (if is_ascii_digit a then (t.Number, prefix_len is_ascii_digit (a ∷ bs))
     else (if is_quote a then quoted_at a bs else symbol_at a bs))
 
-abbrev pub fault_or_token : Option (Wrong × ℕ) → TokenKind × ℕ → Front
-fault_or_token (Some x) y = f.Fault x.0 x.1
-fault_or_token None y = f.Token y.0 y.1
+-- the kind that an error is at the front of these bytes; of a word that is left out it names the word
+abbrev pub kind_of_error : List ℕ → LexicalError → Kind
+kind_of_error bytes e.Char = k.Char
+kind_of_error bytes e.Real = k.Real
+kind_of_error bytes e.Number = k.Number
+kind_of_error bytes e.Text = k.Str
+kind_of_error bytes e.Comment = k.Comment
+kind_of_error bytes e.Out = k.Out (take (prefix_len is_word bytes) bytes)
 
-abbrev pub gap_or_else : Option ℕ → List ℕ → Front
-gap_or_else (Some n) bs = f.Gap n
-gap_or_else None bs = fault_or_token (fault_at bs) (token_at bs)
-
-unfoldable pub front : List ℕ → Front
-front bs = gap_or_else (gap_at bs) bs
+-- an error with its offset, as one of the kinds
+abbrev pub kind_and_offset : List ℕ → Option (LexicalError × ℕ) → Option (Kind × ℕ)
+kind_and_offset bytes None = None
+kind_and_offset bytes (Some found) = Some (kind_of_error bytes found.0, found.1)
 
 -- a text at the front that is the longest token there
 pub record Longest (bytes : List ℕ) (kind : TokenKind) (n : ℕ) : Type 0 where
@@ -60,13 +71,13 @@ pub record Longest (bytes : List ℕ) (kind : TokenKind) (n : ℕ) : Type 0 wher
   pub longest : (more after : List ℕ) → rest ≡ more ++ after → more ≢ [] → kind_of (text ++ more) ≡ None
 
 -- what stands at the front of the bytes
-abbrev pub Stands : List ℕ → Front → Type 0
+abbrev pub Stands : List ℕ → Lexeme → Type 0
 Stands bytes (f.Gap n) = (gap_at bytes ≡ Some n) × (0 < n) × (n ≤ length bytes)
 Stands bytes (f.Token kind n) = (gap_at bytes ≡ None) × (fault_at bytes ≡ None) × Longest bytes kind n
-Stands bytes (f.Fault wrong far) = (gap_at bytes ≡ None) × (fault_at bytes ≡ Some (wrong, far))
+Stands bytes (f.Fault error offset) = (gap_at bytes ≡ None) × (fault_at bytes ≡ Some (kind_of_error bytes error, offset))
 
 -- what stands at the front lies within so many bytes
-abbrev pub Within : Front → ℕ → Type 0
+abbrev pub Within : Lexeme → ℕ → Type 0
 Within (f.Gap n) size = n ≤ size
 Within (f.Token kind n) size = n ≤ size
-Within (f.Fault wrong far) size = far ≤ size
+Within (f.Fault error offset) size = offset ≤ size
