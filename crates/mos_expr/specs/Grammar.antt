@@ -147,7 +147,16 @@ level_body g.Or = 6
 abbrev pub level : Syntax → ℕ
 level (before op s) = level_before op
 level (between op s x) = binds op
-level _ = 1
+level (leaf x) = 1
+level (call n xs) = 1
+level (call_field n xs f) = 1
+level (set xs) = 1
+level (list xs) = 1
+level (bracket s) = 1
+level (if_expr x y z) = 1
+level (convert c s) = 1
+level (aggregate g i s) = 1
+level (counted i) = 1
 
 -- whether what stands at the right end would take the operator that comes next: an operand or a body takes all that it can
 abbrev mutual

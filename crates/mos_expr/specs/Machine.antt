@@ -30,10 +30,6 @@ stack_of frames = reverse frames
 abbrev pub State : Type 0
 State = Option (Mode × List Frame)
 
--- the words so far begin nothing
-abbrev pub nothing : State
-nothing = None
-
 -- what comes next, with the frames that are open
 abbrev pub state_of : Option Mode → List Frame → State
 state_of None fs = None

@@ -1,5 +1,6 @@
 //! The calls: the tree of words that spell an expression, expressions with commas, or an index.
 ghost use Rattle.std.specs.Prelude.{◌≡◌, ◌≤◌, length};
+ghost use Rattle.mos_text.specs.Limits.{source_limit};
 ghost use Rattle.mos_scan.specs.Reading.{words_of};
 ghost use Rattle.mos_expr.specs.Reader as reads;
 ghost use Rattle.mos_expr.specs.Said.{Says, IsExpression, AreExpressions, AreSomeExpressions, IsIndex};
@@ -82,9 +83,9 @@ pub fn index_of_words(alloc: Global, words: &[Word]) -> Result<Index<Expr>, Expr
 }
 
 /// The one tree of tokens of a source, which are all of one expression; the tokens are neighbours
-/// in the list that `scan` gives for the source.
+/// in the list that `scan` gives for the source, and newlines among them are passed over.
 pub fn expression(alloc: Global, source: &[u8], tokens: &[Token]) -> Result<Expr, ExprFault>
-    requires { length tokens.now ≤ 1048576 }
+    requires { length source.now ≤ source_limit }
     ensures { Says (IsExpression (words_of source.now tokens.now)) result }
 {
     match words(alloc, source, tokens) {

@@ -1,4 +1,5 @@
--- Assignments to cells: indexes and a value.
+-- As the code reads, apart from what the public clauses say: assignments to cells: indexes and a
+-- value.
 
 use Rattle.std.specs.Prelude.{ℕ, max, List, Option, Some, None}
 use Rattle.mos_tree.specs.declared.expr.Expr.{Expr}

@@ -1,4 +1,5 @@
--- Pieces that have no expressions, or that differ by a word alone.
+-- As the code reads, apart from what the public clauses say: pieces that have no expressions, or
+-- that differ by a word alone.
 
 use Rattle.std.specs.Prelude.{ℕ, Bool, true, false, List, [], ◌∷◌, ◌++◌, Option, Some, None}
 use Rattle.mos_tree.specs.declared.declaration.BaseType.{BaseType}
@@ -30,10 +31,12 @@ abbrev pub options : List Word → Form
 options (w.Name n ∷ []) = f.Options n
 options _ = f.Unknown
 
+-- the heading of a routine, behind `forward` or not
 abbrev pub heading : Bool → List ℕ → List FormalGroup → Option BaseType → Form
 heading true n xs typ = f.Forward n xs typ
 heading false n xs typ = f.Routine n xs typ
 
+-- its kind
 abbrev pub heading_kind : Bool → PieceKind → PieceKind
 heading_kind true routine = m.Forward
 heading_kind false routine = routine
@@ -43,15 +46,18 @@ abbrev pub lead : Bool → TokenKind → List Word → List Word
 lead true kind words = w.Key t.Forward ∷ w.Key kind ∷ words
 lead false kind words = w.Key kind ∷ words
 
+-- the statements of one word
 abbrev pub other_word : TokenKind → Form
 other_word t.Break = f.Simple simple.Break
 other_word t.Next = f.Simple simple.Next
 other_word _ = f.Unknown
 
+-- the keyword, or else this
 abbrev pub keyword_or : Option Keyword → Form → Form
 keyword_or None other = other
 keyword_or (Some x) other = f.Keyword x
 
+-- the piece that is this token alone
 abbrev pub single_word : TokenKind → Form
 single_word kind = keyword_or (keyword_of kind) (other_word kind)
 
@@ -60,6 +66,7 @@ abbrev pub single : TokenKind → List Word → Form
 single kind [] = single_word kind
 single kind (word ∷ rest) = f.Unknown
 
+-- the token of a keyword with a condition
 abbrev pub condition_word : ConditionKeyword → TokenKind
 condition_word condition.If = t.If
 condition_word condition.Elif = t.Elif

@@ -1,4 +1,5 @@
--- What the first words of a piece say of it.
+-- As the code reads, apart from what the public clauses say: what the first words of a piece say of
+-- it.
 
 use Rattle.std.specs.Prelude.{Option, Some, None}
 use Rattle.mos_tree.specs.declared.statement.Assignment.TheVariants as assignment
@@ -14,6 +15,7 @@ use Rattle.mos_form.specs.declared.head.Head.TheVariants as h
 use Rattle.mos_form.specs.declared.head.Next.{Next}
 use Rattle.mos_form.specs.declared.head.Next.TheVariants as n
 
+-- the keywords with a condition; any other token is a piece alone, or begins none
 abbrev pub condition_or_single : TokenKind → Head
 condition_or_single t.If = h.Guarded condition.If
 condition_or_single t.Elif = h.Guarded condition.Elif
@@ -35,6 +37,7 @@ head_of t.Initializations = h.Initializations
 head_of t.Returned = h.Returned
 head_of kind = condition_or_single kind
 
+-- what a token behind a name says
 abbrev pub next_of_kind : TokenKind → Next
 next_of_kind t.Equal = n.Equal
 next_of_kind t.Fill = n.Fill
@@ -53,6 +56,7 @@ abbrev pub next_of : Word → Next
 next_of (w.Key kind) = next_of_kind kind
 next_of _ = n.Other
 
+-- the tokens that end a block
 abbrev pub end_of : TokenKind → Option Keyword
 end_of t.EndModel = Some keyword.EndModel
 end_of t.EndParameters = Some keyword.EndParameters

@@ -1,4 +1,5 @@
--- What is told of words that may be one of many things, of which only one fits.
+-- As the code reads, apart from what the public clauses say: what is told of words that may be one
+-- of many things, of which only one fits.
 
 use Rattle.std.specs.Prelude.{◌≡◌, ◌≢◌, ℕ, ◌<◌, ◌≤◌, if◌then◌else◌, nat_le, List, ◌∷◌, ◌++◌, Option, Some, None}
 use Rattle.mos_tree.specs.declared.expr.Expr.{Expr}
@@ -64,12 +65,15 @@ TellsType make words = Tells Typing (IsTyping words) (λ t. by_height (tallest_t
 abbrev pub TellsFormals : (List FormalGroup → Form) → List Word → Form → Type 0
 TellsFormals make words = Tells Formals (AreFormals words) (λ xs. by_height (tallest_formals xs) (make (formals_of xs)))
 
+-- an assignment
 abbrev pub assigned : Reference → Assignment → Expr → Form
 assigned target operator value = f.Simple (simple.Assign target operator value)
 
+-- a call
 abbrev pub called : List ℕ → List Expr → Form
 called name arguments = f.Simple (simple.Call name arguments)
 
+-- cells that are filled
 abbrev pub filled : List ℕ → List Expr → Form
 filled name values = f.Simple (simple.Fill name values)
 
@@ -91,6 +95,7 @@ abbrev pub IsCall : Phrase → Type 0
 IsCall (call n xs) = Unit {0}
 IsCall _ = ⊥
 
+-- what a call is
 abbrev pub TellsCall : List ℕ → List Word → Form → Type 0
 TellsCall name behind = Tells Phrase (λ p. IsPhrase (w.Name name ∷ w.Key t.OpenRound ∷ behind) p × IsCall p) answer
 
@@ -99,6 +104,7 @@ abbrev pub TargetIs : List Word → Phrase → Type 0
 TargetIs words (assign x operator s) = target_words x ≡ words
 TargetIs words _ = ⊥
 
+-- what an assignment to a cell is
 abbrev pub TellsCellSet : List ℕ → List Word → Assignment → List Word → Form → Type 0
 TellsCellSet name target operator value =
     Tells Phrase (λ p. IsPhrase (w.Name name ∷ w.Key t.OpenRound ∷ (target ++ operator_word operator ∷ value)) p × TargetIs (w.Name name ∷ w.Key t.OpenRound ∷ target) p) answer
@@ -109,6 +115,7 @@ IsListed (typed ns x) = Unit {0}
 IsListed (labels xs) = Unit {0}
 IsListed _ = ⊥
 
+-- what a list of names is
 abbrev pub TellsList : List Word → Form → Type 0
 TellsList words = Tells Phrase (λ p. IsPhrase words p × IsListed p) answer
 
@@ -116,6 +123,7 @@ TellsList words = Tells Phrase (λ p. IsPhrase words p × IsListed p) answer
 abbrev pub AreTyped : List Word → List Word → Names × Typing → Type 0
 AreTyped before behind p = (before ≡ spell_names p.0) × IsTyping behind p.1
 
+-- what names with a type are
 abbrev pub TellsTyped : List Word → List Word → Form → Type 0
 TellsTyped before behind = Tells (Names × Typing) (AreTyped before behind) (λ p. by_height (tallest_type p.1) (f.Typed (list_of_names p.0) (type_of p.1)))
 

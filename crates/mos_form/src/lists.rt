@@ -5,7 +5,7 @@ ghost use Rattle.mos_form.specs.declared.lists.TextMode.TheVariants as mode;
 ghost use Rattle.mos_form.specs.declared.lists.LabelMode.TheVariants as label_mode;
 
 use mos_scan::{TokenKind, Word};
-use mos_text::{NoMemory, SourceText};
+use mos_text::{NoMemory, SourceText, let_go};
 use mos_tree::{Form, Label};
 use sqlite_items::Items;
 use std::alloc::Global;
@@ -79,10 +79,16 @@ pub(crate) fn uses(alloc: Global, words: &[Word]) -> Result<Form, NoMemory>
     ensures { IfOk result (λ form. form ≡ spec.uses words.now) }
 {
     let mut found = Vec::new(alloc);
-    if read_texts(alloc, &mut found, words)? {
-        Ok(Form::Uses(Items::from_vec(found)))
-    } else {
-        Ok(Form::Unknown)
+    match read_texts(alloc, &mut found, words) {
+        Ok(true) => Ok(Form::Uses(Items::from_vec(found))),
+        Ok(false) => {
+            let_go(found);
+            Ok(Form::Unknown)
+        }
+        Err(refused) => {
+            let_go(found);
+            Err(refused)
+        }
     }
 }
 
@@ -103,8 +109,13 @@ pub(crate) enum LabelMode {
 fn add(found: &mut Vec<Label>, name: SourceText, shown: Option<SourceText>) -> Result<(), NoMemory>
     ensures { OnOk result (found.new.items ≡ spec.add found.old.items name shown) }
 {
-    found.push(Label { name, shown })?;
-    Ok(())
+    match found.push(Label { name, shown }) {
+        Ok(()) => Ok(()),
+        Err(refused) => {
+            let_go(refused);
+            Err(NoMemory)
+        }
+    }
 }
 
 fn wanted_name(alloc: Global, word: &Word) -> Result<Option<LabelMode>, NoMemory>
@@ -129,7 +140,10 @@ fn after_label(
             Ok(Some(LabelMode::Want))
         }
         Word::Key(TokenKind::As) => Ok(Some(LabelMode::WantText(name))),
-        _ => Ok(None),
+        _ => {
+            let_go(name);
+            Ok(None)
+        }
     }
 }
 
@@ -137,8 +151,17 @@ fn wanted_shown(alloc: Global, name: SourceText, word: &Word) -> Result<Option<L
     ensures { IfOk result (λ next. next ≡ spec.wanted_shown name word.now) }
 {
     match word {
-        Word::Text(text) => Ok(Some(LabelMode::Shown(name, text.copy(alloc)?))),
-        _ => Ok(None),
+        Word::Text(text) => match text.copy(alloc) {
+            Ok(shown) => Ok(Some(LabelMode::Shown(name, shown))),
+            Err(refused) => {
+                let_go(name);
+                Err(refused)
+            }
+        },
+        _ => {
+            let_go(name);
+            Ok(None)
+        }
     }
 }
 
@@ -155,7 +178,11 @@ fn after_shown(
             add(found, name, Some(shown))?;
             Ok(Some(LabelMode::Want))
         }
-        _ => Ok(None),
+        _ => {
+            let_go(name);
+            let_go(shown);
+            Ok(None)
+        }
     }
 }
 
@@ -212,9 +239,15 @@ pub(crate) fn labels(alloc: Global, words: &[Word]) -> Result<Form, NoMemory>
     ensures { IfOk result (λ form. form ≡ spec.labels words.now) }
 {
     let mut found = Vec::new(alloc);
-    if read_labels(alloc, &mut found, words)? {
-        Ok(Form::Labels(Items::from_vec(found)))
-    } else {
-        Ok(Form::Unknown)
+    match read_labels(alloc, &mut found, words) {
+        Ok(true) => Ok(Form::Labels(Items::from_vec(found))),
+        Ok(false) => {
+            let_go(found);
+            Ok(Form::Unknown)
+        }
+        Err(refused) => {
+            let_go(found);
+            Err(refused)
+        }
     }
 }

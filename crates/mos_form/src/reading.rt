@@ -20,7 +20,7 @@ use crate::head::{Head, Next, head_of, keyword_of, next_of};
 use crate::headings::{forward, function, model, options, procedure};
 use crate::lists::{labels, uses};
 use mos_scan::{TokenKind, Word};
-use mos_text::{NoMemory, SourceText, let_go};
+use mos_text::{NoMemory, SourceText};
 use mos_tree::{Assignment, ConditionKeyword, Form, Reference, Simple};
 use mos_expr::trees_are_small;
 use mos_typing::{expressions_have_plain_words, names, types_are_small};
@@ -256,13 +256,8 @@ fn set_field(
     ensures { IfOk result (spec.TellsPiece (w.Name name.now ∷ w.Key t.Dot ∷ w.Name field.now ∷ operator_word operator ∷ value.now)) }
 {
     let name = name.copy(alloc)?;
-    match field.copy(alloc) {
-        Ok(field) => assignment(alloc, Reference::Field(name, field), operator, value),
-        Err(refused) => {
-            let_go(name);
-            Err(refused)
-        }
-    }
+    let field = field.copy(alloc)?;
+    assignment(alloc, Reference::Field(name, field), operator, value)
 }
 
 /// What stands behind a name and a bracket: the arguments of a call, or a cell that is assigned to.

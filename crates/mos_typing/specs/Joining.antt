@@ -1,4 +1,5 @@
--- What is said of a whole, from what is said of its parts: where one of them is nothing the whole is nothing, else
+-- As the code reads, apart from what the public clauses say: what is said of a whole, from what is
+-- said of its parts: where one of them is nothing the whole is nothing, else
 -- where one is too high the whole is.
 
 use Rattle.std.specs.Prelude.{List, [], ◌∷◌, ◌++◌, Option, Some, None, Result, Ok, Err}

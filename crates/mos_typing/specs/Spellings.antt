@@ -1,6 +1,7 @@
 -- What words spell here: dimensions, types and formals, each with its tree and its height.
 
-use Rattle.std.specs.Prelude.{◌≡◌, ℕ, max, List, [], ◌∷◌}
+use Rattle.std.specs.Prelude.{◌≡◌, ℕ, max, List, [], ◌∷◌, Option, Some, None}
+use Rattle.mos_tree.specs.declared.declaration.BaseType.{BaseType}
 use Rattle.mos_tree.specs.declared.declaration.Dimension.{Dimension}
 use Rattle.mos_tree.specs.declared.declaration.TypeForm.{TypeForm}
 use Rattle.mos_tree.specs.declared.declaration.FormalGroup.{FormalGroup}
@@ -55,3 +56,13 @@ pub record AreBoth {A B : Type 0} (First : A → ℕ → Type 0) (Rest : B → �
 -- indexes, at least one, and a value
 abbrev pub AreIndexesAndValue : List Word → List Word → List Expr × Expr → ℕ → Type 0
 AreIndexesAndValue indexes value = AreBoth (AreSomeExpressions indexes) (IsExpression value)
+
+-- the names that the words are, with commas between them, or that they are none
+abbrev pub FindsNames : List Word → Option (List (List ℕ)) → Type 0
+FindsNames words None = (ns : Names) → words ≡ spell_names ns → ⊥
+FindsNames words (Some all) = (ns : Names) × (words ≡ spell_names ns) × (all ≡ list_of_names ns)
+
+-- the type that the word is alone, or that it is none
+abbrev pub FindsBase : Word → Option BaseType → Type 0
+FindsBase word None = (b : BaseType) → Typing.base_words b ≡ word ∷ [] → ⊥
+FindsBase word (Some b) = Typing.base_words b ≡ word ∷ []

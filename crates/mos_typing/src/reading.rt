@@ -1,8 +1,7 @@
 //! The calls: what words are, that they are too high, or that they are none.
-ghost use Rattle.std.specs.Prelude.{◌≡◌, IfOk, MatchOption};
-ghost use Rattle.mos_expr.specs.Grammar.{Names, spell_names, list_of_names};
+ghost use Rattle.std.specs.Prelude.{IfOk};
 ghost use Rattle.mos_expr.specs.Said.{Says};
-ghost use Rattle.mos_typing.specs.Spellings.{IsTypeForm, AreFormalGroups};
+ghost use Rattle.mos_typing.specs.Spellings.{IsTypeForm, AreFormalGroups, FindsNames};
 
 use crate::formal::formals_of_words;
 use crate::name::names_of_words;
@@ -16,7 +15,7 @@ use std::alloc::Global;
 
 /// The names that the words are, with commas between them; None where they are none.
 pub fn names(alloc: Global, words: &[Word]) -> Result<Option<Items<SourceText>>, NoMemory>
-    ensures found { IfOk result (λ found. MatchOption found ((ns : Names) → words.now ≡ spell_names ns → ⊥) (λ all. (ns : Names) × (words.now ≡ spell_names ns) × (all ≡ list_of_names ns))) }
+    ensures { IfOk result (FindsNames words.now) }
 {
     names_of_words(alloc, words)
 }
