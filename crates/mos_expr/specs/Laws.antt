@@ -12,12 +12,15 @@ answer_at made high = if nat_le high limit then Ok made else Err fault.Deep
 
 -- words have at most one tree, or are too high in each way that they are spelled
 abbrev pub HaveOneTree : Type 0
-HaveOneTree = (words : List Word) (s t : Syntax) → IsSpelled words s → IsSpelled words t → answer_at (tree s) (height s) ≡ answer_at (tree t) (height t)
+HaveOneTree = (words : List Word) (s t : Syntax) → IsSpelled words s → IsSpelled words t
+    → answer_at (tree s) (height s) ≡ answer_at (tree t) (height t)
 
 -- words have at most one list of trees
 abbrev pub HaveOneList : Type 0
-HaveOneList = (words : List Word) (ss ts : Written) → AreSpelled words ss → AreSpelled words ts → answer_at (trees ss) (heights ss) ≡ answer_at (trees ts) (heights ts)
+HaveOneList = (words : List Word) (ss ts : Written) → AreSpelled words ss → AreSpelled words ts
+    → answer_at (trees ss) (heights ss) ≡ answer_at (trees ts) (heights ts)
 
 -- words have at most one index
 abbrev pub HaveOneIndex : Type 0
-HaveOneIndex = (words : List Word) (i j : Over) → IsIndexSpelled words i → IsIndexSpelled words j → answer_at (index_of i) (height_over i) ≡ answer_at (index_of j) (height_over j)
+HaveOneIndex = (words : List Word) (i j : Over) → IsIndexSpelled words i → IsIndexSpelled words j
+    → answer_at (index_of i) (height_over i) ≡ answer_at (index_of j) (height_over j)

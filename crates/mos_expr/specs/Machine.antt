@@ -1,7 +1,7 @@
 -- As the code reads, apart from what the public clauses say: which open frames an operand ends, and what the frame that is
 -- then innermost makes of it. The innermost frame stands first.
 
-use Rattle.std.specs.Prelude.{ℕ, Bool, true, false, ◌&&◌, if◌then◌else◌, nat_le, List, [], ◌∷◌, reverse, Option, Some, None}
+use Rattle.std.specs.Prelude.{◌≡◌, ℕ, Bool, true, false, ◌&&◌, if◌then◌else◌, nat_le, List, [], ◌∷◌, reverse, Option, Some, None, MatchOption}
 use Rattle.mos_tree.specs.declared.expr.BinaryOperator.{BinaryOperator}
 use Rattle.mos_tree.specs.declared.expr.BinaryOperator.TheVariants as b
 use Rattle.mos_scan.specs.declared.token.TokenKind.{TokenKind}
@@ -18,13 +18,14 @@ use Rattle.mos_expr.specs.declared.frame.Frame.TheVariants as f
 use Rattle.mos_expr.specs.declared.frame.Mode.{Mode}
 use Rattle.mos_expr.specs.declared.frame.Mode.TheVariants as m
 
--- the type of frames, by a name that clauses can say
-abbrev pub FrameType : Type 0
-FrameType = Frame
-
 -- the frames of the code, whose innermost stands last
 abbrev pub stack_of : List Frame → List Frame
 stack_of frames = reverse frames
+
+-- the frame that is taken off a stack
+abbrev pub IsPopped : List Frame → List Frame → Option Frame → Type 0
+IsPopped old new popped =
+    MatchOption popped ((stack_of old ≡ []) × (stack_of new ≡ [])) (λ frame. stack_of old ≡ frame ∷ stack_of new)
 
 -- what comes next, in which frames; none where the words so far begin nothing
 abbrev pub State : Type 0
@@ -34,6 +35,14 @@ State = Option (Mode × List Frame)
 abbrev pub state_of : Option Mode → List Frame → State
 state_of None fs = None
 state_of (Some mode) fs = Some (mode, fs)
+
+-- the stacks before and after a step, and what comes next, are those of this step on lists
+abbrev pub IsStep : (List Frame → State) → List Frame → List Frame → Option Mode → Type 0
+IsStep step old new next = step (stack_of old) ≡ state_of next (stack_of new)
+
+-- a step that leaves the frames as they are, whichever they are
+abbrev pub IsStepAnywhere : (List Frame → State) → Option Mode → Type 0
+IsStepAnywhere step next = (frames : List Frame) → step frames ≡ state_of next frames
 
 -- an operand, in which frames
 abbrev pub Settled : Type 0

@@ -105,11 +105,11 @@ if_expr_of a b c = node (max a.height (max b.height c.height)) (map3 if_expr a.e
 
 -- the operand that a prefix operator makes
 abbrev pub before_of : UnaryOperator → Operand → Operand
-before_of op x = record { level = level_before op; height = higher x.height; expr = kept (higher x.height) (map1 (unary op) x.expr) }
+before_of op x = node_at (level_before op) x.height (map1 (unary op) x.expr)
 
 -- the operand that an operator makes of two
 abbrev pub between_of : BinaryOperator → Operand → Operand → Operand
-between_of op a b = record { level = binds op; height = higher (max a.height b.height); expr = kept (higher (max a.height b.height)) (map2 (binary op) a.expr b.expr) }
+between_of op a b = node_at (binds op) (max a.height b.height) (map2 (binary op) a.expr b.expr)
 
 -- the operand that an aggregate is
 abbrev pub aggregate_of : AggregateOperator → WholeIndex → Operand → Operand

@@ -1,17 +1,18 @@
 -- What is said of words: the one thing that they spell and how high it is, that it is too high, or that they spell nothing.
 
-use Rattle.std.specs.Prelude.{◌≡◌, ℕ, ◌<◌, ◌≤◌, max, List, Result, Ok, Err}
+use Rattle.std.specs.Prelude.{◌≡◌, ℕ, ◌<◌, ◌≤◌, List, Result, Ok, Err}
 use Rattle.mos_tree.specs.declared.expr.Expr.{Expr}
 use Rattle.mos_tree.specs.declared.expr.Index.{Index}
 use Rattle.mos_scan.specs.declared.reading.Word.{Word}
-use Rattle.mos_expr.specs.Grammar.{Syntax, Written, no_more, one_more, Over, IsGrouped, AreGrouped, IsGroupedOver, spell, spell_list, spell_over, tree, trees, index_of, height, heights, height_over, limit}
+use Rattle.mos_expr.specs.Grammar.{Written, no_more, one_more, IsGrouped, AreGrouped, IsGroupedOver, spell, spell_list, spell_over, tree, trees, index_of, height, heights, height_over, limit}
 use Rattle.mos_expr.specs.declared.fault.ExprFault.{ExprFault}
 use Rattle.mos_expr.specs.declared.fault.ExprFault.TheVariants as fault
 
 -- ---- what words spell
 
 -- the words spell what has this tree and is so high
-pub record Spelled {S T : Type 0} (Grouped : S → Type 0) (words_of : S → List Word) (tree_of : S → T) (height_of : S → ℕ) (words : List Word) (made : T) (high : ℕ) : Type 0 where
+pub record Spelled {S T : Type 0} (Grouped : S → Type 0) (words_of : S → List Word) (tree_of : S → T) (height_of : S → ℕ)
+    (words : List Word) (made : T) (high : ℕ) : Type 0 where
   pub written : S
   pub grouped : Grouped written
   pub exact : words ≡ words_of written

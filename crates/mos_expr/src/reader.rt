@@ -23,7 +23,7 @@ fn at_frame(
     kind: TokenKind,
     x: Operand,
 ) -> Result<Option<Mode>, NoMemory>
-    ensures { IfOk result (λ next. spec.at_frame kind x (spec.stack_of stack.old.items) ≡ spec.state_of next (spec.stack_of stack.new.items)) }
+    ensures { IfOk result (spec.IsStep (spec.at_frame kind x) stack.old.items stack.new.items) }
 {
     let Some(frame) = pop(stack) else {
         let_go(x);
@@ -59,7 +59,7 @@ fn infix(
     op: BinaryOperator,
     x: Operand,
 ) -> Result<Option<Mode>, NoMemory>
-    ensures { IfOk result (λ next. spec.infix_at op x (spec.stack_of stack.old.items) ≡ spec.state_of next (spec.stack_of stack.new.items)) }
+    ensures { IfOk result (spec.IsStep (spec.infix_at op x) stack.old.items stack.new.items) }
 {
     match place(alloc, stack, op, x) {
         Ok(true) => Ok(Some(mode_behind(op))),
@@ -75,7 +75,7 @@ fn close(
     kind: TokenKind,
     x: Operand,
 ) -> Result<Option<Mode>, NoMemory>
-    ensures { IfOk result (λ next. spec.close kind x (spec.stack_of stack.old.items) ≡ spec.state_of next (spec.stack_of stack.new.items)) }
+    ensures { IfOk result (spec.IsStep (spec.close kind x) stack.old.items stack.new.items) }
 {
     match settle(alloc, stack, x) {
         Ok(None) => Ok(None),
@@ -91,7 +91,7 @@ fn after_key(
     kind: TokenKind,
     x: Operand,
 ) -> Result<Option<Mode>, NoMemory>
-    ensures { IfOk result (λ next. spec.after_key kind x (spec.stack_of stack.old.items) ≡ spec.state_of next (spec.stack_of stack.new.items)) }
+    ensures { IfOk result (spec.IsStep (spec.after_key kind x) stack.old.items stack.new.items) }
 {
     match operator_of(kind) {
         Some(op) => infix(alloc, stack, op, x),
@@ -106,7 +106,7 @@ fn after(
     x: Operand,
     word: &Word,
 ) -> Result<Option<Mode>, NoMemory>
-    ensures { IfOk result (λ next. reads.after x word.now (spec.stack_of stack.old.items) ≡ spec.state_of next (spec.stack_of stack.new.items)) }
+    ensures { IfOk result (spec.IsStep (reads.after x word.now) stack.old.items stack.new.items) }
 {
     match word {
         Word::Key(kind) => after_key(alloc, stack, *kind, x),
@@ -124,7 +124,7 @@ fn named(
     name: SourceText,
     word: &Word,
 ) -> Result<Option<Mode>, NoMemory>
-    ensures { IfOk result (λ next. reads.named name word.now (spec.stack_of stack.old.items) ≡ spec.state_of next (spec.stack_of stack.new.items)) }
+    ensures { IfOk result (spec.IsStep (reads.named name word.now) stack.old.items stack.new.items) }
 {
     match word {
         Word::Key(TokenKind::OpenRound) => {
@@ -143,7 +143,7 @@ fn called(
     parts: Parts,
     word: &Word,
 ) -> Result<Option<Mode>, NoMemory>
-    ensures { IfOk result (λ next. reads.called name parts word.now (spec.stack_of stack.old.items) ≡ spec.state_of next (spec.stack_of stack.new.items)) }
+    ensures { IfOk result (spec.IsStep (reads.called name parts word.now) stack.old.items stack.new.items) }
 {
     match word {
         Word::Key(TokenKind::Dot) => Ok(Some(Mode::DottedCall(name, parts))),
@@ -153,7 +153,7 @@ fn called(
 
 /// A word behind a name and a dot.
 fn dotted(alloc: Global, name: SourceText, word: &Word) -> Result<Option<Mode>, NoMemory>
-    ensures { IfOk result (λ next. (fs : List spec.FrameType) → reads.dotted name word.now fs ≡ spec.state_of next fs) }
+    ensures { IfOk result (spec.IsStepAnywhere (reads.dotted name word.now)) }
 {
     match word {
         Word::Name(field) => match field.copy(alloc) {
@@ -177,7 +177,7 @@ fn dotted_call(
     parts: Parts,
     word: &Word,
 ) -> Result<Option<Mode>, NoMemory>
-    ensures { IfOk result (λ next. (fs : List spec.FrameType) → reads.dotted_call name parts word.now fs ≡ spec.state_of next fs) }
+    ensures { IfOk result (spec.IsStepAnywhere (reads.dotted_call name parts word.now)) }
 {
     match word {
         Word::Name(field) => match field.copy(alloc) {
@@ -215,7 +215,7 @@ fn aggregate_key(kind: TokenKind) -> Option<IndexKind>
 }
 
 fn index_wanted(kind: Option<IndexKind>) -> Option<Mode>
-    ensures { (fs : List spec.FrameType) → reads.index_wanted kind fs ≡ spec.state_of result fs }
+    ensures { spec.IsStepAnywhere (reads.index_wanted kind) result }
 {
     match kind {
         None => None,
@@ -230,7 +230,7 @@ fn want_key(
     stack: &mut Vec<Frame>,
     kind: TokenKind,
 ) -> Result<Option<Mode>, NoMemory>
-    ensures { IfOk result (λ next. reads.want_key kind (spec.stack_of stack.old.items) ≡ spec.state_of next (spec.stack_of stack.new.items)) }
+    ensures { IfOk result (spec.IsStep (reads.want_key kind) stack.old.items stack.new.items) }
 {
     match kind {
         TokenKind::True => Ok(Some(Mode::After(leaf_of(Expr::Truth(true))))),
@@ -251,7 +251,7 @@ fn want_key(
 
 /// A word where an operand is wanted.
 fn want(alloc: Global, stack: &mut Vec<Frame>, word: &Word) -> Result<Option<Mode>, NoMemory>
-    ensures { IfOk result (λ next. reads.want word.now (spec.stack_of stack.old.items) ≡ spec.state_of next (spec.stack_of stack.new.items)) }
+    ensures { IfOk result (spec.IsStep (reads.want word.now) stack.old.items stack.new.items) }
 {
     match word {
         Word::Number(value) => Ok(Some(Mode::After(leaf_of(Expr::Integer(*value))))),
@@ -262,7 +262,7 @@ fn want(alloc: Global, stack: &mut Vec<Frame>, word: &Word) -> Result<Option<Mod
 }
 
 fn round_empty(frame: Frame) -> Option<Mode>
-    ensures { (fs : List spec.FrameType) → reads.round_empty frame fs ≡ spec.state_of result fs }
+    ensures { spec.IsStepAnywhere (reads.round_empty frame) result }
 {
     match frame {
         Frame::Call(name, parts) => Some(Mode::Called(name, parts)),
@@ -274,7 +274,7 @@ fn round_empty(frame: Frame) -> Option<Mode>
 }
 
 fn curly_empty(frame: Frame) -> Option<Mode>
-    ensures { (fs : List spec.FrameType) → reads.curly_empty frame fs ≡ spec.state_of result fs }
+    ensures { spec.IsStepAnywhere (reads.curly_empty frame) result }
 {
     match frame {
         Frame::Set(parts) => Some(Mode::After(set_of(parts))),
@@ -286,7 +286,7 @@ fn curly_empty(frame: Frame) -> Option<Mode>
 }
 
 fn square_empty(frame: Frame) -> Option<Mode>
-    ensures { (fs : List spec.FrameType) → reads.square_empty frame fs ≡ spec.state_of result fs }
+    ensures { spec.IsStepAnywhere (reads.square_empty frame) result }
 {
     match frame {
         Frame::List(parts) => Some(Mode::After(list_of(parts))),
@@ -299,7 +299,7 @@ fn square_empty(frame: Frame) -> Option<Mode>
 
 /// A bracket that closes what has no parts.
 fn close_empty(stack: &mut Vec<Frame>, kind: TokenKind) -> Option<Mode>
-    ensures { reads.close_empty kind (spec.stack_of stack.old.items) ≡ spec.state_of result (spec.stack_of stack.new.items) }
+    ensures { spec.IsStep (reads.close_empty kind) stack.old.items stack.new.items result }
 {
     let Some(frame) = pop(stack) else {
         return None;
@@ -321,7 +321,7 @@ fn first_key(
     stack: &mut Vec<Frame>,
     kind: TokenKind,
 ) -> Result<Option<Mode>, NoMemory>
-    ensures { IfOk result (λ next. reads.first_key kind (spec.stack_of stack.old.items) ≡ spec.state_of next (spec.stack_of stack.new.items)) }
+    ensures { IfOk result (spec.IsStep (reads.first_key kind) stack.old.items stack.new.items) }
 {
     match kind {
         TokenKind::CloseRound | TokenKind::CloseCurly | TokenKind::CloseSquare => {
@@ -333,7 +333,7 @@ fn first_key(
 
 /// A word behind an opening bracket.
 fn want_first(alloc: Global, stack: &mut Vec<Frame>, word: &Word) -> Result<Option<Mode>, NoMemory>
-    ensures { IfOk result (λ next. reads.want_first word.now (spec.stack_of stack.old.items) ≡ spec.state_of next (spec.stack_of stack.new.items)) }
+    ensures { IfOk result (spec.IsStep (reads.want_first word.now) stack.old.items stack.new.items) }
 {
     match word {
         Word::Key(kind) => first_key(alloc, stack, *kind),
@@ -342,7 +342,7 @@ fn want_first(alloc: Global, stack: &mut Vec<Frame>, word: &Word) -> Result<Opti
 }
 
 fn want_open(word: &Word) -> Option<Mode>
-    ensures { (fs : List spec.FrameType) → reads.want_open word.now fs ≡ spec.state_of result fs }
+    ensures { spec.IsStepAnywhere (reads.want_open word.now) result }
 {
     match word {
         Word::Key(TokenKind::OpenRound) => Some(Mode::Want),
@@ -351,7 +351,7 @@ fn want_open(word: &Word) -> Option<Mode>
 }
 
 fn open_index(alloc: Global, kind: IndexKind, word: &Word) -> Option<Mode>
-    ensures { (fs : List spec.FrameType) → reads.open_index kind word.now fs ≡ spec.state_of result fs }
+    ensures { spec.IsStepAnywhere (reads.open_index kind word.now) result }
 {
     match word {
         Word::Key(TokenKind::OpenRound) => {
@@ -362,7 +362,7 @@ fn open_index(alloc: Global, kind: IndexKind, word: &Word) -> Option<Mode>
 }
 
 fn want_in(word: &Word) -> Option<Mode>
-    ensures { (fs : List spec.FrameType) → reads.want_in word.now fs ≡ spec.state_of result fs }
+    ensures { spec.IsStepAnywhere (reads.want_in word.now) result }
 {
     match word {
         Word::Key(TokenKind::In) => Some(Mode::Want),
@@ -378,7 +378,7 @@ fn want_name(
     names: Items<SourceText>,
     word: &Word,
 ) -> Result<Option<Mode>, NoMemory>
-    ensures { IfOk result (λ next. (fs : List spec.FrameType) → reads.want_name kind groups names word.now fs ≡ spec.state_of next fs) }
+    ensures { IfOk result (spec.IsStepAnywhere (reads.want_name kind groups names word.now)) }
 {
     match word {
         Word::Name(name) => match with_name(alloc, names, name) {
@@ -404,7 +404,7 @@ fn after_name(
     names: Items<SourceText>,
     word: &Word,
 ) -> Result<Option<Mode>, NoMemory>
-    ensures { IfOk result (λ next. reads.after_name kind groups names word.now (spec.stack_of stack.old.items) ≡ spec.state_of next (spec.stack_of stack.new.items)) }
+    ensures { IfOk result (spec.IsStep (reads.after_name kind groups names word.now) stack.old.items stack.new.items) }
 {
     match word {
         Word::Key(TokenKind::Comma) => Ok(Some(Mode::WantName(kind, groups, names))),
@@ -425,7 +425,7 @@ pub(crate) fn step(
     mode: Mode,
     word: &Word,
 ) -> Result<Option<Mode>, NoMemory>
-    ensures { IfOk result (λ next. reads.step mode word.now (spec.stack_of stack.old.items) ≡ spec.state_of next (spec.stack_of stack.new.items)) }
+    ensures { IfOk result (spec.IsStep (reads.step mode word.now) stack.old.items stack.new.items) }
 {
     match mode {
         Mode::Want => want(alloc, stack, word),

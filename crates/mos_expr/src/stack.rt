@@ -1,6 +1,6 @@
 //! The stack of open frames.
-ghost use Rattle.std.specs.Prelude.{◌≡◌, [], ◌∷◌, Some, MatchOption, OnOk, IfOk};
-ghost use Rattle.mos_expr.specs.Machine.{stack_of, state_of};
+ghost use Rattle.std.specs.Prelude.{◌≡◌, ◌∷◌, Some, OnOk, IfOk};
+ghost use Rattle.mos_expr.specs.Machine.{stack_of, state_of, IsPopped};
 
 use crate::frame::{Frame, Mode};
 use mos_text::{NoMemory, let_go};
@@ -20,7 +20,7 @@ pub(crate) fn push(stack: &mut Vec<Frame>, frame: Frame) -> Result<(), NoMemory>
 
 /// Takes off the innermost frame.
 pub(crate) fn pop(stack: &mut Vec<Frame>) -> Option<Frame>
-    ensures { MatchOption result ((stack_of stack.old.items ≡ []) × (stack_of stack.new.items ≡ [])) (λ frame. stack_of stack.old.items ≡ frame ∷ stack_of stack.new.items) }
+    ensures { IsPopped stack.old.items stack.new.items result }
 {
     stack.pop()
 }

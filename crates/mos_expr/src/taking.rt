@@ -23,7 +23,7 @@ fn index_read(
     kind: IndexKind,
     whole: WholeIndex,
 ) -> Result<Option<Mode>, NoMemory>
-    ensures { IfOk result (λ next. spec.index_read kind whole (spec.stack_of stack.old.items) ≡ spec.state_of next (spec.stack_of stack.new.items)) }
+    ensures { IfOk result (spec.IsStep (spec.index_read kind whole) stack.old.items stack.new.items) }
 {
     match kind {
         IndexKind::Count => Ok(Some(Mode::After(counted_of(whole)))),
@@ -51,7 +51,7 @@ fn set_at_comma(
     names: Items<SourceText>,
     x: Operand,
 ) -> Result<Option<Mode>, NoMemory>
-    ensures { IfOk result (λ next. spec.set_at_comma kind groups names x (spec.stack_of stack.now) ≡ spec.state_of next (spec.stack_of stack.now)) }
+    ensures { IfOk result (spec.IsStep (spec.set_at_comma kind groups names x) stack.now stack.now) }
 {
     if 5 < x.level {
         refuse_set(groups, names, x);
@@ -69,7 +69,7 @@ fn call_at_comma(
     parts: Parts,
     x: Operand,
 ) -> Result<Option<Mode>, NoMemory>
-    ensures { IfOk result (λ next. spec.want_with (f.Call name (operands.parts_with parts x)) (spec.stack_of stack.old.items) ≡ spec.state_of next (spec.stack_of stack.new.items)) }
+    ensures { IfOk result (spec.IsStep (spec.want_with (f.Call name (operands.parts_with parts x))) stack.old.items stack.new.items) }
 {
     match parts_with(parts, x) {
         Ok(parts) => opened(stack, Frame::Call(name, parts), Mode::Want),
@@ -85,7 +85,7 @@ fn set_goes_on(
     parts: Parts,
     x: Operand,
 ) -> Result<Option<Mode>, NoMemory>
-    ensures { IfOk result (λ next. spec.want_with (f.Set (operands.parts_with parts x)) (spec.stack_of stack.old.items) ≡ spec.state_of next (spec.stack_of stack.new.items)) }
+    ensures { IfOk result (spec.IsStep (spec.want_with (f.Set (operands.parts_with parts x))) stack.old.items stack.new.items) }
 {
     match parts_with(parts, x) {
         Ok(parts) => opened(stack, Frame::Set(parts), Mode::Want),
@@ -98,7 +98,7 @@ fn list_goes_on(
     parts: Parts,
     x: Operand,
 ) -> Result<Option<Mode>, NoMemory>
-    ensures { IfOk result (λ next. spec.want_with (f.List (operands.parts_with parts x)) (spec.stack_of stack.old.items) ≡ spec.state_of next (spec.stack_of stack.new.items)) }
+    ensures { IfOk result (spec.IsStep (spec.want_with (f.List (operands.parts_with parts x))) stack.old.items stack.new.items) }
 {
     match parts_with(parts, x) {
         Ok(parts) => opened(stack, Frame::List(parts), Mode::Want),
@@ -111,7 +111,7 @@ fn bare_list_goes_on(
     parts: Parts,
     x: Operand,
 ) -> Result<Option<Mode>, NoMemory>
-    ensures { IfOk result (λ next. spec.want_with (f.BareList (operands.parts_with parts x)) (spec.stack_of stack.old.items) ≡ spec.state_of next (spec.stack_of stack.new.items)) }
+    ensures { IfOk result (spec.IsStep (spec.want_with (f.BareList (operands.parts_with parts x))) stack.old.items stack.new.items) }
 {
     match parts_with(parts, x) {
         Ok(parts) => opened(stack, Frame::BareList(parts), Mode::Want),
@@ -126,7 +126,7 @@ pub(crate) fn at_comma(
     frame: Frame,
     x: Operand,
 ) -> Result<Option<Mode>, NoMemory>
-    ensures { IfOk result (λ next. spec.at_comma frame x (spec.stack_of stack.old.items) ≡ spec.state_of next (spec.stack_of stack.new.items)) }
+    ensures { IfOk result (spec.IsStep (spec.at_comma frame x) stack.old.items stack.new.items) }
 {
     match frame {
         Frame::Call(name, parts) => call_at_comma(stack, name, parts, x),
@@ -158,7 +158,7 @@ fn set_at_round(
     names: Items<SourceText>,
     x: Operand,
 ) -> Result<Option<Mode>, NoMemory>
-    ensures { IfOk result (λ next. spec.set_at_round kind groups names x (spec.stack_of stack.old.items) ≡ spec.state_of next (spec.stack_of stack.new.items)) }
+    ensures { IfOk result (spec.IsStep (spec.set_at_round kind groups names x) stack.old.items stack.new.items) }
 {
     if 5 < x.level {
         refuse_set(groups, names, x);
@@ -175,7 +175,7 @@ fn call_at_round(
     parts: Parts,
     x: Operand,
 ) -> Result<Option<Mode>, NoMemory>
-    ensures { IfOk result (λ next. (fs : List spec.FrameType) → spec.at_round (f.Call name parts) x fs ≡ spec.state_of next fs) }
+    ensures { IfOk result (spec.IsStepAnywhere (spec.at_round (f.Call name parts) x)) }
 {
     match parts_with(parts, x) {
         Ok(parts) => Ok(Some(Mode::Called(name, parts))),
@@ -193,7 +193,7 @@ fn condition_at_round(
     groups: Groups,
     x: Operand,
 ) -> Result<Option<Mode>, NoMemory>
-    ensures { IfOk result (λ next. spec.index_read kind (operands.conditioned_index_of groups x) (spec.stack_of stack.old.items) ≡ spec.state_of next (spec.stack_of stack.new.items)) }
+    ensures { IfOk result (spec.IsStep (spec.index_read kind (operands.conditioned_index_of groups x)) stack.old.items stack.new.items) }
 {
     match conditioned_index_of(alloc, groups, x) {
         Ok(whole) => index_read(stack, kind, whole),
@@ -208,7 +208,7 @@ pub(crate) fn at_round(
     frame: Frame,
     x: Operand,
 ) -> Result<Option<Mode>, NoMemory>
-    ensures { IfOk result (λ next. spec.at_round frame x (spec.stack_of stack.old.items) ≡ spec.state_of next (spec.stack_of stack.new.items)) }
+    ensures { IfOk result (spec.IsStep (spec.at_round frame x) stack.old.items stack.new.items) }
 {
     match frame {
         Frame::Bracket => Ok(Some(Mode::After(bracketed(x)))),
@@ -258,7 +258,7 @@ fn set_at_bar(
     names: Items<SourceText>,
     x: Operand,
 ) -> Result<Option<Mode>, NoMemory>
-    ensures { IfOk result (λ next. spec.set_at_bar kind groups names x (spec.stack_of stack.old.items) ≡ spec.state_of next (spec.stack_of stack.new.items)) }
+    ensures { IfOk result (spec.IsStep (spec.set_at_bar kind groups names x) stack.old.items stack.new.items) }
 {
     if 5 < x.level {
         refuse_set(groups, names, x);
@@ -276,7 +276,7 @@ pub(crate) fn at_bar(
     frame: Frame,
     x: Operand,
 ) -> Result<Option<Mode>, NoMemory>
-    ensures { IfOk result (λ next. spec.at_bar frame x (spec.stack_of stack.old.items) ≡ spec.state_of next (spec.stack_of stack.new.items)) }
+    ensures { IfOk result (spec.IsStep (spec.at_bar frame x) stack.old.items stack.new.items) }
 {
     match frame {
         Frame::IndexSet(kind, groups, names) => set_at_bar(stack, kind, groups, names, x),
