@@ -11,7 +11,7 @@ use Rattle.mos_scan.specs.declared.context.Context.{Context}
 use Rattle.mos_scan.specs.declared.piece.Piece.{Piece}
 use Rattle.mos_scan.specs.declared.piece.OpenPiece.{OpenPiece}
 use Rattle.mos_scan.specs.Pieces.{last_kind, first_kind, second_kind, first_line, depth, depth_behind, declarations_after, parameters_after, initializations_after, in_declarations, in_parameters, in_initializations, separates, begins_piece, ends_piece, is_cut, IsUncut, one_token, one_more, IsEnded, piece_of, ArePiecesBehind, no_token, separator, whole_piece, ArePieces}
-use Rattle.mos_scan.specs.Cutting.{no_context, context_after, is_separator, nothing_at, piece_with, is_ended, starts, closed_piece, pieces_from}
+use Rattle.mos_scan.specs.Cutting.{no_context, context_after, is_separator, nothing_at, piece_with, is_ended, starts, closed_piece, pieces_from, cut_pieces}
 use Rattle.mos_scan.proofs.Lists.{on_bool}
 
 -- ---- what the code keeps
@@ -264,12 +264,12 @@ cut_are _ _ _ (whole_piece before xs (t ∷ ts) ps u e more) =
 pub one_cut : (tokens : List Token) (ps qs : List Piece) → ArePieces tokens ps → ArePieces tokens qs → ps ≡ qs
 one_cut tokens ps qs a b = cut_are [] tokens ps a ∙ sym (cut_are [] tokens qs b)
 
-pub found_pieces : {V E : Type 0} (items : V → List Piece) (tokens : List Token) (r : Result V E) → IfOk r (λ v. items v ≡ pieces_from no_context (nothing_at 0) tokens) → IfOk r (λ v. ArePieces tokens (items v))
+pub found_pieces : {V E : Type 0} (items : V → List Piece) (tokens : List Token) (r : Result V E) → IfOk r (λ v. items v ≡ cut_pieces tokens) → IfOk r (λ v. ArePieces tokens (items v))
 unfolding IsOpen nothing_at
 found_pieces items tokens (Ok v) e = subst (λ ps. ArePieces tokens ps) (sym e) (pieces_here [] [] tokens tt)
 found_pieces items tokens (Err x) e = tt
 
-pub only_pieces : {V E : Type 0} (items : V → List Piece) (tokens : List Token) (r : Result V E) → IfOk r (λ v. items v ≡ pieces_from no_context (nothing_at 0) tokens) → (ps : List Piece) → ArePieces tokens ps → IfOk r (λ v. items v ≡ ps)
+pub only_pieces : {V E : Type 0} (items : V → List Piece) (tokens : List Token) (r : Result V E) → IfOk r (λ v. items v ≡ cut_pieces tokens) → (ps : List Piece) → ArePieces tokens ps → IfOk r (λ v. items v ≡ ps)
 unfolding nothing_at
 only_pieces items tokens (Ok v) e ps a = e ∙ sym (cut_are [] tokens ps a)
 only_pieces items tokens (Err x) e ps a = tt

@@ -9,9 +9,9 @@ use Rattle.mos_scan.specs.declared.token.TokenKind.{TokenKind}
 use Rattle.mos_scan.specs.declared.token.TokenKind.TheVariants as t
 use Rattle.mos_text.specs.declared.kind.Kind.TheVariants as k
 use Rattle.mos_scan.specs.Characters.{begins_name, is_word, is_quote, is_blank, is_inside}
-use Rattle.mos_scan.specs.Words.{end_word, end_at, plain_word, is_refused}
+use Rattle.mos_scan.specs.Words.{end_word, plain_word, is_refused}
 use Rattle.mos_scan.specs.Tokens.{begins_with, comment_end, closing, one_byte, two_bytes, symbol, kind_of, gap_at, fault_at, word_fault, text_fault, symbol_fault}
-use Rattle.mos_scan.specs.Lexemes.{Longest, token_at, word_at, end_or_word, two_or_one, symbol_at, quoted_at}
+use Rattle.mos_scan.specs.Lexemes.{end_at, Longest, token_at, word_at, end_or_word, two_or_one, symbol_at, quoted_at}
 use Rattle.mos_scan.proofs.Lists.{on_bool, Run, run_of, run_over}
 use Rattle.mos_scan.proofs.Ends.{EndAt, end_token, no_end, word_is_no_end}
 

@@ -67,3 +67,7 @@ pieces_from context piece (t ∷ ts) =
     if is_separator context t.kind then closed_piece piece ++ pieces_from (context_after context t.kind) (nothing_at (piece.from + piece.count + 1)) ts
     else (if starts context piece t.kind then closed_piece piece ++ pieces_from (context_after context t.kind) (piece_with (nothing_at (piece.from + piece.count)) t) ts
     else pieces_from (context_after context t.kind) (piece_with piece t) ts)
+
+-- the pieces that the code cuts
+abbrev pub cut_pieces : List Token → List Piece
+cut_pieces tokens = pieces_from no_context (nothing_at 0) tokens

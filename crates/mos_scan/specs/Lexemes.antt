@@ -1,10 +1,11 @@
 -- As the code looks for the next lexeme, from the left. No public clause cites this file.
 
-use Rattle.std.specs.Prelude.{◌≡◌, ℕ, ◌≢◌, ◌+◌, ◌<◌, ◌≤◌, ◌++◌, length, false, if◌then◌else◌, List, [], ◌∷◌, take, Option, Some, None, unwrap_or}
+use Rattle.std.specs.Prelude.{◌≡◌, ℕ, ◌≢◌, ◌+◌, ◌<◌, ◌≤◌, ◌++◌, length, false, if◌then◌else◌, List, [], ◌∷◌, take, Option, Some, None, unwrap_or, ◌&&◌, ◌==◌, Bool, codes, nat_le, drop}
 use Rattle.std.specs.List.{prefix_len}
 use Rattle.std.specs.Char.{is_ascii_digit}
 use Rattle.mos_scan.specs.Characters.{begins_name, is_word, is_quote}
-use Rattle.mos_scan.specs.Words.{end_at, plain_word}
+use Rattle.mos_scan.specs.Words.{same_word, in_one_case, plain_word}
+use Rattle.mos_scan.specs.Vocabulary.{Table, ends}
 use Rattle.mos_scan.specs.Tokens.{closing, one_byte, two_bytes, gap_at, fault_at, kind_of}
 use Rattle.mos_scan.specs.declared.token.TokenKind.{TokenKind}
 use Rattle.mos_scan.specs.declared.token.TokenKind.TheVariants as t
@@ -14,6 +15,21 @@ use Rattle.mos_text.specs.declared.kind.Kind.{Kind}
 use Rattle.mos_text.specs.declared.kind.Kind.TheVariants as k
 use Rattle.mos_scan.specs.declared.lexeme.Lexeme.{Lexeme}
 use Rattle.mos_scan.specs.declared.lexeme.Lexeme.TheVariants as f
+
+-- whether the text begins with four bytes and this word, in one case
+abbrev pub is_front : List ℕ → List ℕ → Bool
+is_front tail text = nat_le (length tail + 4) (length text) && same_word tail (drop 4 (take (length tail + 4) text)) && in_one_case (take (length tail + 4) text)
+
+-- the first entry of the table with which the text begins, behind `end-`, and its length
+abbrev pub front_end : Table → List ℕ → Option (TokenKind × ℕ)
+front_end [] text = None
+front_end (k ∷ ks) text = if is_front k.0 text then Some (k.1, length k.0 + 4) else front_end ks text
+
+-- the `end-` word with which a text begins, and its length
+unfoldable pub end_at : List ℕ → Option (TokenKind × ℕ)
+end_at (e ∷ n ∷ d ∷ dash ∷ tail) =
+    if dash == 45 && same_word (e ∷ n ∷ d ∷ []) (codes "end") then front_end ends (e ∷ n ∷ d ∷ dash ∷ tail) else None
+end_at _ = None
 
 -- an `end-` word with its length, or the word at the front
 abbrev pub end_or_word : Option (TokenKind × ℕ) → List ℕ → TokenKind × ℕ

@@ -7,8 +7,8 @@ use crate::token_class::{
     declarations_after, depth_behind, initializations_after, parameters_after, separates_at,
 };
 
-/// What is known behind some tokens: how many brackets are open, the last token, and which blocks of
-/// items are open.
+/// What is known behind some tokens: how many brackets are open, the last token, and which blocks
+/// of items are open.
 #[derive(Clone, Copy, Debug)]
 pub(crate) struct Context {
     pub depth: u32,

@@ -23,8 +23,8 @@ pub(crate) enum LexicalError {
     Out,
 }
 
-/// What stands at the front of the bytes: a gap of so many bytes, a token of so many, or a fault at this
-/// offset from the front.
+/// What stands at the front of the bytes: a gap of so many bytes, a token of so many, or a fault at
+/// this offset from the front.
 #[derive(Clone, Copy, Debug, PartialEq, Eq)]
 pub(crate) enum Lexeme {
     Gap(usize),
@@ -112,7 +112,8 @@ fn is_large(digits: &[u8]) -> bool
 
 /// What makes the digits before the text no number.
 fn spoils(text: &[u8]) -> Option<LexicalError>
-    ensures { (whole : List ℕ) → option_map (model.kind_of_error whole) result ≡ spec.spoils text.now }
+    ensures { (whole : List ℕ)
+        → option_map (model.kind_of_error whole) result ≡ spec.spoils text.now }
 {
     match text {
         [] => None,
@@ -139,7 +140,8 @@ fn spoilt_or_large(spoilt: Option<LexicalError>, digits: &[u8]) -> Option<(Lexic
 /// The fault of the number at the front.
 #[tactic(auto, unfolding(crate::specs::Tokens::number_fault))]
 fn number_fault(text: &[u8]) -> Option<(LexicalError, usize)>
-    ensures value { (whole : List ℕ) → model.kind_and_offset whole result ≡ spec.number_fault text.now }
+    ensures value { (whole : List ℕ)
+        → model.kind_and_offset whole result ≡ spec.number_fault text.now }
     ensures within { IfSome result (λ x. x.1 ≤ length text.now) }
 {
     let (digits, rest) = text.split_at(digits_length(text));
@@ -148,7 +150,8 @@ fn number_fault(text: &[u8]) -> Option<(LexicalError, usize)>
 
 #[tactic(auto, unfolding(crate::specs::Tokens::text_fault))]
 fn text_fault(quote: u8, text: &[u8]) -> Option<(LexicalError, usize)>
-    ensures value { (whole : List ℕ) → model.kind_and_offset whole result ≡ spec.text_fault quote text.now }
+    ensures value { (whole : List ℕ)
+        → model.kind_and_offset whole result ≡ spec.text_fault quote text.now }
     ensures within { IfSome result (λ x. x.1 ≤ length text.now) }
 {
     let Some(length) = closing(quote, text) else {
@@ -179,7 +182,8 @@ fn word_fault(text: &[u8]) -> Option<(LexicalError, usize)>
 }
 
 fn symbol_fault(first: u8, rest: &[u8]) -> Option<(LexicalError, usize)>
-    ensures value { (whole : List ℕ) → model.kind_and_offset whole result ≡ spec.symbol_fault first rest.now }
+    ensures value { (whole : List ℕ)
+        → model.kind_and_offset whole result ≡ spec.symbol_fault first rest.now }
     ensures within { IfSome result (λ x. x.1 ≡ 0) }
 {
     if first == b'(' && begins_with(b'!', rest) {

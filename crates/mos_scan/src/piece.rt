@@ -13,7 +13,8 @@ use crate::{Token, TokenKind};
 use mos_text::NoMemory;
 use std::alloc::Global;
 
-/// A piece: its tokens, counted from 0, `to` being the first behind it, and the line of its first token.
+/// A piece: its tokens, counted from 0, `to` being the first behind it, and the line of its first
+/// token.
 #[derive(Clone, Copy, Debug, PartialEq, Eq)]
 pub struct Piece {
     pub from: u32,
@@ -21,8 +22,9 @@ pub struct Piece {
     pub line: u32,
 }
 
-/// The piece that is read: where it begins, how many tokens it has so far, its line, its first two tokens
-/// and its last one (newlines where there are none), and how many of its own brackets are open.
+/// The piece that is read: where it begins, how many tokens it has so far, its line, its first two
+/// tokens and its last one (newlines where there are none), and how many of its own brackets are
+/// open.
 #[derive(Clone, Copy, Debug)]
 pub(crate) struct OpenPiece {
     pub from: u32,
@@ -135,7 +137,8 @@ fn take_token(
     requires depth { piece.depth < 2 ^ 32 - 1 }
     requires place { piece.from + piece.count < 2 ^ 32 - 1 }
     ensures value { IfOk result (λ next. (ts : List token_type)
-        → found.new.items ++ spec.pieces_from (spec.context_after context.now token.now.kind) next ts
+        → found.new.items
+        ++ spec.pieces_from (spec.context_after context.now token.now.kind) next ts
         ≡ found.old.items ++ spec.pieces_from context.now piece (token.now ∷ ts)) }
     ensures place { IfOk result (λ next. next.from + next.count ≡ piece.from + piece.count + 1) }
     ensures near { IfOk result (λ next. next.depth ≤ piece.depth + 1) }
@@ -153,7 +156,7 @@ fn take_token(
 
 fn all_pieces(alloc: Global, tokens: &[Token]) -> Result<Vec<Piece>, NoMemory>
     requires { length tokens.now ≤ source_limit }
-    ensures { IfOk result (λ v. v.items ≡ spec.pieces_from spec.no_context (spec.nothing_at 0) tokens.now) }
+    ensures { IfOk result (λ v. v.items ≡ spec.cut_pieces tokens.now) }
 {
     let mut found = Vec::new(alloc);
     let mut context = no_context();
@@ -166,14 +169,15 @@ fn all_pieces(alloc: Global, tokens: &[Token]) -> Result<Vec<Piece>, NoMemory>
     Ok(found)
 }
 
-/// The pieces that the tokens are cut into: at each semicolon and each newline that ends something; before
-/// `elif`, `else`, `until` and each `end-` word; behind each `end-` word, `then`, `else`, `do`, `repeat`,
-/// `declarations`, `parameters` and `record`; behind the bracket of a loop and the `of` of a `case`; and behind
-/// a colon outside brackets that is part of no heading and no item.
+/// The pieces that the tokens are cut into: at each semicolon and each newline that ends something;
+/// before `elif`, `else`, `until` and each `end-` word; behind each `end-` word, `then`, `else`,
+/// `do`, `repeat`, `declarations`, `parameters` and `record`; behind the bracket of a loop and the
+/// `of` of a `case`; and behind a colon outside brackets that is part of no heading and no item.
 pub fn pieces(alloc: Global, tokens: &[Token]) -> Result<Vec<Piece>, NoMemory>
     requires { length tokens.now ≤ source_limit }
     ensures found { IfOk result (λ v. ArePieces tokens.now v.items) }
-    ensures only { (ps : List piece_type) → ArePieces tokens.now ps → IfOk result (λ v. v.items ≡ ps) }
+    ensures only { (ps : List piece_type) → ArePieces tokens.now ps
+        → IfOk result (λ v. v.items ≡ ps) }
 
     // All pieces together have at most as many words as there are tokens.
     ensures few { (source : List ℕ)

@@ -147,8 +147,8 @@ fn tokens_between(tokens: &[Token], from: usize, to: usize) -> &[Token]
     between
 }
 
-/// What the grammar sees of tokens of a source: their words, the newlines passed over. The tokens are
-/// neighbours in what `scan` gives for the source.
+/// What the grammar sees of tokens of a source: their words, the newlines passed over. The tokens
+/// are neighbours in what `scan` gives for the source.
 pub fn words(alloc: Global, source: &[u8], tokens: &[Token]) -> Result<Vec<Word>, NoMemory>
     requires { length source.now ≤ source_limit }
     ensures { IfOk result (λ v. v.items ≡ spec.words_of source.now tokens.now) }

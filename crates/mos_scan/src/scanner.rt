@@ -179,8 +179,8 @@ fn kind_of(alloc: Global, error: LexicalError, rest: &[u8]) -> Result<Kind, NoMe
 
 /// The tokens of a source, up to the first `end-model`; nothing behind it is read.
 ///
-/// Refused is the first place that no token list gets over: bytes that are no UTF-8, or a byte, literal,
-/// text, comment or word that is no token.
+/// Refused is the first place that no token list gets over: bytes that are no UTF-8, or a byte,
+/// literal, text, comment or word that is no token.
 pub fn scan(alloc: Global, bytes: &[u8]) -> Result<Vec<Token>, LexFault>
     requires { length bytes.now ≤ source_limit }
     ensures found { IfOk result (λ v. spec.IsTokenList bytes.now v.items) }

@@ -240,8 +240,8 @@ fn closes_label(first: TokenKind, last: TokenKind, outer: u32, items: bool) -> b
     is_colon(last) && outer == 0 && !is_heading(first) && !items
 }
 
-/// Whether a piece ends by its first two tokens and its last one, by the brackets that are open in it
-/// and in all, and by whether it stands among items.
+/// Whether a piece ends by its first two tokens and its last one, by the brackets that are open in
+/// it and in all, and by whether it stands among items.
 #[tactic(auto, unfolding(crate::specs::Pieces::ends_by))]
 pub(crate) fn ends_by(
     first: TokenKind,

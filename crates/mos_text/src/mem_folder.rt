@@ -39,8 +39,8 @@ impl Model for MemFolder {
 }
 
 impl MemFolder {
-    /// A folder of these files, of which the gets and puts of these numbers fail; of two equal names
-    /// the first counts.
+    /// A folder of these files, of which the gets and puts of these numbers fail; of two equal
+    /// names the first counts.
     pub fn new(
         alloc: Global,
         files: Vec<(Text, Blob)>,
