@@ -7,11 +7,11 @@ use Rattle.std.specs.List.{list_all, prefix_len}
 use Rattle.std.specs.Char.{is_ascii_digit}
 use Rattle.mos_scan.specs.declared.token.TokenKind.{TokenKind}
 use Rattle.mos_scan.specs.declared.token.TokenKind.TheVariants as t
-use Rattle.mos_scan.specs.declared.front.Wrong.TheVariants as w
+use Rattle.mos_text.specs.declared.kind.Kind.TheVariants as k
 use Rattle.mos_scan.specs.Characters.{begins_name, is_word, is_quote, is_blank, is_inside}
-use Rattle.mos_scan.specs.Words.{end_word, end_at, plain_word, is_refused}
+use Rattle.mos_scan.specs.Words.{end_word, plain_word, is_refused}
 use Rattle.mos_scan.specs.Tokens.{begins_with, comment_end, closing, one_byte, two_bytes, symbol, kind_of, gap_at, fault_at, word_fault, text_fault, symbol_fault}
-use Rattle.mos_scan.specs.Fronts.{Longest, Stands, front, gap_or_else, fault_or_token, token_at, word_at, end_or_word, two_or_one, symbol_at, quoted_at}
+use Rattle.mos_scan.specs.Lexemes.{end_at, Longest, token_at, word_at, end_or_word, two_or_one, symbol_at, quoted_at}
 use Rattle.mos_scan.proofs.Lists.{on_bool, Run, run_of, run_over}
 use Rattle.mos_scan.proofs.Ends.{EndAt, end_token, no_end, word_is_no_end}
 
@@ -247,7 +247,7 @@ symbol_longest a (b ∷ bs) plain kind e =
 
 not_refused : (bs : List ℕ) → word_fault bs ≡ None → is_refused (take (prefix_len is_word bs) bs) ≡ false
 unfolding word_fault
-not_refused bs e = on_bool (is_refused (take (prefix_len is_word bs) bs)) (λ r. let x : Some (w.Out, 0) ≡ None = rw r at e in cc) (λ r. r)
+not_refused bs e = on_bool (is_refused (take (prefix_len is_word bs) bs)) (λ r. let x : Some (k.Out (take (prefix_len is_word bs) bs), 0) ≡ None = rw r at e in cc) (λ r. r)
 
 word_case : (a : ℕ) (bs : List ℕ) → begins_name a ≡ true → word_fault (a ∷ bs) ≡ None → IsLongest (a ∷ bs) (word_at (a ∷ bs))
 unfolding word_at
@@ -260,16 +260,16 @@ text_case : (a : ℕ) (bs : List ℕ) → begins_name a ≡ false → is_ascii_d
 unfolding text_fault
 text_case a bs n d q f =
     on_option (closing a false 0 bs)
-    (λ none. let x : Some (w.Text, 0) ≡ None = rw none at f in cc)
+    (λ none. let x : Some (k.Str, 0) ≡ None = rw none at f in cc)
     (λ x some. subst (λ o. Longest (a ∷ bs) t.Text (unwrap_or o 0 + 1)) (sym some) (text_longest a bs n d q x some))
 
 symbol_case : (a : ℕ) (bs : List ℕ) → NoWord a → symbol_fault a bs ≡ None → IsLongest (a ∷ bs) (symbol_at a bs)
 symbol_case a bs plain f =
     on_bool (nat_eq a 40 && begins_with 33 bs)
-    (λ c. let x : Some (w.Comment, 0) ≡ None = rw c at f in cc)
+    (λ c. let x : Some (k.Comment, 0) ≡ None = rw c at f in cc)
     (λ c.
     on_option (one_byte a)
-    (λ none. let x : Some (w.Char, 0) ≡ None = rw (c, none) at f in cc)
+    (λ none. let x : Some (k.Char, 0) ≡ None = rw (c, none) at f in cc)
     (λ kind some. symbol_longest a bs plain kind some))
 
 pub longest_at : (bytes : List ℕ) → bytes ≢ [] → fault_at bytes ≡ None → IsLongest bytes (token_at bytes)
@@ -330,20 +330,3 @@ gap_fits (a ∷ bs) n e =
     second : (xs : List ℕ) → begins_with 33 xs ≡ true → 1 ≤ length xs
     second [] h = cc
     second (x ∷ xs) h = omega arith
-
--- what is seen at the front stands there
-pub front_stands : (bytes : List ℕ) → bytes ≢ [] → Stands bytes (front bytes)
-unfolding front
-front_stands bytes some =
-    on_option (gap_at bytes)
-    (λ no_gap.
-    on_option (fault_at bytes)
-    (λ no_fault.
-    subst (λ o. Stands bytes (gap_or_else o bytes)) (sym no_gap)
-    (subst (λ o. Stands bytes (fault_or_token o (token_at bytes))) (sym no_fault) (no_gap, no_fault, longest_at bytes some no_fault)))
-    (λ x wrong.
-    subst (λ o. Stands bytes (gap_or_else o bytes)) (sym no_gap)
-    (subst (λ o. Stands bytes (fault_or_token o (token_at bytes))) (sym wrong) (no_gap, wrong))))
-    (λ n gap.
-    let fits : (0 < n) × (n ≤ length bytes) = gap_fits bytes n gap in
-    subst (λ o. Stands bytes (gap_or_else o bytes)) (sym gap) (gap, fits.0, fits.1))

@@ -1,18 +1,20 @@
-ghost use Rattle.std.specs.Prelude.{◌≡◌, ◌≤◌, ◌<◌, ◌+◌, ◌≢◌, [], false, None, nat_lt, length, IfSome};
+//! The next lexeme: what stands at the front of bytes, a gap, a token or a fault.
+ghost use Rattle.std.specs.Prelude.{◌≡◌, ◌≤◌, ◌<◌, ◌+◌, ◌≢◌, ℕ, List, [], false, None, nat_lt, length, IfSome, option_map};
 ghost use Rattle.mos_scan.specs.Tokens as spec;
-ghost use Rattle.mos_scan.specs.Fronts as fronts;
+ghost use Rattle.mos_scan.specs.Lexemes as model;
 
 use crate::TokenKind;
 use crate::character::{
     begins_name, begins_with, digits_length, is_blank, is_escape, is_quote, line_length,
     word_length,
 };
+use crate::number::number;
 use crate::symbol::{one_byte, two_bytes};
 use crate::word::{end_at, is_refused, plain_word};
 
-/// What is wrong at a place.
+/// What is wrong at a place, apart from the word that a kind names.
 #[derive(Clone, Copy, Debug, PartialEq, Eq)]
-pub(crate) enum Wrong {
+pub(crate) enum LexicalError {
     Char,
     Real,
     Number,
@@ -21,13 +23,13 @@ pub(crate) enum Wrong {
     Out,
 }
 
-/// What stands at the front of the bytes: a gap of so many bytes, a token of so many, or a fault so far
-/// from the front.
+/// What stands at the front of the bytes: a gap of so many bytes, a token of so many, or a fault at this
+/// offset from the front.
 #[derive(Clone, Copy, Debug, PartialEq, Eq)]
-pub(crate) enum Front {
+pub(crate) enum Lexeme {
     Gap(usize),
     Token(TokenKind, usize),
-    Fault(Wrong, usize),
+    Fault(LexicalError, usize),
 }
 
 fn comment_end(text: &[u8]) -> Option<usize>
@@ -105,93 +107,98 @@ fn bad_escape(text: &[u8]) -> Option<usize>
 fn is_large(digits: &[u8]) -> bool
     ensures { result ≡ nat_lt 2147483647 (spec.number_from 0 digits.now) }
 {
-    let mut rest = digits;
-    let mut value: u64 = 0;
-    while let [digit, after @ ..] = rest {
-        if value > 2147483647 {
-            return true;
-        }
-        value = value * 10 + u64::from(digit.saturating_sub(b'0'));
-        rest = after;
-    }
-    value > 2147483647
+    number(digits) > 2147483647
 }
 
 /// What makes the digits before the text no number.
-fn spoils(text: &[u8]) -> Option<Wrong>
-    ensures { result ≡ spec.spoils text.now }
+fn spoils(text: &[u8]) -> Option<LexicalError>
+    ensures { (whole : List ℕ)
+        → option_map (model.kind_of_error whole) result ≡ spec.spoils text.now }
 {
     match text {
         [] => None,
-        [b'e' | b'E', ..] => Some(Wrong::Real),
-        [byte, ..] if begins_name(*byte) => Some(Wrong::Char),
-        [b'.', rest @ ..] if !begins_with(b'.', rest) => Some(Wrong::Real),
+        [b'e' | b'E', ..] => Some(LexicalError::Real),
+        [byte, ..] if begins_name(*byte) => Some(LexicalError::Char),
+        [b'.', rest @ ..] if !begins_with(b'.', rest) => Some(LexicalError::Real),
         _ => None,
     }
 }
 
-#[tactic(auto, unfolding(crate::specs::Tokens::number_fault))]
-fn number_fault(text: &[u8]) -> Option<(Wrong, usize)>
-    ensures value { result ≡ spec.number_fault text.now }
-    ensures within { IfSome result (λ x. x.1 ≤ length text.now) }
+/// The fault of digits with what spoils them.
+fn spoilt_or_large(spoilt: Option<LexicalError>, digits: &[u8]) -> Option<(LexicalError, usize)>
+    ensures value { (whole : List ℕ) → model.kind_and_offset whole result
+        ≡ spec.spoilt_or_large (option_map (model.kind_of_error whole) spoilt) digits.now }
+    ensures within { IfSome result (λ x. x.1 ≡ 0) }
 {
-    let (digits, rest) = text.split_at(digits_length(text));
-    match spoils(rest) {
-        Some(wrong) => Some((wrong, 0)),
-        None if is_large(digits) => Some((Wrong::Number, 0)),
+    match spoilt {
+        Some(error) => Some((error, 0)),
+        None if is_large(digits) => Some((LexicalError::Number, 0)),
         None => None,
     }
 }
 
+/// The fault of the number at the front.
+#[tactic(auto, unfolding(crate::specs::Tokens::number_fault))]
+fn number_fault(text: &[u8]) -> Option<(LexicalError, usize)>
+    ensures value { (whole : List ℕ)
+        → model.kind_and_offset whole result ≡ spec.number_fault text.now }
+    ensures within { IfSome result (λ x. x.1 ≤ length text.now) }
+{
+    let (digits, rest) = text.split_at(digits_length(text));
+    spoilt_or_large(spoils(rest), digits)
+}
+
 #[tactic(auto, unfolding(crate::specs::Tokens::text_fault))]
-fn text_fault(quote: u8, text: &[u8]) -> Option<(Wrong, usize)>
-    ensures value { result ≡ spec.text_fault quote text.now }
+fn text_fault(quote: u8, text: &[u8]) -> Option<(LexicalError, usize)>
+    ensures value { (whole : List ℕ)
+        → model.kind_and_offset whole result ≡ spec.text_fault quote text.now }
     ensures within { IfSome result (λ x. x.1 ≤ length text.now) }
 {
     let Some(length) = closing(quote, text) else {
-        return Some((Wrong::Text, 0));
+        return Some((LexicalError::Text, 0));
     };
     let (inside, _) = text.split_at(length);
     if quote != b'"' {
         return None;
     }
     match bad_escape(inside) {
-        Some(far) => Some((Wrong::Char, far)),
+        Some(offset) => Some((LexicalError::Char, offset)),
         None => None,
     }
 }
 
 /// What is wrong with the word at the front.
 #[tactic(auto, unfolding(crate::specs::Tokens::word_fault))]
-fn word_fault(text: &[u8]) -> Option<(Wrong, usize)>
-    ensures value { result ≡ spec.word_fault text.now }
+fn word_fault(text: &[u8]) -> Option<(LexicalError, usize)>
+    ensures value { model.kind_and_offset text.now result ≡ spec.word_fault text.now }
     ensures within { IfSome result (λ x. x.1 ≤ length text.now) }
 {
     let (word, _) = text.split_at(word_length(text));
     if is_refused(word) {
-        Some((Wrong::Out, 0))
+        Some((LexicalError::Out, 0))
     } else {
         None
     }
 }
 
-fn symbol_fault(first: u8, rest: &[u8]) -> Option<(Wrong, usize)>
-    ensures value { result ≡ spec.symbol_fault first rest.now }
+fn symbol_fault(first: u8, rest: &[u8]) -> Option<(LexicalError, usize)>
+    ensures value { (whole : List ℕ)
+        → model.kind_and_offset whole result ≡ spec.symbol_fault first rest.now }
     ensures within { IfSome result (λ x. x.1 ≡ 0) }
 {
     if first == b'(' && begins_with(b'!', rest) {
-        return Some((Wrong::Comment, 0));
+        return Some((LexicalError::Comment, 0));
     }
     match one_byte(first) {
         Some(_) => None,
-        None => Some((Wrong::Char, 0)),
+        None => Some((LexicalError::Char, 0)),
     }
 }
 
 /// The fault at the front, where no gap begins.
 #[tactic(auto, unfolding(crate::specs::Tokens::fault_at))]
-fn fault_at(text: &[u8]) -> Option<(Wrong, usize)>
-    ensures value { result ≡ spec.fault_at text.now }
+fn fault_at(text: &[u8]) -> Option<(LexicalError, usize)>
+    ensures value { model.kind_and_offset text.now result ≡ spec.fault_at text.now }
     ensures within { IfSome result (λ x. x.1 ≤ length text.now) }
 {
     let [first, rest @ ..] = text else {
@@ -208,9 +215,9 @@ fn fault_at(text: &[u8]) -> Option<(Wrong, usize)>
     }
 }
 
-#[tactic(auto, unfolding(crate::specs::Fronts::word_at))]
+#[tactic(auto, unfolding(crate::specs::Lexemes::word_at))]
 fn word_at(text: &[u8]) -> (TokenKind, usize)
-    ensures value { result ≡ fronts.word_at text.now }
+    ensures value { result ≡ model.word_at text.now }
     ensures within { result.1 ≤ length text.now }
 {
     if let Some(found) = end_at(text) {
@@ -222,13 +229,13 @@ fn word_at(text: &[u8]) -> (TokenKind, usize)
 }
 
 fn one_at(first: u8) -> (TokenKind, usize)
-    ensures { result ≡ fronts.two_or_one None first }
+    ensures { result ≡ model.two_or_one None first }
 {
     (one_byte(first).unwrap_or(TokenKind::Newline), 1)
 }
 
 fn symbol_at(first: u8, rest: &[u8]) -> (TokenKind, usize)
-    ensures value { result ≡ fronts.symbol_at first rest.now }
+    ensures value { result ≡ model.symbol_at first rest.now }
     ensures within { result.1 ≤ length rest.now + 1 }
 {
     let [second, ..] = rest else {
@@ -241,16 +248,16 @@ fn symbol_at(first: u8, rest: &[u8]) -> (TokenKind, usize)
 }
 
 fn quoted_at(quote: u8, rest: &[u8]) -> (TokenKind, usize)
-    ensures value { result ≡ fronts.quoted_at quote rest.now }
+    ensures value { result ≡ model.quoted_at quote rest.now }
     ensures within { result.1 ≤ length rest.now + 1 }
 {
     (TokenKind::Text, closing(quote, rest).unwrap_or(0) + 1)
 }
 
 /// The token at the front, where no gap and no fault is.
-#[tactic(auto, unfolding(crate::specs::Fronts::token_at))]
+#[tactic(auto, unfolding(crate::specs::Lexemes::token_at))]
 fn token_at(text: &[u8]) -> (TokenKind, usize)
-    ensures value { result ≡ fronts.token_at text.now }
+    ensures value { result ≡ model.token_at text.now }
     ensures within { result.1 ≤ length text.now }
 {
     let [first, rest @ ..] = text else {
@@ -267,26 +274,18 @@ fn token_at(text: &[u8]) -> (TokenKind, usize)
     }
 }
 
-#[tactic(auto, unfolding(crate::specs::Fronts::front))]
-fn front_of(text: &[u8]) -> Front
-    ensures value { result ≡ fronts.front text.now }
-    ensures within { fronts.Within result (length text.now) }
+/// What stands at the front.
+pub(crate) fn next_lexeme(text: &[u8]) -> Lexeme
+    requires { text.now ≢ [] }
+    ensures stands { model.Stands text.now result }
+    ensures within { model.Within result (length text.now) }
 {
     if let Some(length) = gap_at(text) {
-        return Front::Gap(length);
+        return Lexeme::Gap(length);
     }
-    if let Some((wrong, far)) = fault_at(text) {
-        return Front::Fault(wrong, far);
+    if let Some((error, offset)) = fault_at(text) {
+        return Lexeme::Fault(error, offset);
     }
     let (kind, length) = token_at(text);
-    Front::Token(kind, length)
-}
-
-/// What stands at the front.
-pub(crate) fn look(text: &[u8]) -> Front
-    requires { text.now ≢ [] }
-    ensures stands { fronts.Stands text.now result }
-    ensures within { fronts.Within result (length text.now) }
-{
-    front_of(text)
+    Lexeme::Token(kind, length)
 }
