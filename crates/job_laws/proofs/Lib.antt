@@ -10,4 +10,7 @@ pub mod Listing
 pub mod Holding
 pub mod Ending
 pub mod Naming
+pub mod Truth
+pub mod Fit
+pub mod Sources
 pub mod Standing
