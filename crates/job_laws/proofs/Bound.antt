@@ -266,7 +266,7 @@ pub record RunCounts (log : List Entry) : Type 0 where
   pub few_given : gives log ≤ run_count log
   pub few_runs : run_count log ≤ 4096
 
-starts-snoc : (log : List Entry) (e : Entry) → run_count (log ++ e ∷ []) ≡ run_count log + as_number (is_started e.reply)
+pub starts-snoc : (log : List Entry) (e : Entry) → run_count (log ++ e ∷ []) ≡ run_count log + as_number (is_started e.reply)
 starts-snoc log e = let c = count-snoc (λ (x : Entry). is_started x.reply) log e in omega (arith, c)
 
 claimed-snoc : (k : ℕ) (log : List Entry) (e : Entry) → is_claimed k (log ++ e ∷ []) ≡ (is_claimed k log || claims k e.reply)
