@@ -15,7 +15,7 @@ use Rattle.job_calls.specs.declared.entry.Entry.{Entry}
 use Rattle.job_calls.specs.Words.{is_run, is_quit, is_finish, is_started, claims, is_done, is_last, own_entries, run_count, is_claimed, first_unclaimed}
 use Rattle.job_calls.specs.Runs.{Opening, opening, opening_of}
 use Rattle.std.specs.Option.{option_map_or}
-use Rattle.job_calls.specs.Files.{files_of}
+use Rattle.job_calls.specs.Files.{files_of, lanes_of}
 use Rattle.job_calls.specs.Answers.{stop_rows, table_answer, is_full}
 use Rattle.job_calls.specs.Fitting.{held_after, held_run, exchange_of, is_over, is_for_lane, below_lanes}
 use Rattle.job_calls.specs.Legal.{IsLegal, IsOpening, OpensSo, Follows}
@@ -269,7 +269,7 @@ pub record RunCounts (log : List Entry) : Type 0 where
 pub starts-snoc : (log : List Entry) (e : Entry) → run_count (log ++ e ∷ []) ≡ run_count log + as_number (is_started e.reply)
 starts-snoc log e = let c = count-snoc (λ (x : Entry). is_started x.reply) log e in omega (arith, c)
 
-claimed-snoc : (k : ℕ) (log : List Entry) (e : Entry) → is_claimed k (log ++ e ∷ []) ≡ (is_claimed k log || claims k e.reply)
+pub claimed-snoc : (k : ℕ) (log : List Entry) (e : Entry) → is_claimed k (log ++ e ∷ []) ≡ (is_claimed k log || claims k e.reply)
 claimed-snoc k log e = any-snoc (λ (x : Entry). claims k x.reply) log e
 
 none_is_some : (k : ℕ) → None ≡ Some k → ⊥
@@ -364,6 +364,8 @@ run_counts = legal_induct RunCounts
 -- all lanes are below the number that the job was opened with, at most 64
 pub record LanesBelow (log : List Entry) : Type 0 where
   pub lanes : ℕ
+  pub lanes_is : lanes_of log ≡ lanes
+  pub some : 1 ≤ lanes
   pub few : lanes ≤ 64
   pub allowed : (lane : ℕ) → below_lanes lane (opening log) ≡ true → lane < lanes
   pub all : AllBelow lanes log
@@ -372,6 +374,8 @@ lanes_first : (e : Entry) (o : Option Opening) → opening_of e.call ≡ o → O
 lanes_first e None q h z = absurd h
 lanes_first e (Some o) q h z = record {
   lanes = o.lanes;
+  lanes_is = ap (λ p. option_map_or (λ (x : Opening). x.lanes) p 0) q;
+  some = h.some_lane;
   few = h.few_lanes;
   allowed = λ lane b. ltb-true lane o.lanes (sym (ap (below_lanes lane) q) ∙ b);
   all = (let s = h.some_lane in omega (arith, z, s), tt);
@@ -381,6 +385,8 @@ lanes_more : (log : List Entry) (e : Entry) → LanesBelow log → below_lanes e
 lanes_more [] e c b = absurd (false_true b)
 lanes_more (x ∷ xs) e c b = record {
   lanes = c.lanes;
+  lanes_is = c.lanes_is;
+  some = c.some;
   few = c.few;
   allowed = c.allowed;
   all = AllBelow-snoc c.lanes (x ∷ xs) e c.all (c.allowed e.lane b);
@@ -404,7 +410,7 @@ is_mark call reply = is_quit call || (is_finish call || (is_given reply || (is_d
 abbrev pub marks : List Entry → ℕ
 marks es = count_by (λ (e : Entry). is_mark e.call e.reply) es
 
-or_yes : (b : Bool) → (b || true) ≡ true
+pub or_yes : (b : Bool) → (b || true) ≡ true
 or_yes true = refl
 or_yes false = refl
 

@@ -101,10 +101,10 @@ abbrev pub AllBelow : ℕ → List Entry → Type 0
 AllBelow n [] = Unit {0}
 AllBelow n (e ∷ es) = (e.lane < n) × AllBelow n es
 
-own-cons-same : (e : Entry) (es : List Entry) → own_entries e.lane (e ∷ es) ≡ e ∷ own_entries e.lane es
+pub own-cons-same : (e : Entry) (es : List Entry) → own_entries e.lane (e ∷ es) ≡ e ∷ own_entries e.lane es
 own-cons-same e es = ap (λ b. cond b (e ∷ own_entries e.lane es) (own_entries e.lane es)) (eq-eqb e.lane e.lane refl)
 
-own-cons-other : (lane : ℕ) (e : Entry) (es : List Entry) → e.lane ≢ lane → own_entries lane (e ∷ es) ≡ own_entries lane es
+pub own-cons-other : (lane : ℕ) (e : Entry) (es : List Entry) → e.lane ≢ lane → own_entries lane (e ∷ es) ≡ own_entries lane es
 own-cons-other lane e es apart = ap (λ b. cond b (e ∷ own_entries lane es) (own_entries lane es)) (ne_eqb e.lane lane apart)
 
 -- the lanes' counts make up the whole count

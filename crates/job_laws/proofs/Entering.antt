@@ -41,7 +41,7 @@ pub data Entering (log : List Entry) (lane : ℕ) : Option ℕ → Call → Repl
   acts : (run : ℕ) (call : Call) (reply : Reply) → held_run (own_entries lane log) ≡ Some run → is_over (exchange_of run (own_entries lane log)) ≡ false
       → ends_fit (exchange_of run (own_entries lane log)) call ≡ true → is_for_lane call ≡ false → is_finish call ≡ false → answer_to_run log (Some run) call ≡ Ready reply → Entering log lane (Some run) call reply
 
-not_true : (b : Bool) → not b ≡ true → b ≡ false
+pub not_true : (b : Bool) → not b ≡ true → b ≡ false
 not_true true e = sym e
 not_true false e = refl
 

@@ -14,3 +14,5 @@ pub mod Truth
 pub mod Fit
 pub mod Sources
 pub mod Standing
+pub mod Lanes
+pub mod AllDone
