@@ -338,7 +338,7 @@ none_own p n (e ∷ es) all h =
       ])
 
 -- and what somebody has some lane has
-some_own : (p : Entry → Bool) (n : ℕ) (es : List Entry) → AllBelow n es → list_any p es ≡ true
+pub some_own : (p : Entry → Bool) (n : ℕ) (es : List Entry) → AllBelow n es → list_any p es ≡ true
     → (l : ℕ) × (l < n) × (list_any p (own_entries l es) ≡ true)
 some_own p n [] all h = absurd (false_true h)
 some_own p n (e ∷ es) all h =
