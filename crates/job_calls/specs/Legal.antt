@@ -2,21 +2,20 @@
 
 use Rattle.std.specs.Prelude.{◌≡◌, ℕ, ◌≤◌, List, [], ◌∷◌, ◌++◌, Option, Some, None, ◌||◌, length, IsTrue, All, ◌≢◌}
 use Rattle.std.specs.List.{list_all}
-use Rattle.mos_text.specs.FileName.{is_file_name}
+use Rattle.mos_text.specs.FileName.{is_file_name, is_source_name, is_image_name}
 use Rattle.job_calls.specs.declared.reply.Answer.TheVariants.{Ready}
 use Rattle.job_calls.specs.declared.reply.Reply.TheVariants.{Opened}
 use Rattle.job_calls.specs.declared.entry.Entry.{Entry}
 use Rattle.job_calls.specs.declared.entry.Listed.{Listed}
 use Rattle.job_calls.specs.Words.{own_entries}
 use Rattle.job_calls.specs.Runs.{Opening, opening, opening_of}
-use Rattle.job_calls.specs.Files.{is_source, is_image}
 use Rattle.job_calls.specs.Answers.{answer_of}
 use Rattle.job_calls.specs.Fitting.{fits}
 
 -- the first of the files can be the master: a source that is accepted, or an image
 abbrev pub IsMaster : List Listed → Type 0
 IsMaster [] = ⊥
-IsMaster (file ∷ files) = IsTrue (is_source file.name || is_image file.name) × (file.code ≡ 0)
+IsMaster (file ∷ files) = IsTrue (is_source_name file.name || is_image_name file.name) × (file.code ≡ 0)
 
 -- no name is that of a later file
 abbrev pub HaveDistinctNames : List Listed → Type 0
