@@ -1,6 +1,6 @@
 //! What the program writes: the report of a job, and the one line in place of it where there is none.
 //!
-//! The definitions of these texts stand in `specs/`: how texts, bytes and numbers are quoted, the
+//! The definitions of these texts stand in `specs/`: how texts, bytes and numbers are in_quotes, the
 //! text of a call, of a reply, of a whole report, and the error lines.
 #![tactic(auto)]
 

@@ -12,10 +12,11 @@ use Rattle.job_calls.specs.Runs.{Opening, opening, source_of}
 abbrev pub is_data : List ℕ → Bool
 is_data name = not (is_source_name name) && not (is_image_name name)
 
--- the files, and the number of lanes, that the job was opened with
+-- the files that the job was opened with
 abbrev pub files_of : List Entry → List Listed
 files_of journal = option_map_or (λ (o : Opening). o.files) (opening journal) []
 
+-- and the number of lanes
 abbrev pub lanes_of : List Entry → ℕ
 lanes_of journal = option_map_or (λ (o : Opening). o.lanes) (opening journal) 0
 

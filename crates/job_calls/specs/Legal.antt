@@ -1,6 +1,6 @@
 -- The legal journals: those that one hub, asked by one lane after the other, can have written.
 
-use Rattle.std.specs.Prelude.{◌≡◌, ℕ, ◌≤◌, List, [], ◌∷◌, ◌++◌, Option, Some, None, ◌||◌, length, IsTrue, All, ◌≢◌}
+use Rattle.std.specs.Prelude.{◌≡◌, ◌≤◌, List, [], ◌∷◌, ◌++◌, Option, Some, None, ◌||◌, length, IsTrue, All, ◌≢◌}
 use Rattle.std.specs.List.{list_all}
 use Rattle.mos_text.specs.FileName.{is_file_name, is_source_name, is_image_name}
 use Rattle.job_calls.specs.declared.reply.Answer.TheVariants.{Ready}
@@ -33,6 +33,7 @@ pub record CanOpen (o : Opening) : Type 0 where
   pub names : IsTrue (list_all (λ file. is_file_name file.name) o.files)
   pub distinct : HaveDistinctNames o.files
 
+-- there is such an opening
 abbrev pub OpensSo : Option Opening → Type 0
 OpensSo None = ⊥
 OpensSo (Some o) = CanOpen o
@@ -54,6 +55,7 @@ abbrev pub FollowOn : List Entry → List Entry → Type 0
 FollowOn before [] = Unit {0}
 FollowOn before (e ∷ es) = Follows before e × FollowOn (before ++ e ∷ []) es
 
+-- an opening, and entries that follow it, one by one
 abbrev pub IsLegal : List Entry → Type 0
 IsLegal [] = ⊥
 IsLegal (e ∷ es) = IsOpening e × FollowOn (e ∷ []) es

@@ -1,7 +1,7 @@
 -- Runs and their sources: each run that was started comes from a source that was accepted, and keeps it.
 
-use Rattle.std.proofs.Common.{◌≡◌, ◌≢◌, ◌<◌, ◌≤◌, ℕ, zero, suc, ◌+◌, Bool, true, false, ◌&&◌, ◌||◌, List, [], ◌∷◌, ◌++◌, Option, Some, None, refl, sym, ap, ◌∙◌, subst, inl, inr, ◌⊎◌, nat_eq, nat_lt, length, arith, append_assoc, append-nil}
-use Rattle.std.specs.Prelude.{count_by, find, position, slice_get, option_map, option_and_then, unwrap_or, IsTrue, if◌then◌else◌}
+use Rattle.std.proofs.Common.{◌≡◌, ◌<◌, ℕ, zero, suc, ◌+◌, Bool, true, false, ◌&&◌, List, [], ◌∷◌, ◌++◌, Option, Some, None, refl, sym, ap, ◌∙◌, subst, inl, inr, ◌⊎◌, nat_eq, nat_lt, length, arith, append_assoc, append-nil}
+use Rattle.std.specs.Prelude.{count_by, find, position, slice_get, option_map, option_and_then, unwrap_or, if◌then◌else◌}
 use Rattle.std.specs.Option.{option_map_or}
 use Rattle.std.specs.List.{position_or_len}
 use Rattle.std.specs.Str.{bytes_eq}
@@ -10,14 +10,14 @@ use Rattle.std.proofs.lemmas.List.Folds.{find_at}
 use Rattle.std.proofs.lemmas.Slice.Eq.{bytes_eq-Decides}
 use Rattle.mos_text.specs.FileName.{is_source_name}
 use Rattle.job_calls.specs.declared.call.Call.{Call}
-use Rattle.job_calls.specs.declared.call.Call.TheVariants.{Open, Claim, Compile, Run, Unload}
+use Rattle.job_calls.specs.declared.call.Call.TheVariants.{Compile, Run, Unload}
 use Rattle.job_calls.specs.declared.reply.Reply.{Reply}
 use Rattle.job_calls.specs.declared.reply.Reply.TheVariants.{Opened, Code, Loaded, Started, Unit as Accepted}
 use Rattle.job_calls.specs.declared.entry.Entry.{Entry}
 use Rattle.job_calls.specs.declared.entry.Listed.{Listed}
-use Rattle.job_calls.specs.Moments.{Moment, moments}
+use Rattle.job_calls.specs.Moments.{moments}
 use Rattle.job_calls.specs.Words.{is_started, run_count, unclaimed}
-use Rattle.job_calls.specs.Runs.{later, last_given, Opening, opening, opening_of, Start, start_by, start_of, start_of_run, loaded_source, source_of_model, source_started, source_of, params_of}
+use Rattle.job_calls.specs.Runs.{later, last_given, Opening, opening, opening_of, Start, start_by, start_of_run, loaded_source, source_of_model, source_started, source_of, params_of}
 use Rattle.job_calls.specs.Files.{files_of, code_of, file_at}
 use Rattle.job_calls.specs.Models.{compiled_to, compiled_from, image_source, loaded_count, loads, is_loaded}
 use Rattle.job_calls.specs.Legal.{IsLegal, IsOpening, IsMaster, OpensSo, Follows, FollowOn}
@@ -29,7 +29,7 @@ use Rattle.job_laws.proofs.Outcomes.{Outcome, run_outcome, is_idle, false_true}
 use Rattle.job_laws.proofs.Entering as enter
 use Rattle.job_laws.proofs.Entering.{Entering, entering, and_true}
 use Rattle.job_laws.proofs.Counts.{as_number}
-use Rattle.job_laws.proofs.Bound.{RunCounts, run_counts, least, gives, starts-snoc}
+use Rattle.job_laws.proofs.Bound.{run_counts, least, gives, starts-snoc}
 
 -- the files of a journal that has an entry stay
 files_stay : (log : List Entry) (e : Entry) → IsLegal log → files_of (log ++ e ∷ []) ≡ files_of log
