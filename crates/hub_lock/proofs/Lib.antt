@@ -1,4 +1,5 @@
 pub mod Lists
+pub mod Marking
 pub mod Steps
 pub mod Parts
 pub mod Turns

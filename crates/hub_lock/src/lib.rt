@@ -7,14 +7,15 @@
 #![tactic(auto)]
 
 mod keep;
+mod lock;
+mod mark;
 mod rule;
 mod seat;
 mod story;
 mod tally;
-#[cfg(test)]
-mod tests;
 
 pub use keep::{Ended, Held, Keep};
+pub use mark::Mark;
 pub use seat::Seat;
 pub use story::Story;
 pub use tally::{Put, Refusal, Tally};

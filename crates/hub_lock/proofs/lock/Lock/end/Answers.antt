@@ -1,7 +1,7 @@
 use Rattle.std.proofs.Common.{◌∙◌, ap}
 use mathlib.Core.Option.{some}
 use Rattle.hub_lock.proofs.Parts.{closes_some, closes_with}
-use Rattle.hub_lock.proofs.keep.Keep.end.Goals as goal
+use Rattle.hub_lock.proofs.lock.Lock.end.Goals as goal
 
 pub unreachable-requires : goal.unreachable-requires
 unreachable-requires g c =

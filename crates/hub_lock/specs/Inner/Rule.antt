@@ -1,14 +1,16 @@
 -- The lock's rule: what holds between any two atomic steps, of the three words, of the slot and of the views of all seats.
 -- The words are `ticket`, `serving` and `count`, all modulo 2^64. The slot is out with the seat that has the turn, and else at home.
-use Rattle.std.specs.Prelude.{◌≡◌, ◌≢◌, ℕ, ◌+◌, ◌%◌, ◌^◌, ◌<◌, ◌≤◌, ◌⊎◌, Bool, true, false, List, [], ◌∷◌, length, Option, Some}
+use Rattle.std.specs.Prelude.{◌≡◌, ◌≢◌, ℕ, ◌+◌, ◌%◌, ◌^◌, ◌<◌, ◌≤◌, ◌⊎◌, Bool, true, false, List, [], ◌∷◌, length, All, Option, Some}
 use Rattle.std.specs.List.{sum_by}
 use mathlib.Core.Option as maybe
 use lib.ListN.{get_elem?}
 use Rattle.atomic_table.specs.Table.{State}
 use Rattle.hub_lock.specs.declared.rule.Stage.{Stage}
 use Rattle.hub_lock.specs.declared.rule.Stage.TheVariants.{Idle, Waits, Holds, Spent}
+use Rattle.hub_lock.specs.declared.rule.Part.{Part}
 use Rattle.hub_lock.specs.declared.rule.View.{View}
-use Rattle.hub_lock.specs.Words.{of, StartsWith}
+use Rattle.hub_lock.specs.Words.{of, StartsWith, HasNoneFrom}
+use Rattle.hub_lock.specs.Marks.{times, IsOrder, IsMarkOf}
 
 -- a spent seat was joined into lane 0's
 abbrev pub alive : Stage → Bool
@@ -45,8 +47,17 @@ module _ {E : Type 0} where
   abbrev pub held_of : View E → ℕ
   held_of v = held v.stage
 
+  -- how many turns there were of a seat, and of those that were joined into it
   abbrev pub turns_of : View E → ℕ
-  turns_of v = v.turns
+  turns_of v = length v.marks + sum_by (λ (p : Part E). length p.marks) v.joined
+
+  -- how often a ticket stands among its marks and theirs
+  abbrev pub times_of : ℕ → View E → ℕ
+  times_of ticket v = times ticket v.marks + sum_by (λ (p : Part E). times ticket p.marks) v.joined
+
+  -- its marks and theirs are of one of so many turns, and found what the order says
+  abbrev pub HasMarks : (ℕ → ℕ) → ℕ → View E → Type 0
+  HasMarks at total v = All (IsMarkOf at total) v.marks × All (λ (p : Part E). All (IsMarkOf at total) p.marks) v.joined
 
   -- Of one seat: its ticket lies from the one served up to below the next, and with the turn it is the one served, and the seat has seen the journal
   abbrev pub Tickets : ℕ → ℕ → List E → List E → Stage → Type 0
@@ -56,8 +67,8 @@ module _ {E : Type 0} where
   Tickets drawn served log seen Spent = Unit {0}
 
   -- what the seats of lanes 1, 2 and so on had seen when they were joined: a beginning of the journal, with all of the lane's entries
-  abbrev pub Joined : (E → ℕ) → List E → List (List E) → Type 0
-  Joined lane_of log joined = (i : ℕ) (seen : List E) → get_elem? joined i ≡ maybe.some seen → StartsWith log seen × (of lane_of (i + 1) log ≡ of lane_of (i + 1) seen)
+  abbrev pub Joined : (E → ℕ) → List E → List (Part E) → Type 0
+  Joined lane_of log joined = (i : ℕ) (p : Part E) → get_elem? joined i ≡ maybe.some p → StartsWith log p.seen × (of lane_of (i + 1) log ≡ of lane_of (i + 1) p.seen)
 
   -- of two seats: their tickets and their lanes differ, and neither has the lane of one that was joined
   pub record Apart (v w : View E) : Type 0 where
@@ -80,11 +91,22 @@ module _ {E : Type 0} where
 
   -- the seat has seen the whole journal, or one that was joined into it had
   abbrev pub Knows : List E → View E → Type 0
-  Knows log v = (v.seen ≡ log) ⊎ ((v.lane ≡ 0) × ((i : ℕ) × (get_elem? v.joined i ≡ maybe.some log)))
+  Knows log v = (v.seen ≡ log) ⊎ ((v.lane ≡ 0) × ((i : ℕ) × (p : Part E) × (get_elem? v.joined i ≡ maybe.some p) × (p.seen ≡ log)))
 
   -- the journal is the longest of the lists that were seen
   abbrev pub IsLongest : List E → List (View E) → Type 0
   IsLongest log views = (j : ℕ) × (v : View E) × (get_elem? views j ≡ maybe.some v) × Knows log v
+
+  -- There were `total` turns. They stand in one order, which leads to `count` entries; each ticket below stands with one mark of one view, and a spent seat has none
+  pub record HasTurns (total count : ℕ) (views : List (View E)) : Type 0 where
+    pub at : ℕ → ℕ
+    pub order : IsOrder at
+    pub leads : (turn : ℕ) → total ≤ turn → at turn ≡ count
+    pub counts : sum_by turns_of views ≡ total
+    pub once : (turn : ℕ) → turn < total → sum_by (times_of turn) views ≡ 1
+    pub free : (turn : ℕ) → total ≤ turn → sum_by (times_of turn) views ≡ 0
+    pub marks : (j : ℕ) (v : View E) → get_elem? views j ≡ maybe.some v → HasMarks at total v
+    pub gone : (j : ℕ) (v : View E) → get_elem? views j ≡ maybe.some v → alive v.stage ≡ false → (v.marks ≡ []) × (v.joined ≡ [])
 
 module _ {S E : Type 0} where
   -- the slot is at home with a value that stands for the journal, and nobody has the turn; or one seat has both
@@ -102,10 +124,10 @@ pub record LockRule {S E : Type 0} (list : S → List E) (lane_of : E → ℕ) (
   pub sounds : sound log
   pub longest : IsLongest log s.views
   pub outs : served + sum_by out_of s.views ≡ drawn
-  pub turns : sum_by turns_of s.views ≡ served + sum_by held_of s.views
+  pub turns : HasTurns (served + sum_by held_of s.views) (length log) s.views
   pub fits : (j : ℕ) (v : View E) → get_elem? s.views j ≡ maybe.some v → Fits lane_of drawn served made log v
   pub apart : (i j : ℕ) (v w : View E) → i ≢ j → get_elem? s.views i ≡ maybe.some v → get_elem? s.views j ≡ maybe.some w → Apart v w
-  pub unmade : (lane : ℕ) → made ≤ lane → of lane_of lane log ≡ []
+  pub unmade : HasNoneFrom lane_of made log
   pub home : Home list s.homes (sum_by held_of s.views) log
 
 -- the rule holds, with some journal
@@ -114,17 +136,4 @@ HasJournal {S} {E} list lane_of sound s = (log : List E) × LockRule list lane_o
 
 -- lane 0's seat at the start
 abbrev pub starting : {E : Type 0} → List E → View E
-starting log = record { lane = 0; seen = log; stage = Idle; turns = 0; made = 1; joined = [] }
-
--- At some moment the rule held, a seat of this lane had the turn, as its turn of this number, and the journal, all of which it had seen, was `log`
-pub record WasJournal {S E : Type 0} (list : S → List E) (lane_of : E → ℕ) (sound : List E → Type 0) (lane turns : ℕ) (log : List E) : Type 0 where
-  pub state : State (Option S) (View E)
-  pub rule : LockRule list lane_of sound log state
-  pub place : ℕ
-  pub view : View E
-  pub there : get_elem? state.views place ≡ maybe.some view
-  pub ticket : ℕ
-  pub stage : view.stage ≡ Holds ticket
-  pub lane_is : view.lane ≡ lane
-  pub turns_is : view.turns ≡ turns
-  pub seen : view.seen ≡ log
+starting log = record { lane = 0; seen = log; marks = []; stage = Idle; made = 1; joined = [] }

@@ -1,11 +1,10 @@
 //! The parts of a call: draw a ticket, look until it is served, take the value; then give it back, count the entry if there is one, and pass the turn.
 ghost use Rattle.std.specs.Prelude.{◌≡◌, [], ◌∷◌, Some, None};
 ghost use Rattle.hub_lock.specs.declared.rule.Stage.TheVariants.{Idle};
-ghost use Rattle.hub_lock.specs.Rule.{WasJournal};
-ghost use Rattle.hub_lock.specs.Steps.{counting, passing};
-ghost use Rattle.hub_lock.specs.Turns.{IsSameRaw, HasTurn, HasSlot, HasEntry};
+ghost use Rattle.hub_lock.specs.Inner.Steps.{counting, passing};
+ghost use Rattle.hub_lock.specs.Inner.Turns.{IsSameRaw, HasTurn, HasSlot, HasMark, HasEntry};
 
-use super::Keep;
+use super::Lock;
 use crate::rule::{Count, Draw, Look, Pass};
 use crate::seat::Raw;
 use crate::story::Story;
@@ -19,9 +18,9 @@ const SERVING: usize = 1;
 
 const COUNT: usize = 2;
 
-impl<S: Story> Keep<S> {
+impl<S: Story> Lock<S> {
     // Waits for the seat's turn, perhaps for good, and takes the value.
-    pub(super) fn enter<R: Wait>(&self, rt: &R, raw: &mut Raw<S>) -> S
+    pub(crate) fn enter<R: Wait>(&self, rt: &R, raw: &mut Raw<S>) -> S
         requires own { raw.old.table_id ≡ self.now.table.shared.table_id }
         requires rests { (raw.old.me.0.stage ≡ Idle) × (raw.old.me.1 ≡ []) }
         ensures same { IsSameRaw raw.old raw.new }
@@ -39,7 +38,7 @@ impl<S: Story> Keep<S> {
     }
 
     // Gives the value back as it was, and passes the turn.
-    pub(super) fn leave(&self, raw: &mut Raw<S>, story: S)
+    pub(crate) fn leave(&self, raw: &mut Raw<S>, story: S)
         requires own { raw.old.table_id ≡ self.now.table.shared.table_id }
         requires slot { HasSlot raw.old None }
         requires same { S.list story ≡ raw.old.me.0.seen }
@@ -51,13 +50,13 @@ impl<S: Story> Keep<S> {
     }
 
     // Gives the value back with its new entry, counts the entry, and passes the turn.
-    pub(super) fn leave_with_entry(&self, raw: &mut Raw<S>, story: S)
+    pub(crate) fn leave_with_entry(&self, raw: &mut Raw<S>, story: S)
         requires own { raw.old.table_id ≡ self.now.table.shared.table_id }
         requires slot { HasSlot raw.old None }
+        requires mark { HasMark raw.old }
         requires entry { HasEntry S.list S.lane_of S.sound raw.old story }
         ensures same { IsSameRaw raw.old raw.new }
         ensures view { raw.new.me ≡ (passing (counting raw.old.me.0 (S.list story)), []) }
-        ensures moment { WasJournal S.list S.lane_of S.sound raw.old.me.0.lane raw.old.me.0.turns (S.list story) }
     {
         self.give(raw, story);
         self.table.shared.fetch_add::<Count<S>>(raw, COUNT, 1);
@@ -79,7 +78,7 @@ impl<S: Story> Keep<S> {
     }
 
     // Moves the value back into the slot.
-    pub(super) fn give(&self, raw: &mut Raw<S>, story: S)
+    fn give(&self, raw: &mut Raw<S>, story: S)
         requires own { raw.old.table_id ≡ self.now.table.shared.table_id }
         requires slot { raw.old.me.1 ≡ (0, None) ∷ [] }
         ensures same { IsSameRaw raw.old raw.new }
@@ -89,7 +88,7 @@ impl<S: Story> Keep<S> {
     }
 
     // Passes the turn, with the value in the slot. From then on the slot is at home.
-    pub(super) fn pass(&self, raw: &mut Raw<S>)
+    fn pass(&self, raw: &mut Raw<S>)
         requires own { raw.old.table_id ≡ self.now.table.shared.table_id }
         requires slot { (story : S) × HasSlot raw.old (Some story) × (S.list story ≡ raw.old.me.0.seen) }
         ensures same { IsSameRaw raw.old raw.new }

@@ -1,7 +1,7 @@
 use Rattle.std.proofs.Common.{◌≡◌, ℕ, ◌%◌, ◌^◌, []}
-use Rattle.hub_lock.specs.Turns.{IsSameRaw}
-use Rattle.hub_lock.specs.Steps.{drawing}
-use Rattle.hub_lock.proofs.keep.Keep.enter.Given as goal
+use Rattle.hub_lock.specs.Inner.Turns.{IsSameRaw}
+use Rattle.hub_lock.specs.Inner.Steps.{drawing}
+use Rattle.hub_lock.proofs.lock.Lock.enter.Given as goal
 
 -- the seat waits with its ticket
 abbrev pub invariant-loop : goal.invariant-loop

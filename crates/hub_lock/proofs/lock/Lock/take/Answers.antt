@@ -1,6 +1,6 @@
 use Rattle.std.proofs.Common.{rules, Some, ℕ, Option, List, ◌∷◌, ◌∙◌, sym, ap}
 use Rattle.atomic_table.specs.Table.{rest}
-use Rattle.hub_lock.proofs.keep.Keep.take.Goals as goal
+use Rattle.hub_lock.proofs.lock.Lock.take.Goals as goal
 
 pub exchange-requires : goal.exchange-requires
 exchange-requires g c =

@@ -1,6 +1,6 @@
 use Rattle.std.proofs.Common.{rules}
 use Rattle.hub_lock.proofs.Steps.{passes}
-use Rattle.hub_lock.proofs.keep.Keep.pass.Goals as goal
+use Rattle.hub_lock.proofs.lock.Lock.pass.Goals as goal
 
 pub fetch_add-requires : goal.fetch_add-requires
 fetch_add-requires g c =

@@ -1,7 +1,7 @@
 use Rattle.std.proofs.Common.{rules}
 use Rattle.hub_lock.proofs.Steps.{draws}
 use Rattle.hub_lock.proofs.Turns.{looks_with}
-use Rattle.hub_lock.proofs.keep.Keep.enter.Goals as goal
+use Rattle.hub_lock.proofs.lock.Lock.enter.Goals as goal
 
 pub fetch_add-ticket-requires : goal.fetch_add-ticket-requires
 fetch_add-ticket-requires g c = (search rules, search rules, draws _ _ _ _ _ _ c.requires.rests.0)
