@@ -14,7 +14,7 @@ use Rattle.hub_lock.specs.Words.{of, StartsWith}
 use Rattle.hub_lock.specs.Marks.{times, IsMarkOf}
 use Rattle.hub_lock.specs.Seats.{SeatState, turns}
 use Rattle.hub_lock.specs.Calls.{InOrder, HasOrder, IsEnd}
-use Rattle.hub_lock.specs.Inner.Rule.{turns_of, times_of}
+use Rattle.hub_lock.specs.Inner.Rule.{turns_of}
 use Rattle.hub_lock.specs.Inner.Turns.{IsWhole}
 
 elem_here : {A : Type 0} (l : List A) (i : ℕ) (d : A) → i < length l → get_elem? l i ≡ some (get_or l i d)

@@ -3,5 +3,6 @@ pub mod Marking
 pub mod Steps
 pub mod Parts
 pub mod Turns
+pub mod Acting
 pub mod Ends
 pub mod Waiting

@@ -1,12 +1,12 @@
 -- All turns stand in one order, and each kind of step keeps that.
-use Rattle.std.proofs.Common.{◌≡◌, ◌≢◌, ℕ, zero, suc, ◌+◌, ◌<◌, ◌≤◌, ◌⊎◌, Bool, true, false, cond, eqb, eq-eqb, ne_eqb, leb, le-leb, lt-leb, List, [], ◌∷◌, ◌++◌, All, length, set, sum_by, inl, inr, ⊎_elim, refl, sym, ap, ◌∙◌, subst, true≢false, arith}
-use Rattle.std.proofs.lemmas.Bool.{cases_lt}
+use Rattle.std.proofs.Common.{◌≡◌, ◌≢◌, ℕ, ◌+◌, ◌<◌, ◌≤◌, Bool, true, false, cond, eqb, eq-eqb, ne_eqb, leb, le-leb, List, [], ◌∷◌, ◌++◌, All, length, set, sum_by, inl, inr, ⊎_elim, refl, sym, ap, ◌∙◌, subst, true≢false, arith}
+use Rattle.std.proofs.lemmas.Bool.{cases_lt, lt-leb}
 use Rattle.std.proofs.lemmas.List.{length-append}
 use Rattle.std.proofs.lemmas.List.Sums.{sum_by-cons, sum_by_push}
 use Rattle.std.proofs.lemmas.List.Elements.{All-nil, All-head, All-tail, All-push, All-weaker}
 use Rattle.std.proofs.Math.Decide.{ℕ_discrete}
 use mathlib.Core.Logic.{dite}
-use mathlib.Core.Option.{some, some-injective, some-ne-none}
+use mathlib.Core.Option.{some}
 use lib.ListN.{get_elem?}
 use Rattle.atomic_table.proofs.Lists.{at_set, set_else}
 use Rattle.hub_lock.specs.declared.mark.Mark.{Mark}
@@ -14,8 +14,8 @@ use Rattle.hub_lock.specs.declared.rule.Part.{Part}
 use Rattle.hub_lock.specs.declared.rule.View.{View}
 use Rattle.hub_lock.specs.Marks.{mark, times, IsOrder, IsMarkOf}
 use Rattle.hub_lock.specs.Inner.Rule.{alive, turns_of, times_of, HasMarks, HasTurns}
-use Rattle.hub_lock.specs.Inner.Steps.{dealt, fresh, both, spent, part_of}
-use Rattle.hub_lock.proofs.Lists.{sum_by-set_at, sum_by-one, at_pushed, at_less}
+use Rattle.hub_lock.specs.Inner.Steps.{both, spent, part_of}
+use Rattle.hub_lock.proofs.Lists.{sum_by-set_at, sum_by-one, at_pushed}
 
 -- the order once an entry was counted at the last of `total` turns
 later : (ℕ → ℕ) → ℕ → ℕ → ℕ → ℕ
@@ -57,10 +57,10 @@ all_last P (y ∷ ys) x h = all_last P ys x (All-tail P y (ys ++ x ∷ []) h)
 
 -- a ticket stands once with its own mark
 times_own : (ticket found : ℕ) → times ticket (mark ticket found ∷ []) ≡ 1
-times_own ticket found = ap (λ (b : Bool). cond b 1 0) (eq-eqb ticket ticket refl)
+times_own ticket found = sum_by-cons (λ (x : Mark). cond (eqb x.ticket ticket) 1 0) (mark ticket found) [] ∙ ap (λ (b : Bool). cond b 1 0 + 0) (eq-eqb ticket ticket refl)
 
 times_other : (ticket other found : ℕ) → other ≢ ticket → times ticket (mark other found ∷ []) ≡ 0
-times_other ticket other found ne = ap (λ (b : Bool). cond b 1 0) (ne_eqb other ticket ne)
+times_other ticket other found ne = sum_by-cons (λ (x : Mark). cond (eqb x.ticket ticket) 1 0) (mark other found) [] ∙ ap (λ (b : Bool). cond b 1 0 + 0) (ne_eqb other ticket ne)
 
 times_push : (ticket : ℕ) (ms : List Mark) (m : Mark) → times ticket (ms ++ m ∷ []) ≡ times ticket ms + times ticket (m ∷ [])
 times_push ticket ms m = let a = sum_by_push (λ (x : Mark). cond (eqb x.ticket ticket) 1 0) ms m in let b = sum_by_push (λ (x : Mark). cond (eqb x.ticket ticket) 1 0) [] m in omega arith
@@ -101,7 +101,6 @@ module _ {E : Type 0} where
   pub turns_stay : (total count : ℕ) (views : List (View E)) → HasTurns total count views → (id : ℕ) (v w : View E) → get_elem? views id ≡ some v → alive w.stage ≡ true → w.marks ≡ v.marks → w.joined ≡ v.joined
       → HasTurns total count (set views id w)
   turns_stay total count views h id v w at live same joined =
-      let marks_of : View E → List Mark × List (Part E) = λ (z : View E). (z.marks, z.joined) in
       let number : turns_of w ≡ turns_of v = ap (λ (ms : List Mark). length ms + sum_by (λ (p : Part E). length p.marks) w.joined) same ∙ ap (λ (ps : List (Part E)). length v.marks + sum_by (λ (p : Part E). length p.marks) ps) joined in
       let each : (turn : ℕ) → times_of turn w ≡ times_of turn v = λ turn. ap (λ (ms : List Mark). times turn ms + sum_by (λ (p : Part E). times turn p.marks) w.joined) same ∙ ap (λ (ps : List (Part E)). times turn v.marks + sum_by (λ (p : Part E). times turn p.marks) ps) joined in
       turns_set total count total count views h h.at id v w at live (omega arith) (λ _ _. refl) h.order h.leads (omega (arith, number))
@@ -149,11 +148,18 @@ module _ {E : Type 0} where
         gone = kept.gone;
       }
 
+  -- nothing is counted of a view without marks
+  no_marks : (v : View E) → v.marks ≡ [] → v.joined ≡ [] → (f : List Mark → ℕ) → f [] ≡ 0 → f v.marks + sum_by (λ (p : Part E). f p.marks) v.joined ≡ 0
+  no_marks v none alone f zero_of =
+      let a : f v.marks ≡ f [] = ap f none in
+      let b : sum_by (λ (p : Part E). f p.marks) v.joined ≡ 0 = ap (sum_by (λ (p : Part E). f p.marks)) alone in omega arith
+
   -- a new seat has no marks
   pub turns_new : (total count : ℕ) (views : List (View E)) → HasTurns total count views → (b : View E) → alive b.stage ≡ true → b.marks ≡ [] → b.joined ≡ [] → HasTurns total count (views ++ b ∷ [])
   turns_new total count views h b live none alone =
-      let number : turns_of b ≡ 0 = ap (λ (ms : List Mark). length ms + sum_by (λ (p : Part E). length p.marks) b.joined) none ∙ ap (sum_by (λ (p : Part E). length p.marks)) alone in
-      let each : (turn : ℕ) → times_of turn b ≡ 0 = λ turn. ap (λ (ms : List Mark). times turn ms + sum_by (λ (p : Part E). times turn p.marks) b.joined) none ∙ ap (sum_by (λ (p : Part E). times turn p.marks)) alone in record {
+      let nothing : (f : List Mark → ℕ) → f [] ≡ 0 → f b.marks + sum_by (λ (p : Part E). f p.marks) b.joined ≡ 0 = no_marks b none alone in
+      let number : turns_of b ≡ 0 = nothing length refl in
+      let each : (turn : ℕ) → times_of turn b ≡ 0 = λ turn. nothing (times turn) refl in record {
         at = h.at;
         order = h.order;
         leads = h.leads;
@@ -180,8 +186,8 @@ module _ {E : Type 0} where
       let a = sum_by-set_at g views id v (both v w) at in
       let b = sum_by-set_at g (set views id (both v w)) other w spent at' in
       let taken : g (both v w) ≡ g v + f w.marks = let p = sum_by_push h v.joined (part_of w) in omega arith in
-      let given : g w ≡ f w.marks = ap (λ (ps : List (Part E)). f w.marks + sum_by h ps) alone in
-      let left : g spent ≡ 0 = zero_of in omega arith
+      let given : g w ≡ f w.marks = let c : sum_by h w.joined ≡ 0 = ap (sum_by h) alone in omega arith in
+      let left : g spent ≡ 0 = no_marks spent refl refl f zero_of in omega arith
 
   -- lane 0's seat takes in another, with its marks
   pub turns_join : (total count : ℕ) (views : List (View E)) → HasTurns total count views → (id other : ℕ) (v w : View E) → get_elem? views id ≡ some v → other ≢ id → get_elem? (set views id (both v w)) other ≡ some w → alive v.stage ≡ true → w.joined ≡ []
@@ -193,7 +199,7 @@ module _ {E : Type 0} where
       let n = h.marks other w there in
       let P : Part E → Type 0 = λ (p : Part E). All (IsMarkOf h.at total) p.marks in
       let all : HasMarks h.at total a = (m.0, All-push P v.joined (part_of w) m.1 n.0) in
-      let none : HasMarks h.at total (spent {E}) = (All-nil (IsMarkOf h.at total), All-nil P) in record {
+      let none : HasMarks {E = E} h.at total spent = (All-nil (IsMarkOf h.at total), All-nil P) in record {
         at = h.at;
         order = h.order;
         leads = h.leads;
@@ -221,8 +227,7 @@ module _ {E : Type 0} where
       → (turns_of v ≡ total) × ((turn : ℕ) → turn < total → times_of turn v ≡ 1)
   turns_all total count views h id v at others =
       let nothing : (f : List Mark → ℕ) → f [] ≡ 0 → (j : ℕ) (u : View E) → j ≢ id → get_elem? views j ≡ some u → f u.marks + sum_by (λ (p : Part E). f p.marks) u.joined ≡ 0 = λ f zero_of j u ne e.
-      let g = h.gone j u e (others j u ne e) in
-      ap (λ (ms : List Mark). f ms + sum_by (λ (p : Part E). f p.marks) u.joined) g.0 ∙ ap (λ (ps : List (Part E)). f [] + sum_by (λ (p : Part E). f p.marks) ps) g.1 ∙ zero_of in (
+      let g = h.gone j u e (others j u ne e) in no_marks u g.0 g.1 f zero_of in (
         sym (sum_by-one turns_of views id v at (nothing length refl)) ∙ h.counts,
         λ turn lt. sym (sum_by-one (times_of turn) views id v at (nothing (times turn) refl)) ∙ h.once turn lt,
       )

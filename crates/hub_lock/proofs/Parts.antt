@@ -1,5 +1,5 @@
 -- How the rule begins, how it goes on when a seat is split off or joined, and what it says at the end.
-use Rattle.std.proofs.Common.{◌≡◌, ◌≢◌, ℕ, zero, suc, ◌+◌, ◌^◌, ◌<◌, ◌⊎◌, true, false, List, [], ◌∷◌, ◌++◌, All, length, set, sum_by, Some, None, Option, inl, inr, ⊎_elim, Bool, refl, sym, ap, ◌∙◌, subst, subst₂, is_some, true≢false, arith}
+use Rattle.std.proofs.Common.{◌≡◌, ◌≢◌, ℕ, ◌+◌, ◌^◌, ◌<◌, ◌⊎◌, true, false, List, [], ◌∷◌, ◌++◌, All, length, set, sum_by, Some, None, Option, inl, inr, ⊎_elim, Bool, refl, sym, ap, ◌∙◌, subst, subst₂, is_some, true≢false, arith}
 use Rattle.std.proofs.lemmas.List.{length-append}
 use Rattle.std.proofs.lemmas.List.Sums.{sum_by_push}
 use Rattle.std.proofs.lemmas.List.Elements.{All-nil}
@@ -13,7 +13,7 @@ use Rattle.hub_lock.specs.declared.rule.Stage.{Stage}
 use Rattle.hub_lock.specs.declared.rule.Stage.TheVariants.{Idle}
 use Rattle.hub_lock.specs.declared.rule.View.{View}
 use Rattle.hub_lock.specs.declared.rule.Part.{Part}
-use Rattle.hub_lock.specs.Words.{of, StartsWith, HasNoneFrom}
+use Rattle.hub_lock.specs.Words.{of, StartsWith}
 use Rattle.hub_lock.specs.Marks.{IsMarkOf}
 use Rattle.hub_lock.specs.Inner.Rule.{alive, ticket, out, held, out_of, held_of, turns_of, Tickets, Apart, Fits, Knows, HasMarks, HasTurns, Home, HasJournal, starting}
 use Rattle.hub_lock.specs.Inner.Steps.{dealt, fresh, both, spent, part_of}

@@ -211,7 +211,7 @@ module _ {S E : Type 0} (list : S → List E) (lane_of : E → ℕ) (sound : Lis
       (id, w, set_here s.views id w (at_less s.views id v at), inl is)
       (let o = k.outs in omega arith)
       (λ total e. subst (λ (n : ℕ). HasTurns n (length log) (set s.views id w)) (omega arith)
-      (turns_more (k.served + sum_by held_of s.views) (length log) s.views k.turns id v w at refl (ap (λ (n : ℕ). v.marks ++ n ∷ []) marked) refl))
+      (turns_more (k.served + sum_by held_of s.views) (length log) s.views k.turns id v w at refl (ap (λ (m : Mark). v.marks ++ m ∷ []) marked) refl))
       k.unmade
       (λ n e. inr (omega arith, ap (λ (hs : List (maybe.Option (Option S))). set hs 0 maybe.none) came.2.1)) in (
         w,

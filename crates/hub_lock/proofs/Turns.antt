@@ -2,7 +2,6 @@
 use Rattle.std.proofs.Common.{◌≡◌, ℕ, ◌+◌, ◌%◌, ◌^◌, ◌<◌, List, [], ◌∷◌, ◌++◌, length, slice_get, Some, Option, sym, ap, ◌∙◌, subst₂, append-nil}
 use mathlib.Core.Option as maybe
 use Rattle.atomic_table.specs.Table.{Me, step, Allows}
-use Rattle.hub_lock.specs.declared.rule.Stage.TheVariants.{Holds}
 use Rattle.hub_lock.specs.declared.rule.View.{View}
 use Rattle.hub_lock.specs.Words.{of}
 use Rattle.hub_lock.specs.Marks.{mark}

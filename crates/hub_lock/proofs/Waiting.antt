@@ -1,5 +1,5 @@
 -- Calls that are tried again: what they leave together.
-use Rattle.std.proofs.Common.{◌≡◌, ℕ, ◌<◌, ◌≤◌, List, [], ◌++◌, length, slice_get, refl, sym, subst, append-nil, arith}
+use Rattle.std.proofs.Common.{◌≡◌, ℕ, ◌≤◌, List, [], ◌++◌, refl, sym, subst, append-nil, arith}
 use Rattle.hub_lock.specs.declared.story.Story.{Ghosts}
 use Rattle.hub_lock.specs.Words.{of, StartsWith}
 use Rattle.hub_lock.specs.Seats.{SeatState, turns, first_entry, own_list, IsSameSeat}

@@ -1,5 +1,5 @@
 -- What holds of a seat between two calls.
-use Rattle.std.specs.Prelude.{◌≡◌, ℕ, ◌<◌, List, [], length, Option}
+use Rattle.std.specs.Prelude.{◌≡◌, ℕ, ◌<◌, [], length, Option}
 use Rattle.atomic_table.specs.Table.{Me}
 use Rattle.hub_lock.specs.declared.rule.Stage.TheVariants.{Idle}
 use Rattle.hub_lock.specs.declared.rule.View.{View}

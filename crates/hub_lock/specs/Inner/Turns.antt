@@ -1,5 +1,5 @@
 -- What the parts of a call make of a seat of the table.
-use Rattle.std.specs.Prelude.{◌≡◌, ℕ, ◌+◌, ◌^◌, ◌<◌, ◌≤◌, List, [], ◌∷◌, ◌++◌, length, Option, None}
+use Rattle.std.specs.Prelude.{◌≡◌, ℕ, ◌^◌, ◌<◌, List, [], ◌∷◌, ◌++◌, length, Option, None}
 use Rattle.atomic_table.specs.declared.shared.Seat.{Seat}
 use Rattle.hub_lock.specs.declared.mark.Mark.{Mark}
 use Rattle.hub_lock.specs.declared.rule.Stage.TheVariants.{Holds}

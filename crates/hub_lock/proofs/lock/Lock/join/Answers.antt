@@ -1,4 +1,4 @@
-use Rattle.std.proofs.Common.{rules, ◌∙◌}
+use Rattle.std.proofs.Common.{rules}
 use Rattle.hub_lock.proofs.Parts.{joins}
 use Rattle.hub_lock.proofs.lock.Lock.join.Goals as goal
 
