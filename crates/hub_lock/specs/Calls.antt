@@ -7,8 +7,13 @@ use Rattle.hub_lock.specs.Seats.{SeatState, turns, first_entry, own_list}
 
 -- a story has the calls C, their answers A and refusals H, and the entries E
 module _ {S C A H E : Type 0} where
-  -- the lane's call was answered: what it has seen goes on with entries of other lanes, and ends with its own new entry. Its last turn found all before that entry
-  pub record HasActed (story : Ghosts S C A H E) (old new : SeatState E) (call : C) (acted : A) : Type 0 where
+  -- the call may be made: its story allows it, of the first entry and of the lane's own entries
+  abbrev pub IsAllowed : Ghosts S C A H E → SeatState E → C → Type 0
+  IsAllowed story seat call = story.allowed (first_entry seat) (own_list story seat) seat.lane call
+
+  -- The call was answered: the lane has seen more of other lanes, then its own new entry. Its last turn found all before that entry
+  pub record HasActed (story : Ghosts S C A H E) (old new : SeatState E) (call : C) (acted : A)
+      : Type 0 where
     pub between : List E
     pub entry : E
     pub goes_on : new.seen ≡ (old.seen ++ between) ++ entry ∷ []
@@ -20,8 +25,9 @@ module _ {S C A H E : Type 0} where
     pub sounds : story.sound new.seen
     pub found : FoundLast new.marks (length (old.seen ++ between))
 
-  -- the lane's call was refused: what it has seen goes on with entries of other lanes alone, and is all that its last turn found
-  pub record HasHeld (story : Ghosts S C A H E) (old new : SeatState E) (call : C) (count : ℕ) (held : H) : Type 0 where
+  -- The call was refused: the lane has seen more of other lanes alone. What it has seen is all that its last turn found
+  pub record HasHeld (story : Ghosts S C A H E) (old new : SeatState E) (call : C) (count : ℕ) (held : H)
+      : Type 0 where
     pub between : List E
     pub goes_on : new.seen ≡ old.seen ++ between
     pub others : of story.lane_of old.lane between ≡ []
@@ -41,16 +47,21 @@ module _ {E : Type 0} where
   abbrev pub InOrder : List (SeatState E) → Type 0
   InOrder others = (i : ℕ) (other : SeatState E) → slice_get others i ≡ Some other → other.lane ≡ i + 1
 
-  -- All turns of all seats stand in one order: each has its own ticket, and found as many entries as the order says. After the last turn there are `count`
+  -- how often a ticket stands among the marks of seats
+  abbrev pub times_of : ℕ → List (SeatState E) → ℕ
+  times_of ticket seats = sum_by (λ seat. times ticket seat.marks) seats
+
+  -- All turns of all seats stand in one order: each has a ticket of its own, and found as many entries as the order says
   pub record HasOrder (seats : List (SeatState E)) (count : ℕ) : Type 0 where
     pub at : ℕ → ℕ
     pub steps : IsOrder at
     pub marks : All (λ seat. All (IsMarkOf at (sum_by turns seats)) seat.marks) seats
-    pub once : (turn : ℕ) → turn < sum_by turns seats → sum_by (λ seat. times turn seat.marks) seats ≡ 1
+    pub once : (turn : ℕ) → turn < sum_by turns seats → times_of turn seats ≡ 1
     pub whole : at (sum_by turns seats) ≡ count
 
-  -- the journal at the end: each lane's entries are those that its seat has seen, each seat has seen a beginning of it, no other lane has an entry, and all turns stand in one order
-  pub record IsEnd (lane_of : E → ℕ) (sound : List E → Type 0) (seat : SeatState E) (others : List (SeatState E)) (log : List E) : Type 0 where
+  -- The journal at the end: each seat has seen a beginning of it with all its lane's entries, no other lane has one, and all turns stand in one order
+  pub record IsEnd (lane_of : E → ℕ) (sound : List E → Type 0) (seat : SeatState E) (others : List (SeatState E))
+      (log : List E) : Type 0 where
     pub first : IsIn lane_of seat log
     pub rest : All (λ other. IsIn lane_of other log) others
     pub no_more : (lane : ℕ) → length others < lane → of lane_of lane log ≡ []

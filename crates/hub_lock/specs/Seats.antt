@@ -10,7 +10,7 @@ pub record KeepState : Type 0 where
   pub lock : TableId
   pub lanes : ℕ
 
--- of which lock and lane the seat is, how many seats were made (of lane 0's seat), what the lane has seen of the journal, and the marks of its turns
+-- the seat's lock and lane, the number of seats made (of lane 0's), what the lane has seen of the journal, and the marks of its turns
 pub record SeatState (E : Type 0) : Type 0 where
   pub lock : TableId
   pub lane : ℕ

@@ -7,7 +7,8 @@ use std::collections::LinkedList;
 use std::marker::PhantomData;
 use std::snapshot::Snapshot;
 
-/// How far a seat is in a call. A ticket counts from 0 without end; the words of the lock have it modulo 2^64.
+/// How far a seat is in a call. A ticket counts from 0 without end; the words of the lock have it
+/// modulo 2^64.
 pub enum Stage {
     Idle,
     Waits(u64),
@@ -28,7 +29,8 @@ pub struct View<E> {
     pub joined: LinkedList<Part<E>>,
 }
 
-/// What is kept of a seat that was joined into lane 0's: what it had seen, and its marks. No value of it is made.
+/// What is kept of a seat that was joined into lane 0's: what it had seen, and its marks. No value of it
+/// is made.
 pub struct Part<E> {
     pub seen: LinkedList<E>,
     pub marks: LinkedList<Mark>,

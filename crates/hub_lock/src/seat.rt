@@ -6,7 +6,8 @@ use crate::rule::View;
 use crate::story::Story;
 use std::marker::Model;
 
-/// A seat of a lock, by which one lane makes its calls. It may go to another thread, and two threads cannot share it.
+/// A seat of a lock, by which one lane makes its calls. It may go to another thread, and two threads
+/// cannot share it.
 ///
 /// Between two calls a seat has neither ticket nor turn.
 #[derive(Drop)]
@@ -23,7 +24,13 @@ impl<S: Story> Model for Seat<S> {
 
     ghost use Rattle.hub_lock.specs.Inner.Rests.{IsAtRest};
 
-    ghost view = { λ s. record { lock = s.raw.table_id; lane = s.lane; made = s.made; seen = s.raw.me.0.seen; marks = s.raw.me.0.marks } };
+    ghost view = { λ s. record {
+      lock = s.raw.table_id;
+      lane = s.lane;
+      made = s.made;
+      seen = s.raw.me.0.seen;
+      marks = s.raw.me.0.marks;
+    } };
 
     ghost invariant = { λ s. IsAtRest S.lane_of s.lane s.made s.raw.me };
 }

@@ -5,7 +5,7 @@ use Rattle.hub_lock.specs.declared.rule.Stage.TheVariants.{Idle}
 use Rattle.hub_lock.specs.declared.rule.View.{View}
 use Rattle.hub_lock.specs.Words.{HasNoneFrom}
 
--- The seat has neither ticket nor turn, nor a slot, and none was joined into it. It has seen an entry. Lane 0's has seen no entry of a lane whose seat is not made
+-- The seat has neither ticket nor turn, nor a slot. It has seen an entry, but lane 0's none of a lane whose seat is not made
 pub record IsAtRest {S E : Type 0} (lane_of : E → ℕ) (lane made : ℕ) (me : Me (Option S) (View E)) : Type 0 where
   pub idle : me.0.stage ≡ Idle
   pub empty : me.1 ≡ []

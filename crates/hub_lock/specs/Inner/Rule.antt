@@ -68,7 +68,8 @@ module _ {E : Type 0} where
 
   -- what the seats of lanes 1, 2 and so on had seen when they were joined: a beginning of the journal, with all of the lane's entries
   abbrev pub Joined : (E → ℕ) → List E → List (Part E) → Type 0
-  Joined lane_of log joined = (i : ℕ) (p : Part E) → get_elem? joined i ≡ maybe.some p → StartsWith log p.seen × (of lane_of (i + 1) log ≡ of lane_of (i + 1) p.seen)
+  Joined lane_of log joined = (i : ℕ) (p : Part E) → get_elem? joined i ≡ maybe.some p
+      → StartsWith log p.seen × (of lane_of (i + 1) log ≡ of lane_of (i + 1) p.seen)
 
   -- of two seats: their tickets and their lanes differ, and neither has the lane of one that was joined
   pub record Apart (v w : View E) : Type 0 where
@@ -91,13 +92,14 @@ module _ {E : Type 0} where
 
   -- the seat has seen the whole journal, or one that was joined into it had
   abbrev pub Knows : List E → View E → Type 0
-  Knows log v = (v.seen ≡ log) ⊎ ((v.lane ≡ 0) × ((i : ℕ) × (p : Part E) × (get_elem? v.joined i ≡ maybe.some p) × (p.seen ≡ log)))
+  Knows log v = (v.seen ≡ log)
+      ⊎ ((v.lane ≡ 0) × ((i : ℕ) × (p : Part E) × (get_elem? v.joined i ≡ maybe.some p) × (p.seen ≡ log)))
 
   -- the journal is the longest of the lists that were seen
   abbrev pub IsLongest : List E → List (View E) → Type 0
   IsLongest log views = (j : ℕ) × (v : View E) × (get_elem? views j ≡ maybe.some v) × Knows log v
 
-  -- There were `total` turns. They stand in one order, which leads to `count` entries; each ticket below stands with one mark of one view, and a spent seat has none
+  -- The `total` turns so far stand in one order, which leads to `count` entries. Each has one mark among all views, and a spent seat has none
   pub record HasTurns (total count : ℕ) (views : List (View E)) : Type 0 where
     pub at : ℕ → ℕ
     pub order : IsOrder at
@@ -106,15 +108,19 @@ module _ {E : Type 0} where
     pub once : (turn : ℕ) → turn < total → sum_by (times_of turn) views ≡ 1
     pub free : (turn : ℕ) → total ≤ turn → sum_by (times_of turn) views ≡ 0
     pub marks : (j : ℕ) (v : View E) → get_elem? views j ≡ maybe.some v → HasMarks at total v
-    pub gone : (j : ℕ) (v : View E) → get_elem? views j ≡ maybe.some v → alive v.stage ≡ false → (v.marks ≡ []) × (v.joined ≡ [])
+    pub gone : (j : ℕ) (v : View E) → get_elem? views j ≡ maybe.some v → alive v.stage ≡ false
+        → (v.marks ≡ []) × (v.joined ≡ [])
 
 module _ {S E : Type 0} where
   -- the slot is at home with a value that stands for the journal, and nobody has the turn; or one seat has both
   abbrev pub Home : (S → List E) → List (maybe.Option (Option S)) → ℕ → List E → Type 0
-  Home list homes holders log = ((holders ≡ 0) × ((story : S) × (homes ≡ maybe.some (Some story) ∷ []) × (list story ≡ log))) ⊎ ((holders ≡ 1) × (homes ≡ maybe.none ∷ []))
+  Home list homes holders log =
+      ((holders ≡ 0) × ((story : S) × (homes ≡ maybe.some (Some story) ∷ []) × (list story ≡ log)))
+      ⊎ ((holders ≡ 1) × (homes ≡ maybe.none ∷ []))
 
 -- The rule at one moment: `log` is the journal, `drawn` and `served` count tickets and turns from the start, and `made` counts seats
-pub record LockRule {S E : Type 0} (list : S → List E) (lane_of : E → ℕ) (sound : List E → Type 0) (log : List E) (s : State (Option S) (View E)) : Type 0 where
+pub record LockRule {S E : Type 0} (list : S → List E) (lane_of : E → ℕ) (sound : List E → Type 0) (log : List E)
+    (s : State (Option S) (View E)) : Type 0 where
   pub drawn : ℕ
   pub served : ℕ
   pub made : ℕ
@@ -126,7 +132,8 @@ pub record LockRule {S E : Type 0} (list : S → List E) (lane_of : E → ℕ) (
   pub outs : served + sum_by out_of s.views ≡ drawn
   pub turns : HasTurns (served + sum_by held_of s.views) (length log) s.views
   pub fits : (j : ℕ) (v : View E) → get_elem? s.views j ≡ maybe.some v → Fits lane_of drawn served made log v
-  pub apart : (i j : ℕ) (v w : View E) → i ≢ j → get_elem? s.views i ≡ maybe.some v → get_elem? s.views j ≡ maybe.some w → Apart v w
+  pub apart : (i j : ℕ) (v w : View E) → i ≢ j → get_elem? s.views i ≡ maybe.some v
+      → get_elem? s.views j ≡ maybe.some w → Apart v w
   pub unmade : HasNoneFrom lane_of made log
   pub home : Home list s.homes (sum_by held_of s.views) log
 

@@ -66,8 +66,10 @@ module _ {S E : Type 0} where
     pub unmade : m.0.lane ≡ 0 → HasNoneFrom lane_of m.0.made (m.0.seen ++ between)
 
   -- look tells: where the number found is the ticket the turn came, and else nothing changed
-  abbrev pub looked : (S → List E) → (E → ℕ) → (List E → Type 0) → Step (Option S) → Me (Option S) (View E) → ℕ → Me (Option S) (View E) → Type 0
-  looked list lane_of sound st m r n = (t : ℕ) → m.0.stage ≡ Waits t → (r ≡ t % 2 ^ 64 → Came list lane_of sound t m n) × (r ≢ t % 2 ^ 64 → n ≡ m)
+  abbrev pub looked : (S → List E) → (E → ℕ) → (List E → Type 0) → Step (Option S) → Me (Option S) (View E) → ℕ
+      → Me (Option S) (View E) → Type 0
+  looked list lane_of sound st m r n = (t : ℕ) → m.0.stage ≡ Waits t
+      → (r ≡ t % 2 ^ 64 → Came list lane_of sound t m n) × (r ≢ t % 2 ^ 64 → n ≡ m)
 
   -- count tells: the seat has seen the list that the value in its slot stands for, and that is the journal
   abbrev pub counted : (S → List E) → Step (Option S) → Me (Option S) (View E) → ℕ → Me (Option S) (View E) → Type 0

@@ -34,7 +34,8 @@ module _ {S E : Type 0} where
 
   -- the seat has the turn, whose mark is its last, and has counted no entry in it
   abbrev pub HasMark : Raw S E → Type 0
-  HasMark seat = (ticket : ℕ) × (before : List Mark) × (seat.me.0.stage ≡ Holds ticket) × (seat.me.0.marks ≡ before ++ mark ticket (length seat.me.0.seen) ∷ [])
+  HasMark seat = (ticket : ℕ) × (before : List Mark) × (seat.me.0.stage ≡ Holds ticket)
+      × (seat.me.0.marks ≡ before ++ mark ticket (length seat.me.0.seen) ∷ [])
 
   -- the story has one entry more than the seat has seen, of its own lane
   pub record HasEntry (list : S → List E) (lane_of : E → ℕ) (sound : List E → Type 0) (seat : Raw S E) (story : S) : Type 0 where

@@ -1,8 +1,8 @@
 //! How a lock begins, and how a lane calls the story under it.
 ghost use Rattle.std.specs.Prelude.{◌≡◌, ◌+◌, ◌<◌, ◌≤◌, [], length, All, None, Some, IfOk, IfErr};
 ghost use Rattle.hub_lock.specs.Words.{StartsWith};
-ghost use Rattle.hub_lock.specs.Seats.{seen, marks, turns, lane, seats_made, most_lanes, first_entry, own_list, IsSeatOf, IsSameSeat};
-ghost use Rattle.hub_lock.specs.Calls.{HasActed, HasHeld};
+ghost use Rattle.hub_lock.specs.Seats.{seen, marks, turns, lane, seats_made, most_lanes, IsSeatOf, IsSameSeat};
+ghost use Rattle.hub_lock.specs.Calls.{IsAllowed, HasActed, HasHeld};
 
 use super::{Held, Keep};
 use crate::lock::Lock;
@@ -16,7 +16,8 @@ use std::snapshot::Snapshot;
 use std::sync::Wait;
 
 impl<S: Story> Keep<S> {
-    /// A lock over the story, for at most `lanes` lanes, and lane 0's seat, which has seen all of the story's entries.
+    /// A lock over the story, for at most `lanes` lanes, and lane 0's seat, which has seen all of the
+    /// story's entries.
     pub fn begin(alloc: Global, story: S, lanes: u32) -> Result<(Keep<S>, Seat<S>), NoMemory>
         requires lanes { (0 < lanes) × (lanes ≤ 64) }
         requires begun { 0 < length (S.list story) }
@@ -50,13 +51,13 @@ impl<S: Story> Keep<S> {
         call: S::Call,
     ) -> Result<S::Acted, Held<S>>
         requires own { IsSeatOf self.now seat.old }
-        requires allowed { S.allowed (first_entry seat.old) (own_list S.Story seat.old) (lane seat.old) call }
+        requires allowed { IsAllowed S.Story seat.old call }
         ensures same { IsSameSeat seat.old seat.new }
         ensures turn { turns seat.new ≡ turns seat.old + 1 }
         ensures marks { StartsWith (marks seat.new) (marks seat.old) }
-        ensures acted { IfOk result (λ acted. HasActed S.Story seat.old seat.new call acted) }
-        ensures held { IfErr result (λ held. HasHeld S.Story seat.old seat.new call held.seen held.held) }
-        ensures not_ready { IfErr result (λ held. (same : S.Call) → S.waits held.held ≡ Some same → same ≡ call) }
+        ensures acted { IfOk result (λ a. HasActed S.Story seat.old seat.new call a) }
+        ensures held { IfErr result (λ h. HasHeld S.Story seat.old seat.new call h.seen h.held) }
+        ensures not_ready { IfErr result (λ h. (same : S.Call) → S.waits h.held ≡ Some same → same ≡ call) }
     {
         let mut story = self.lock.enter(rt, &mut seat.raw);
         match story.step(seat.lane, call) {
@@ -72,7 +73,8 @@ impl<S: Story> Keep<S> {
         }
     }
 
-    /// Makes the call, and again after each refusal that means "not ready", pausing in between, perhaps for good.
+    /// Makes the call, and again after each refusal that means "not ready", pausing in between, perhaps
+    /// for good.
     pub fn act_when_ready<R: Wait>(
         &self,
         rt: &R,
@@ -80,13 +82,13 @@ impl<S: Story> Keep<S> {
         mut call: S::Call,
     ) -> Result<S::Acted, Held<S>>
         requires own { IsSeatOf self.now seat.old }
-        requires allowed { S.allowed (first_entry seat.old) (own_list S.Story seat.old) (lane seat.old) call }
+        requires allowed { IsAllowed S.Story seat.old call }
         ensures same { IsSameSeat seat.old seat.new }
         ensures turn { turns seat.old < turns seat.new }
         ensures marks { StartsWith (marks seat.new) (marks seat.old) }
-        ensures acted { IfOk result (λ acted. HasActed S.Story seat.old seat.new call acted) }
-        ensures held { IfErr result (λ held. HasHeld S.Story seat.old seat.new call held.seen held.held) }
-        ensures ready { IfErr result (λ held. S.waits held.held ≡ None) }
+        ensures acted { IfOk result (λ a. HasActed S.Story seat.old seat.new call a) }
+        ensures held { IfErr result (λ h. HasHeld S.Story seat.old seat.new call h.seen h.held) }
+        ensures ready { IfErr result (λ h. S.waits h.held ≡ None) }
     {
         let backoff = Backoff::new();
         for _ in rt.forever() {

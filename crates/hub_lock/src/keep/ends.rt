@@ -20,7 +20,8 @@ impl<S: Story> Keep<S> {
         ensures same_seen { seen seat.new ≡ seen seat.old }
         ensures same_marks { marks seat.new ≡ marks seat.old }
         ensures counted { seats_made seat.new ≡ seats_made seat.old + 1 }
-        ensures new { IfOk result (λ new. IsSeatOf self.now new × (lane new ≡ seats_made seat.old)) }
+        ensures new { IfOk result (λ new. IsSeatOf self.now new) }
+        ensures new_lane { IfOk result (λ new. lane new ≡ seats_made seat.old) }
         ensures new_seen { IfOk result (λ new. seen new ≡ seen seat.old) }
         ensures new_marks { IfOk result (λ new. marks new ≡ []) }
         ensures new_own { IfOk result (λ new. own_list S.Story new ≡ []) }

@@ -1,4 +1,5 @@
-//! The parts of a call: draw a ticket, look until it is served, take the value; then give it back, count the entry if there is one, and pass the turn.
+//! The parts of a call: draw a ticket, look until it is served, take the value; then give it back, count
+//! the entry if there is one, and pass the turn.
 ghost use Rattle.std.specs.Prelude.{◌≡◌, [], ◌∷◌, Some, None};
 ghost use Rattle.hub_lock.specs.declared.rule.Stage.TheVariants.{Idle};
 ghost use Rattle.hub_lock.specs.Inner.Steps.{counting, passing};
