@@ -8,5 +8,5 @@ abbrev pub invariant-loop-number : goal.invariant-loop-number
 invariant-loop-number g l = record {
   own : IsSeatOf l.keep l.seat;
   same : (lane l.seat ≡ lane l.initial.seat) × (seats_made l.seat ≡ seats_made l.initial.seat);
-  ready : IsReady l.seat l.counter;
+  ready : IsReady l.seat l.number;
 }
