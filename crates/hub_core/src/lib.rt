@@ -13,8 +13,6 @@ mod models;
 mod opening;
 mod pipes;
 mod runs;
-#[cfg(test)]
-mod tests;
 mod weights;
 mod words;
 

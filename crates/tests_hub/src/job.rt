@@ -1,5 +1,5 @@
 //! A job: how it is opened, and what its hub answers.
-use crate::words::{call_of, number, some_number, text};
+use crate::words::{byte, call_of, number, some_number, text};
 use hub_core::{Held, Hub, can_open};
 use job_calls::{Call, Listed};
 use mos_text::{Blob, NoMemory, SharedBlob, Text};
@@ -16,7 +16,7 @@ fn file(alloc: Global, word: &str) -> Result<Listed, NoMemory> {
     Ok(Listed {
         name: text(alloc, name)?,
         bytes: SharedBlob::new(alloc, Blob::new(alloc, b"x: 1")?)?,
-        code: number(code) as u8,
+        code: byte(code),
     })
 }
 

@@ -9,6 +9,11 @@ pub fn number(word: &str) -> u32 {
     word.parse().unwrap_or(0)
 }
 
+/// The same of a byte.
+pub fn byte(word: &str) -> u8 {
+    word.parse().unwrap_or(0)
+}
+
 fn signed(word: &str) -> i32 {
     word.parse().unwrap_or(0)
 }
@@ -40,9 +45,9 @@ fn run_call(alloc: Global, model: &str, params: &str) -> Result<Call, NoMemory> 
     })
 }
 
-fn write_call(alloc: Global, name: &str, many: usize, byte: u32) -> Result<Call, NoMemory> {
+fn write_call(alloc: Global, name: &str, many: usize, byte: u8) -> Result<Call, NoMemory> {
     let name = text(alloc, name)?;
-    let bytes = shared(alloc, many, byte as u8)?;
+    let bytes = shared(alloc, many, byte)?;
     Ok(Call::Write { name, bytes })
 }
 
@@ -51,9 +56,9 @@ fn open_call(alloc: Global, name: &str, way: Way) -> Result<Call, NoMemory> {
     Ok(Call::PipeOpen { name, way })
 }
 
-fn put_call(alloc: Global, name: &str, many: &str, byte: &str) -> Result<Call, NoMemory> {
+fn put_call(alloc: Global, name: &str, many: &str, value: &str) -> Result<Call, NoMemory> {
     let name = text(alloc, name)?;
-    let bytes = Blob::from_vec(vec![in alloc; number(byte) as u8; number(many) as usize]?);
+    let bytes = Blob::from_vec(vec![in alloc; byte(value); number(many) as usize]?);
     Ok(Call::PipePut { name, bytes })
 }
 
@@ -82,7 +87,7 @@ fn pipe_call(alloc: Global, words: &[&str]) -> Result<Call, NoMemory> {
     match *words {
         ["pipe_read", name] => open_call(alloc, name, Way::Reads),
         ["pipe_write", name] => open_call(alloc, name, Way::Writes),
-        ["put", name, many, byte] => put_call(alloc, name, many, byte),
+        ["put", name, many, value] => put_call(alloc, name, many, value),
         ["take", name] => take_call(alloc, name),
         ["close", name] => close_call(alloc, name),
         _ => Ok(Call::Quit),
@@ -95,7 +100,7 @@ fn file_call(alloc: Global, words: &[&str]) -> Result<Call, NoMemory> {
         ["compile", src, dst] => compile_call(alloc, src, dst),
         ["load", file] => load_call(alloc, file),
         ["read", name] => read_call(alloc, name),
-        ["write", name, byte] => write_call(alloc, name, 1, number(byte)),
+        ["write", name, value] => write_call(alloc, name, 1, byte(value)),
         ["fill", name] => write_call(alloc, name, 67_108_864, 0),
         ["run", model] => run_call(alloc, model, ""),
         ["run", model, params] => run_call(alloc, model, params),
