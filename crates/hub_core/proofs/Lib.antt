@@ -1,5 +1,2 @@
-pub mod Unclaimed
-pub mod Scans
-pub mod Prefixes
 pub mod Pushed
 pub mod Distinct

@@ -1,6 +1,6 @@
 //! The line that a command writes in place of a report, where it ends before its job.
 ghost use Rattle.std.specs.Prelude.{◌≡◌, ◌++◌, IfOk, OnOk};
-ghost use Rattle.job_calls.specs.ErrorLines.{about, missing_line, read_fault_line, too_large_line, usage_line, verdict_line};
+ghost use Rattle.hub_text.specs.ErrorLines.{about, missing_line, read_fault_line, too_large_line, usage_line, verdict_line};
 ghost use Rattle.mos_text.specs.Kinds.{kind_text};
 
 use crate::report_writer::put_number;
@@ -8,7 +8,7 @@ use mos_text::{Blob, Kind, NoMemory, Text};
 use std::alloc::{AllocError, Global};
 
 /// The words are no command.
-#[tactic(auto, unfolding(job_calls::specs::ErrorLines::usage_line))]
+#[tactic(auto, unfolding(hub_text::specs::ErrorLines::usage_line))]
 pub fn write_usage(alloc: Global) -> Result<Blob, NoMemory>
     ensures { IfOk result (λ line. line ≡ usage_line) }
 {
@@ -16,7 +16,7 @@ pub fn write_usage(alloc: Global) -> Result<Blob, NoMemory>
 }
 
 /// A source is not accepted: the line at fault, from 1, and the kind of the fault.
-#[tactic(auto, unfolding(job_calls::specs::ErrorLines::verdict_line))]
+#[tactic(auto, unfolding(hub_text::specs::ErrorLines::verdict_line))]
 pub fn write_verdict(alloc: Global, name: &Text, line: u32, kind: &Kind) -> Result<Blob, NoMemory>
     ensures { IfOk result (λ text. text ≡ verdict_line name.now line kind.now) }
 {
@@ -57,7 +57,7 @@ pub fn write_read_fault(alloc: Global, name: &Text) -> Result<Blob, NoMemory>
 }
 
 /// The program's name, a file's, and what is the matter with it.
-#[tactic(auto, unfolding(job_calls::specs::ErrorLines::about))]
+#[tactic(auto, unfolding(hub_text::specs::ErrorLines::about))]
 fn put_about(out: &mut Vec<u8>, name: &Text, matter: &[u8]) -> Result<(), AllocError>
     ensures { OnOk result (out.new.items ≡ out.old.items ++ about name.now matter.now) }
 {

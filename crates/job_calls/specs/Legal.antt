@@ -1,6 +1,6 @@
 -- The legal journals: those that one hub, asked by one lane after the other, can have written.
 
-use Rattle.std.specs.Prelude.{◌≡◌, ℕ, ◌≤◌, List, [], ◌∷◌, ◌++◌, Option, Some, None, length, IsTrue, All, ◌≢◌, ◌⊎◌}
+use Rattle.std.specs.Prelude.{◌≡◌, ℕ, ◌≤◌, List, [], ◌∷◌, ◌++◌, Option, Some, None, ◌||◌, length, IsTrue, All, ◌≢◌}
 use Rattle.std.specs.List.{list_all}
 use Rattle.mos_text.specs.FileName.{is_file_name}
 use Rattle.job_calls.specs.declared.reply.Answer.TheVariants.{Ready}
@@ -9,25 +9,14 @@ use Rattle.job_calls.specs.declared.entry.Entry.{Entry}
 use Rattle.job_calls.specs.declared.entry.Listed.{Listed}
 use Rattle.job_calls.specs.Words.{own_entries}
 use Rattle.job_calls.specs.Runs.{Opening, opening, opening_of}
-use Rattle.job_calls.specs.Files.{last_bytes, source_ending, image_ending}
+use Rattle.job_calls.specs.Files.{is_source, is_image}
 use Rattle.job_calls.specs.Answers.{answer_of}
 use Rattle.job_calls.specs.Fitting.{fits}
-
--- the name ends in these bytes
-abbrev pub ends_in : List ℕ → List ℕ → Type 0
-ends_in ending name = last_bytes (length ending) name ≡ ending
-
--- the name of a source, and that of an image
-abbrev pub IsSourceName : List ℕ → Type 0
-IsSourceName name = ends_in source_ending name
-
-abbrev pub IsImageName : List ℕ → Type 0
-IsImageName name = ends_in image_ending name
 
 -- the first of the files can be the master: a source that is accepted, or an image
 abbrev pub IsMaster : List Listed → Type 0
 IsMaster [] = ⊥
-IsMaster (file ∷ files) = (IsSourceName file.name ⊎ IsImageName file.name) × (file.code ≡ 0)
+IsMaster (file ∷ files) = IsTrue (is_source file.name || is_image file.name) × (file.code ≡ 0)
 
 -- no name is that of a later file
 abbrev pub HaveDistinctNames : List Listed → Type 0

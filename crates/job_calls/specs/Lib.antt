@@ -11,15 +11,4 @@ pub mod Replies
 pub mod Answers
 pub mod Fitting
 pub mod Legal
-pub mod Laws
-pub mod Quoting
-pub mod CallText
-pub mod ReplyText
-pub mod ReportText
-pub mod ErrorLines
-pub mod ReportExamples
-pub mod JournalExamples
-pub mod RunExamples
-pub mod HubExamples
-pub mod FitExamples
-pub mod RowExamples
+pub mod HelloJournal

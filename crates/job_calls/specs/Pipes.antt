@@ -34,10 +34,14 @@ abbrev pub is_close : List ℕ → Call → Reply → Bool
 is_close name (PipeClose closed) reply.Unit = bytes_eq closed name
 is_close name _ _ = false
 
--- a run closes its ends of the pipe, or all its ends as it finishes
+-- a run lets go of its ends of the pipe: it closes them, or finishes
+abbrev pub lets_go : List ℕ → Call → Reply → Bool
+lets_go name call reply = is_close name call reply || is_finish call
+
+-- the run that held an end lets go of it
 abbrev pub closes : List ℕ → Option ℕ → Entry → Bool
 closes name None e = false
-closes name (Some run) e = is_run run e.run && (is_close name e.call e.reply || is_finish e.call)
+closes name (Some run) e = is_run run e.run && lets_go name e.call e.reply
 
 -- the run that holds this end of the pipe, after one more entry
 abbrev pub holder_after : Way → List ℕ → Option ℕ → Entry → Option ℕ

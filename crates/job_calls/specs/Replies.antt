@@ -61,10 +61,49 @@ FitsCall call reply = IsAnswer call reply
 
 -- the reply has neither texts nor bytes
 abbrev pub is_plain : Reply → Bool
+is_plain Opened = true
 is_plain (Claimed run source params) = false
+is_plain Done = true
+is_plain (Code code) = true
+is_plain (Loaded model source) = true
+is_plain (Started run) = true
+is_plain reply.Unit = true
+is_plain (Took place class value) = true
+is_plain (Seen place class value) = true
+is_plain Nothing = true
+is_plain (Flag flag) = true
+is_plain (Queued run) = true
+is_plain Lost = true
+is_plain (Number number) = true
 is_plain (Found place bytes) = false
+is_plain (Session place) = true
 is_plain (Bytes bytes) = false
-is_plain _ = true
+is_plain PipeEnd = true
+is_plain Halt = true
+is_plain (Fault kind) = true
+
+-- the numbers and bytes of a reply are in the ranges of their types
+abbrev pub InRange : Reply → Type 0
+InRange Opened = Unit {0}
+InRange (Claimed run source params) = (run < 2 ^ 32) × (source < 2 ^ 32)
+InRange Done = Unit {0}
+InRange (Code code) = code < 2 ^ 8
+InRange (Loaded model source) = (model < 2 ^ 32) × (source < 2 ^ 32)
+InRange (Started run) = run < 2 ^ 32
+InRange reply.Unit = Unit {0}
+InRange (Took place class value) = (place.0 < 2 ^ 32) × FitsSigned w32 class × FitsSigned w32 value
+InRange (Seen place class value) = (place.0 < 2 ^ 32) × FitsSigned w32 class × FitsSigned w32 value
+InRange Nothing = Unit {0}
+InRange (Flag flag) = Unit {0}
+InRange (Queued run) = run < 2 ^ 32
+InRange Lost = Unit {0}
+InRange (Number number) = FitsSigned w32 number
+InRange (Found place bytes) = (place.0 < 2 ^ 32) × All (λ byte. byte < 2 ^ 8) bytes
+InRange (Session place) = place.0 < 2 ^ 32
+InRange (Bytes bytes) = All (λ byte. byte < 2 ^ 8) bytes
+InRange PipeEnd = Unit {0}
+InRange Halt = Unit {0}
+InRange (Fault kind) = Unit {0}
 
 -- each reply fits the call beside it, and there are as many
 abbrev pub AllFit : List Call → List Reply → Type 0

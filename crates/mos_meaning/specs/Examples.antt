@@ -7,7 +7,7 @@ use Rattle.mos_text.specs.declared.fault_kind.FaultKind.TheVariants.{Overflow, B
 use Rattle.bim_code.specs.declared.image.Image.{Image}
 use Rattle.bim_code.specs.declared.instruction.Instruction.TheVariants.{Tick, PushInt, PushBool, PushText, Show, Write, Line, End}
 use Rattle.job_calls.specs.declared.run_line.RunLine.{RunLine}
-use Rattle.job_calls.specs.ReportExamples.{hello_entries, hello_runs}
+use Rattle.job_calls.specs.HelloJournal.{hello_entries, hello_runs}
 use Rattle.bim_code.specs.declared.instruction.Comparison.TheVariants.{Greater, AtLeast}
 use Rattle.mos_meaning.specs.State.{State, Outcome, Stop, Exited, Failed, Spent, Stuck, beginning}
 use Rattle.mos_meaning.specs.Syntax.{Block, done, first, assign, change, increase, decrease, write, choose, branch, otherwise, loop, group, leave, skip, nothing, one_more, number, text, truth, name, apply, plus, compare}

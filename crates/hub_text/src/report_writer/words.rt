@@ -1,6 +1,6 @@
 //! Numbers, quoted texts and bytes.
 ghost use Rattle.std.specs.Prelude.{◌≡◌, ◌<◌, ◌++◌, flat_map, OnOk};
-ghost use Rattle.job_calls.specs.Quoting.{escaped, hex_digit, hex_pair, hex_text, quoted, with_number, with_quoted};
+ghost use Rattle.hub_text.specs.Quoting.{escaped, hex_digit, hex_pair, hex_text, quoted, with_number, with_quoted};
 
 use itoa::{Buffer, Integer};
 use std::alloc::AllocError;
@@ -14,7 +14,7 @@ pub fn put_number<I: Integer>(out: &mut Vec<u8>, number: I) -> Result<(), AllocE
 }
 
 /// A word, a space and a number.
-#[tactic(auto, unfolding(job_calls::specs::Quoting::with_number))]
+#[tactic(auto, unfolding(hub_text::specs::Quoting::with_number))]
 pub fn put_with_number(out: &mut Vec<u8>, word: &[u8], number: u32) -> Result<(), AllocError>
     ensures { OnOk result (out.new.items ≡ out.old.items ++ with_number word.now number) }
 {
@@ -24,7 +24,7 @@ pub fn put_with_number(out: &mut Vec<u8>, word: &[u8], number: u32) -> Result<()
 }
 
 /// A word, a space and a text in quotes.
-#[tactic(auto, unfolding(job_calls::specs::Quoting::with_quoted))]
+#[tactic(auto, unfolding(hub_text::specs::Quoting::with_quoted))]
 pub fn put_with_quoted(out: &mut Vec<u8>, word: &[u8], text: &[u8]) -> Result<(), AllocError>
     ensures { OnOk result (out.new.items ≡ out.old.items ++ with_quoted word.now text.now) }
 {
@@ -34,7 +34,7 @@ pub fn put_with_quoted(out: &mut Vec<u8>, word: &[u8], text: &[u8]) -> Result<()
 }
 
 /// A text in quotes.
-#[tactic(auto, unfolding(job_calls::specs::Quoting::quoted))]
+#[tactic(auto, unfolding(hub_text::specs::Quoting::quoted))]
 pub fn put_quoted(out: &mut Vec<u8>, text: &[u8]) -> Result<(), AllocError>
     ensures { OnOk result (out.new.items ≡ out.old.items ++ quoted text.now) }
 {
@@ -65,7 +65,7 @@ fn put_escaped_byte(out: &mut Vec<u8>, byte: u8) -> Result<(), AllocError>
 }
 
 /// Bytes: an x, and two digits of base 16 for each.
-#[tactic(auto, unfolding(job_calls::specs::Quoting::hex_text))]
+#[tactic(auto, unfolding(hub_text::specs::Quoting::hex_text))]
 pub fn put_hex(out: &mut Vec<u8>, bytes: &[u8]) -> Result<(), AllocError>
     ensures { OnOk result (out.new.items ≡ out.old.items ++ hex_text bytes.now) }
 {

@@ -1,0 +1,13 @@
+pub mod Growing
+pub mod Outcomes
+pub mod Entering
+pub mod Counts
+pub mod Bound
+pub mod Lists
+pub mod Taking
+pub mod Piping
+pub mod Listing
+pub mod Holding
+pub mod Ending
+pub mod Naming
+pub mod Standing
