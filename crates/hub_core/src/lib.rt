@@ -2,20 +2,12 @@
 #![tactic(auto)]
 
 mod answers;
-mod blocks;
-mod events;
-mod files;
-mod fitting;
 mod held;
 mod hub;
-mod jobs;
-mod models;
 mod opening;
-mod pipes;
-mod runs;
-mod weights;
-mod words;
+mod story;
 
 pub use held::{Acted, Held};
 pub use hub::Hub;
 pub use opening::can_open;
+pub use story::{HubCall, HubHeld};

@@ -14,6 +14,7 @@ use Rattle.std.proofs.lemmas.Option.{slice_get_past}
 use Rattle.job_calls.specs.declared.entry.Entry.{Entry}
 use Rattle.job_calls.specs.Moments.{Moment, moments, moments_from, place_of}
 use Rattle.job_calls.specs.Runs.{later, last_given}
+use Rattle.job_calls.specs.Blocks.{last_place}
 use Rattle.job_calls.specs.Events.{comes_to, arrivals}
 use Rattle.hub_words.proofs.Scans.{last_given-snoc}
 
@@ -172,6 +173,26 @@ list_given-take give xs i n d less is next =
     ap (λ m. last_given give (take m xs)) s
     ∙ ap (last_given give) (take-suc xs i d less ∙ ap (λ e. take i xs ++ e ∷ []) (sym is))
     ∙ last_given-snoc give (take i xs) d
+
+places-take : {A : Type 0} (n : ℕ) (xs : List A) (e : A) → enumerate_from n (xs ++ e ∷ []) ≡ enumerate_from n xs ++ (n + length xs, e) ∷ []
+places-take n [] e = let s : n ≡ n + 0 = omega arith in ap (λ m. (m, e) ∷ []) s
+places-take n (x ∷ xs) e =
+    let s : (n + 1) + length xs ≡ n + suc (length xs) = omega arith in
+    ap (λ rest. (n, x) ∷ rest) (places-take (n + 1) xs e ∙ ap (λ m. enumerate_from (n + 1) xs ++ (m, e) ∷ []) s)
+
+-- the last place that passes, one more entry looked at
+pub place-take : (test : Entry → Bool) (xs : List Entry) (i n : ℕ) (d : Entry) → i < length xs → d ≡ get_or xs i d → n ≡ i + 1
+    → last_place test (take n xs) ≡ later (last_place test (take i xs)) (if test d then Some i else None)
+place-take test xs i n d less is next =
+    let give : ℕ × Entry → Option ℕ = λ p. if test p.1 then Some p.0 else None in
+    let s : n ≡ suc i = omega arith in
+    let long = length-take-le i xs (omega (arith, less)) in
+    let here : 0 + length (take i xs) ≡ i = omega (arith, long) in
+    ap (λ m. last_place test (take m xs)) s
+    ∙ ap (last_place test) (take-suc xs i d less ∙ ap (λ e. take i xs ++ e ∷ []) (sym is))
+    ∙ ap (last_given give) (places-take 0 (take i xs) d)
+    ∙ last_given-snoc give (enumerate_from 0 (take i xs)) (0 + length (take i xs), d)
+    ∙ ap (λ m. later (last_place test (take i xs)) (if test d then Some m else None)) here
 
 pub or-copied : {A : Type 0} (a b : Option (Bor A)) → option_copied (option_or b a) ≡ later (option_copied a) (option_copied b)
 or-copied a None = refl

@@ -1,7 +1,9 @@
 -- What was last given, as a fold; a fold that takes away, as a sum.
-use Rattle.std.proofs.Common.{◌≡◌, ℕ, ◌+◌, ◌-◌, List, [], ◌∷◌, ◌++◌, Option, Some, None, refl, sym, ap, ◌∙◌, length, arith}
-use Rattle.std.specs.Prelude.{fold, flat_map, sum_by}
+use Rattle.std.proofs.Common.{◌≡◌, ℕ, ◌+◌, ◌-◌, List, [], ◌∷◌, ◌++◌, Option, Some, None, refl, sym, ap, ◌∙◌, length, arith, cond}
+use Rattle.std.specs.Prelude.{Bool, true, false, ◌||◌, ◌&&◌, if◌then◌else◌, filter, fold, flat_map, map, sum_by}
+use Rattle.std.specs.List.{list_any}
 use Rattle.std.specs.Option.{option_or}
+use Rattle.std.specs.Bool.{then_some}
 use Rattle.std.proofs.lemmas.List.{length-append}
 use Rattle.job_calls.specs.Runs.{later, last_given}
 
@@ -60,3 +62,22 @@ fold_less_bytes part n (x ∷ xs) =
     fold_less_bytes part (n - length (part x)) xs
     ∙ sub_sub n (length (part x)) (length (flat_map part xs))
     ∙ ap (λ m. n - m) (sym (length-append (part x) (flat_map part xs)))
+
+-- a test of what is made of each
+pub any-map : {A B : Type 0} (test : B → Bool) (f : A → B) (xs : List A) → list_any test (map f xs) ≡ list_any (λ x. test (f x)) xs
+any-map test f [] = refl
+any-map test f (x ∷ xs) = ap (λ b. test (f x) || b) (any-map test f xs)
+
+-- elements that pass one test, and then another
+pub filter_twice : {A : Type 0} (p q : A → Bool) (xs : List A) → filter p (filter q xs) ≡ filter (λ x. q x && p x) xs
+filter_twice p q [] = refl
+filter_twice p q (x ∷ xs) = by (q x) (filter_twice p q xs) where
+  by : (b : Bool) → filter p (filter q xs) ≡ filter (λ x. q x && p x) xs
+      → filter p (cond b (x ∷ filter q xs) (filter q xs)) ≡ cond (b && p x) (x ∷ filter (λ x. q x && p x) xs) (filter (λ x. q x && p x) xs)
+  by true rest = ap (λ ys. cond (p x) (x ∷ ys) ys) rest
+  by false rest = rest
+
+-- a value where the test holds
+pub then_if : {A : Type 0} (b : Bool) (x : A) → then_some b x ≡ (if b then Some x else None)
+then_if true x = refl
+then_if false x = refl

@@ -1,6 +1,6 @@
 //! Which calls a lane may make.
-ghost use Rattle.std.specs.Prelude.{◌≡◌, ℕ};
-ghost use Rattle.job_calls.specs.Words.{own_entries};
+ghost use Rattle.std.specs.Prelude.{◌≡◌, ◌&&◌, ℕ, nat_eq};
+ghost use Rattle.job_calls.specs.Words.{is_run, own_entries};
 ghost use Rattle.job_calls.specs.Runs.{opening};
 ghost use Rattle.job_calls.specs.Fitting as fitting;
 ghost use Rattle.job_calls.specs.Fitting.{exchange_of};
@@ -40,14 +40,20 @@ fn was_done(lane: u32, journal: &[Entry]) -> bool
         .any(|e| is_done(&e.reply))
 }
 
+/// The entry is of this run and lane.
+fn is_of(run: u32, lane: u32, entry: &Entry) -> bool
+    ensures { result ≡ (nat_eq entry.now.lane lane && is_run run entry.now.run) }
+{
+    entry.lane == lane && is_run(run, entry.run)
+}
+
 /// The run of this lane may only finish.
 fn is_over(run: u32, lane: u32, journal: &[Entry]) -> bool
     ensures { result ≡ fitting.is_over (exchange_of run (own_entries lane journal.now)) }
 {
     journal
         .iter()
-        .filter(|e| e.lane == lane)
-        .filter(|e| is_run(run, e.run))
+        .filter(|e| is_of(run, lane, e))
         .any(|e| is_last(&e.reply))
 }
 
@@ -64,8 +70,7 @@ fn holds(way: Way, name: &Text, run: u32, lane: u32, journal: &[Entry]) -> bool
 {
     journal
         .iter()
-        .filter(|e| e.lane == lane)
-        .filter(|e| is_run(run, e.run))
+        .filter(|e| is_of(run, lane, e))
         .fold(false, |held, e| {
             holds_after(way, name, held, &e.call, &e.reply)
         })
