@@ -15,16 +15,16 @@ use Rattle.job_calls.specs.declared.entry.Entry.{Entry}
 use Rattle.job_calls.specs.Words.{is_run, is_quit, is_finish, is_started, claims, is_done, is_last, own_entries, run_count, is_claimed, first_unclaimed}
 use Rattle.job_calls.specs.Runs.{Opening, opening, opening_of}
 use Rattle.std.specs.Option.{option_map_or}
-use Rattle.job_calls.specs.Files.{files_of}
-use Rattle.job_calls.specs.Answers.{claimed, stop_rows, table_answer, is_full}
-use Rattle.job_calls.specs.Fitting.{held_after, held_run, is_over, is_for_lane, below_lanes}
+use Rattle.job_calls.specs.Files.{files_of, lanes_of}
+use Rattle.job_calls.specs.Answers.{stop_rows, table_answer, is_full}
+use Rattle.job_calls.specs.Fitting.{held_after, held_run, exchange_of, is_over, is_for_lane, below_lanes}
 use Rattle.job_calls.specs.Legal.{IsLegal, IsOpening, OpensSo, Follows}
 use Rattle.job_laws.proofs.Growing.{legal_induct}
 use Rattle.job_laws.proofs.Outcomes as outcome
 use Rattle.job_laws.proofs.Outcomes.{Outcome, run_outcome, is_idle, false_true}
 use Rattle.job_laws.proofs.Entering as enter
 use Rattle.job_laws.proofs.Entering.{Entering, entering, no_quit, is_below, and_true}
-use Rattle.job_laws.proofs.Counts.{as_number, count-snoc, any-snoc, AtMostOnce, once_more, once_same, total_le, total_same, AllBelow, AllBelow-snoc, count_parts, own-snoc-same, own-snoc-other, count_either}
+use Rattle.job_laws.proofs.Counts.{as_number, count-snoc, any-snoc, AtMostOnce, once_more, once_same, total_le, total_same, AllBelow, AllBelow-snoc, count_parts, own-snoc-same, own-snoc-other, exchange-snoc, exchange-same, is_run-by, count_either}
 
 -- a lane was given a run
 abbrev pub is_given : Reply → Bool
@@ -40,16 +40,18 @@ idle_plain reply e = (refl, refl, refl)
 
 pub plain : (log : List Entry) (run : ℕ) (call : Call) (reply : Reply) → Outcome log run call reply
     → (is_given reply ≡ false) × (is_done reply ≡ false) × ((is_started reply ≡ false) ⊎ (nat_lt (run_count log) 4096 ≡ true))
-plain log run _ _ (outcome.idle call reply is) = let p = idle_plain reply is in (p.0, p.1, inl p.2)
+plain log run _ _ (outcome.idle call reply is can) = let p = idle_plain reply is in (p.0, p.1, inl p.2)
 plain log run _ _ (outcome.granted call is) = (refl, refl, inl refl)
-plain log run _ _ (outcome.started model params less) = (refl, refl, inr less)
-plain log run _ _ (outcome.next_took place q) = (refl, refl, inl refl)
-plain log run _ _ (outcome.drop_took place q) = (refl, refl, inl refl)
+plain log run _ _ (outcome.compiled src dst) = (refl, refl, inl refl)
+plain log run _ _ (outcome.loaded file source q) = (refl, refl, inl refl)
+plain log run _ _ (outcome.started model params is less) = (refl, refl, inr less)
+plain log run _ _ (outcome.next_took event q) = (refl, refl, inl refl)
+plain log run _ _ (outcome.drop_took event q) = (refl, refl, inl refl)
 plain log run _ _ (outcome.queued to class value receiver) = (refl, refl, inl refl)
-plain log run _ _ (outcome.found_write name place q) = (refl, refl, inl refl)
+plain log run _ _ (outcome.found_write name write q) = (refl, refl, inl refl)
 plain log run _ _ (outcome.found_file name bytes q d) = (refl, refl, inl refl)
 plain log run _ _ (outcome.reads name q) = (refl, refl, inl refl)
-plain log run _ _ (outcome.joins name a b d) = (refl, refl, inl refl)
+plain log run _ _ (outcome.joins name place a b d s) = (refl, refl, inl refl)
 plain log run _ _ (outcome.put name bytes j) = (refl, refl, inl refl)
 plain log run _ _ (outcome.took_all name) = (refl, refl, inl refl)
 plain log run _ _ (outcome.ended name a b) = (refl, refl, inl refl)
@@ -61,7 +63,7 @@ not_given reply k e = refl
 -- the run that a lane holds may still be told to end
 abbrev pub goes_on : Option ℕ → List Entry → ℕ
 goes_on None own = 0
-goes_on (Some run) own = as_number (not (is_over run own))
+goes_on (Some run) own = as_number (not (is_over (exchange_of run own)))
 
 -- what is true of the entries of each lane
 pub record LaneCounts (own : List Entry) : Type 0 where
@@ -82,13 +84,14 @@ small_number true = omega arith
 small_number false = omega arith
 
 -- a held run goes on unless it is told to end now
-over-snoc : (run : ℕ) (own : List Entry) (e : Entry) → is_over run own ≡ false → e.run ≡ Some run
-    → as_number (is_last e.reply) + as_number (not (is_over run (own ++ e ∷ []))) ≡ as_number (not (is_over run own))
+over-snoc : (run : ℕ) (own : List Entry) (e : Entry) → is_over (exchange_of run own) ≡ false → e.run ≡ Some run
+    → as_number (is_last e.reply) + as_number (not (is_over (exchange_of run (own ++ e ∷ [])))) ≡ as_number (not (is_over (exchange_of run own)))
 over-snoc run own e fresh by =
-    let now : (is_run run e.run && is_last e.reply) ≡ is_last e.reply =
-    ap (λ r. is_run run r && is_last e.reply) by ∙ ap (λ b. b && is_last e.reply) (eq-eqb run run refl) in
-    let over : is_over run (own ++ e ∷ []) ≡ is_last e.reply =
-    any-snoc (λ (x : Entry). is_run run x.run && is_last x.reply) own e ∙ ap (λ b. b || (is_run run e.run && is_last e.reply)) fresh ∙ now in
+    let told = exchange_of run own in
+    let over : is_over (exchange_of run (own ++ e ∷ [])) ≡ is_last e.reply =
+    ap is_over (exchange-snoc run own e (is_run-by run e.run by))
+    ∙ any-snoc (λ (pair : Call × Reply). is_last pair.1) told (e.call, e.reply)
+    ∙ ap (λ b. b || is_last e.reply) fresh in
     ap (λ b. as_number (is_last e.reply) + as_number (not b)) over
     ∙ halves (is_last e.reply)
     ∙ ap (λ b. as_number (not b)) (sym fresh)
@@ -111,7 +114,7 @@ dones es = count_by (λ (e : Entry). is_done e.reply) es
 
 goes_small : (o : Option ℕ) (own : List Entry) → goes_on o own ≤ 1
 goes_small None own = omega arith
-goes_small (Some run) own = small_number (not (is_over run own))
+goes_small (Some run) own = small_number (not (is_over (exchange_of run own)))
 
 fins-snoc : (own : List Entry) (e : Entry) → fins (own ++ e ∷ []) ≡ fins own + as_number (is_finish e.call)
 fins-snoc own e = count-snoc (λ (x : Entry). is_finish x.call) own e
@@ -132,21 +135,13 @@ goes_as own behind o h = ap (λ held. goes_on held behind) h
 goes_past : (o : Option ℕ) (own : List Entry) (e : Entry) → e.run ≡ None → goes_on o (own ++ e ∷ []) ≡ goes_on o own
 goes_past None own e none = refl
 goes_past (Some run) own e none =
-    ap (λ b. as_number (not b)) (
-    any-snoc (λ (x : Entry). is_run run x.run && is_last x.reply) own e
-    ∙ ap (λ r. is_over run own || (is_run run r && is_last e.reply)) none
-    ∙ or_none (is_over run own)
-    )
-  where
-    or_none : (b : Bool) → (b || false) ≡ b
-    or_none true = refl
-    or_none false = refl
+    ap (λ told. as_number (not (is_over told))) (exchange-same run own e (ap (is_run run) none))
 
 lane_step : (log : List Entry) (lane : ℕ) (run : Option ℕ) (call : Call) (reply : Reply) → LaneCounts (own_entries lane log)
     → Entering log lane run call reply → LaneCounts (own_entries lane log ++ record { lane = lane; run = run; call = call; reply = reply } ∷ [])
-lane_step log lane _ _ _ c (enter.claims k none q) =
+lane_step log lane _ _ _ c (enter.claims k source params none q s p) =
     let own = own_entries lane log in
-    let e : Entry = record { lane = lane; run = None; call = Claim; reply = claimed log k } in
+    let e : Entry = record { lane = lane; run = None; call = Claim; reply = Claimed k source params } in
     let f : fins (own ++ e ∷ []) ≡ fins own + 0 = fins-snoc own e in
     let g : gives (own ++ e ∷ []) ≡ gives own + 1 = gives-snoc own e in
     let l : lasts (own ++ e ∷ []) ≡ lasts own + 0 = lasts-snoc own e in
@@ -160,7 +155,7 @@ lane_step log lane _ _ _ c (enter.claims k none q) =
       lasts = omega (arith, g, l, small, lasts_);
       dones = once_same (λ (x : Entry). is_done x.reply) own e refl c.dones;
     }
-lane_step log lane _ _ _ c (enter.told_done not_done none) =
+lane_step log lane _ _ _ c (enter.told_done not_done none q is) =
     let own = own_entries lane log in
     let e : Entry = record { lane = lane; run = None; call = Claim; reply = Done } in
     let f : fins (own ++ e ∷ []) ≡ fins own + 0 = fins-snoc own e in
@@ -271,10 +266,10 @@ pub record RunCounts (log : List Entry) : Type 0 where
   pub few_given : gives log ≤ run_count log
   pub few_runs : run_count log ≤ 4096
 
-starts-snoc : (log : List Entry) (e : Entry) → run_count (log ++ e ∷ []) ≡ run_count log + as_number (is_started e.reply)
+pub starts-snoc : (log : List Entry) (e : Entry) → run_count (log ++ e ∷ []) ≡ run_count log + as_number (is_started e.reply)
 starts-snoc log e = let c = count-snoc (λ (x : Entry). is_started x.reply) log e in omega (arith, c)
 
-claimed-snoc : (k : ℕ) (log : List Entry) (e : Entry) → is_claimed k (log ++ e ∷ []) ≡ (is_claimed k log || claims k e.reply)
+pub claimed-snoc : (k : ℕ) (log : List Entry) (e : Entry) → is_claimed k (log ++ e ∷ []) ≡ (is_claimed k log || claims k e.reply)
 claimed-snoc k log e = any-snoc (λ (x : Entry). claims k x.reply) log e
 
 none_is_some : (k : ℕ) → None ≡ Some k → ⊥
@@ -340,8 +335,8 @@ run_same log e c none started =
 
 run_step : (log : List Entry) (lane : ℕ) (run : Option ℕ) (call : Call) (reply : Reply) → RunCounts log
     → Entering log lane run call reply → RunCounts (log ++ record { lane = lane; run = run; call = call; reply = reply } ∷ [])
-run_step log lane _ _ _ c (enter.claims k none q) =
-    let e : Entry = record { lane = lane; run = None; call = Claim; reply = claimed log k } in
+run_step log lane _ _ _ c (enter.claims k source params none q s p) =
+    let e : Entry = record { lane = lane; run = None; call = Claim; reply = Claimed k source params } in
     let at = least log (gives log) c.first_given 0 (run_count log) k (omega arith) q in
     let g : gives (log ++ e ∷ []) ≡ gives log + 1 = gives-snoc log e in
     let r : run_count (log ++ e ∷ []) ≡ run_count log + 0 = starts-snoc log e in
@@ -352,7 +347,7 @@ run_step log lane _ _ _ c (enter.claims k none q) =
       few_given = omega (arith, g, r, less);
       few_runs = omega (arith, r, runs);
     }
-run_step log lane _ _ _ c (enter.told_done not_done none) = run_same log _ c refl (inl refl)
+run_step log lane _ _ _ c (enter.told_done not_done none q is) = run_same log _ c refl (inl refl)
 run_step log lane _ _ _ c enter.quits = run_same log _ c refl (inl refl)
 run_step log lane _ _ _ c (enter.finishes run end held) = run_same log _ c refl (inl refl)
 run_step log lane _ _ _ c (enter.acts run call reply held fresh ends_fit_ for_run no_finish answered) =
@@ -369,6 +364,8 @@ run_counts = legal_induct RunCounts
 -- all lanes are below the number that the job was opened with, at most 64
 pub record LanesBelow (log : List Entry) : Type 0 where
   pub lanes : ℕ
+  pub lanes_is : lanes_of log ≡ lanes
+  pub some : 1 ≤ lanes
   pub few : lanes ≤ 64
   pub allowed : (lane : ℕ) → below_lanes lane (opening log) ≡ true → lane < lanes
   pub all : AllBelow lanes log
@@ -377,6 +374,8 @@ lanes_first : (e : Entry) (o : Option Opening) → opening_of e.call ≡ o → O
 lanes_first e None q h z = absurd h
 lanes_first e (Some o) q h z = record {
   lanes = o.lanes;
+  lanes_is = ap (λ p. option_map_or (λ (x : Opening). x.lanes) p 0) q;
+  some = h.some_lane;
   few = h.few_lanes;
   allowed = λ lane b. ltb-true lane o.lanes (sym (ap (below_lanes lane) q) ∙ b);
   all = (let s = h.some_lane in omega (arith, z, s), tt);
@@ -386,6 +385,8 @@ lanes_more : (log : List Entry) (e : Entry) → LanesBelow log → below_lanes e
 lanes_more [] e c b = absurd (false_true b)
 lanes_more (x ∷ xs) e c b = record {
   lanes = c.lanes;
+  lanes_is = c.lanes_is;
+  some = c.some;
   few = c.few;
   allowed = c.allowed;
   all = AllBelow-snoc c.lanes (x ∷ xs) e c.all (c.allowed e.lane b);
@@ -409,7 +410,7 @@ is_mark call reply = is_quit call || (is_finish call || (is_given reply || (is_d
 abbrev pub marks : List Entry → ℕ
 marks es = count_by (λ (e : Entry). is_mark e.call e.reply) es
 
-or_yes : (b : Bool) → (b || true) ≡ true
+pub or_yes : (b : Bool) → (b || true) ≡ true
 or_yes true = refl
 or_yes false = refl
 
@@ -430,8 +431,8 @@ full_by log call many e = false_true (sym (both (nat_lt 999999 (length log)) _ (
 
 late_mark : (log : List Entry) (lane : ℕ) (run : Option ℕ) (call : Call) (reply : Reply) → 1000000 ≤ length log
     → Entering log lane run call reply → is_mark call reply ≡ true
-late_mark log lane _ _ _ many (enter.claims k none q) = refl
-late_mark log lane _ _ _ many (enter.told_done not_done none) = refl
+late_mark log lane _ _ _ many (enter.claims k source params none q s p) = refl
+late_mark log lane _ _ _ many (enter.told_done not_done none q is) = refl
 late_mark log lane _ _ _ many enter.quits = refl
 late_mark log lane _ _ _ many (enter.finishes run end held) = refl
 late_mark log lane _ _ _ many (enter.acts run call reply held fresh ends_fit_ for_run no_finish answered) =

@@ -1,16 +1,18 @@
 -- Counts of a journal's entries, one entry more; and of the entries of each lane, put together.
 
 use Rattle.std.proofs.Common.{◌≡◌, ◌≢◌, ◌≤◌, ◌<◌, ℕ, suc, zero, ◌+◌, Bool, true, false, not, ◌||◌, List, [], ◌∷◌, ◌++◌, refl, sym, ap, ◌∙◌, subst, inl, inr, ◌⊎◌, nat_eq, cond, append-nil, arith}
-use Rattle.std.specs.Prelude.{count_by}
+use Rattle.std.specs.Prelude.{count_by, Option, Some, filter, map}
 use Rattle.std.specs.List.{list_any}
 use Rattle.std.proofs.lemmas.Bool.{eq-eqb, ne_eqb}
 use Rattle.std.proofs.lemmas.Bool.Decides.{eqb_tells}
 use Rattle.std.proofs.Math.Bool.{or-false}
 use Rattle.std.proofs.lemmas.List.Sums.{sum_by-append, sum_by-cons}
 use Rattle.std.proofs.lemmas.List.Folds.{list_any-append}
+use Rattle.std.proofs.lemmas.List.{map-append}
 use Rattle.std.proofs.lemmas.List.Elements.{filter-append}
 use Rattle.job_calls.specs.declared.entry.Entry.{Entry}
-use Rattle.job_calls.specs.Words.{own_entries}
+use Rattle.job_calls.specs.Words.{is_run, own_entries}
+use Rattle.job_calls.specs.Fitting.{exchange_of}
 
 abbrev pub as_number : Bool → ℕ
 as_number true = 1
@@ -99,10 +101,10 @@ abbrev pub AllBelow : ℕ → List Entry → Type 0
 AllBelow n [] = Unit {0}
 AllBelow n (e ∷ es) = (e.lane < n) × AllBelow n es
 
-own-cons-same : (e : Entry) (es : List Entry) → own_entries e.lane (e ∷ es) ≡ e ∷ own_entries e.lane es
+pub own-cons-same : (e : Entry) (es : List Entry) → own_entries e.lane (e ∷ es) ≡ e ∷ own_entries e.lane es
 own-cons-same e es = ap (λ b. cond b (e ∷ own_entries e.lane es) (own_entries e.lane es)) (eq-eqb e.lane e.lane refl)
 
-own-cons-other : (lane : ℕ) (e : Entry) (es : List Entry) → e.lane ≢ lane → own_entries lane (e ∷ es) ≡ own_entries lane es
+pub own-cons-other : (lane : ℕ) (e : Entry) (es : List Entry) → e.lane ≢ lane → own_entries lane (e ∷ es) ≡ own_entries lane es
 own-cons-other lane e es apart = ap (λ b. cond b (e ∷ own_entries lane es) (own_entries lane es)) (ne_eqb e.lane lane apart)
 
 -- the lanes' counts make up the whole count
@@ -149,3 +151,20 @@ count_either p q (e ∷ es) =
     let d = count-cons q e es in
     let one = either_number (p e) (q e) in
     omega (arith, rest, a, b, d, one)
+
+pub is_run-by : (k : ℕ) (o : Option ℕ) → o ≡ Some k → is_run k o ≡ true
+is_run-by k o e = ap (is_run k) e ∙ eq-eqb k k refl
+
+exchange_more : (k : ℕ) (es : List Entry) (e : Entry) (b : Bool) → is_run k e.run ≡ b
+    → exchange_of k (es ++ e ∷ []) ≡ exchange_of k es ++ map (λ (x : Entry). (x.call, x.reply)) (cond b (e ∷ []) [])
+exchange_more k es e b is =
+    ap (map (λ (x : Entry). (x.call, x.reply))) (filter-append (λ (x : Entry). is_run k x.run) es (e ∷ []))
+    ∙ map-append (λ (x : Entry). (x.call, x.reply)) (filter (λ (x : Entry). is_run k x.run) es) (filter (λ (x : Entry). is_run k x.run) (e ∷ []))
+    ∙ ap (λ c. exchange_of k es ++ map (λ (x : Entry). (x.call, x.reply)) (cond c (e ∷ []) [])) is
+
+-- what a run called and was told, one entry more: its own, or another's
+pub exchange-snoc : (k : ℕ) (es : List Entry) (e : Entry) → is_run k e.run ≡ true → exchange_of k (es ++ e ∷ []) ≡ exchange_of k es ++ (e.call, e.reply) ∷ []
+exchange-snoc k es e is = exchange_more k es e true is
+
+pub exchange-same : (k : ℕ) (es : List Entry) (e : Entry) → is_run k e.run ≡ false → exchange_of k (es ++ e ∷ []) ≡ exchange_of k es
+exchange-same k es e is = exchange_more k es e false is ∙ append-nil (exchange_of k es)

@@ -17,9 +17,10 @@ use Rattle.job_calls.specs.declared.reply.Reply.TheVariants.{PipeEnd, Unit as Ac
 use Rattle.job_calls.specs.declared.entry.Entry.{Entry}
 use Rattle.job_calls.specs.Words.{own_entries}
 use Rattle.job_calls.specs.Pipes.{opened_session, opens, closes, holder, session, is_session, had_writer, is_ended, in_session, put_by, taken_by, put_in, taken_in}
-use Rattle.job_calls.specs.Fitting.{ends_fit}
+use Rattle.job_calls.specs.Fitting.{held_run, exchange_of, holds, ends_fit}
 use Rattle.job_calls.specs.Legal.{IsLegal, Follows, FollowOn}
-use Rattle.job_laws.specs.Laws.{IsSession, SaysTrue, is_pipe_end}
+use Rattle.job_laws.specs.Truth.{SaysTrue}
+use Rattle.job_laws.specs.Order.{IsSession, PipesInOrder, PipesWhole, is_pipe_end}
 use Rattle.job_laws.proofs.Growing.{legal_more, legal_split}
 use Rattle.job_laws.proofs.Lists.{none_some, any_cut}
 use Rattle.job_laws.proofs.Counts.{any-snoc}
@@ -27,8 +28,10 @@ use Rattle.job_laws.proofs.Outcomes as outcome
 use Rattle.job_laws.proofs.Outcomes.{Outcome, run_outcome, is_idle, is_granted, false_true}
 use Rattle.job_laws.proofs.Entering as enter
 use Rattle.job_laws.proofs.Entering.{Entering, entering, and_true, or_false, is_run-some}
-use Rattle.job_laws.proofs.Piping.{Piped, piped, part_of, session-snoc, says_true}
-use Rattle.job_laws.proofs.Holding.{holder-snoc, not_so, was_free, holds_whole}
+use Rattle.job_laws.proofs.Piping.{Piped, piped, part_of, session-snoc}
+use Rattle.job_laws.proofs.Truth.{says_true}
+use Rattle.job_laws.proofs.Lanes.{not_so, was_held, one_lane_a_run}
+use Rattle.job_laws.proofs.Holding.{holder-snoc, was_free, holds_told}
 
 -- a session goes on until the pipe is opened to read again
 session_stays : (name : List ℕ) (log : List Entry) (place : ℕ) (es : List Entry) → session name log ≡ Some place
@@ -72,24 +75,26 @@ granted_ends name call = refl
 
 end_outcome : (name : List ℕ) (log : List Entry) (run : ℕ) (call : Call) (reply : Reply) → Outcome log run call reply
     → is_pipe_end name call reply ≡ true → is_ended name log ≡ true
-end_outcome name log run _ _ (outcome.idle call reply is) h = absurd (false_true (sym (idle_ends name call reply is) ∙ h))
+end_outcome name log run _ _ (outcome.idle call reply is can) h = absurd (false_true (sym (idle_ends name call reply is) ∙ h))
 end_outcome name log run _ _ (outcome.granted call is) h = absurd (false_true (sym (granted_ends name call) ∙ h))
-end_outcome name log run _ _ (outcome.started model params less) h = absurd (false_true h)
-end_outcome name log run _ _ (outcome.next_took place q) h = absurd (false_true h)
-end_outcome name log run _ _ (outcome.drop_took place q) h = absurd (false_true h)
+end_outcome name log run _ _ (outcome.compiled src dst) h = absurd (false_true h)
+end_outcome name log run _ _ (outcome.loaded file source q) h = absurd (false_true h)
+end_outcome name log run _ _ (outcome.started model params is less) h = absurd (false_true h)
+end_outcome name log run _ _ (outcome.next_took event q) h = absurd (false_true h)
+end_outcome name log run _ _ (outcome.drop_took event q) h = absurd (false_true h)
 end_outcome name log run _ _ (outcome.queued to class value receiver) h = absurd (false_true h)
-end_outcome name log run _ _ (outcome.found_write other place q) h = absurd (false_true h)
+end_outcome name log run _ _ (outcome.found_write other write q) h = absurd (false_true h)
 end_outcome name log run _ _ (outcome.found_file other bytes q d) h = absurd (false_true h)
 end_outcome name log run _ _ (outcome.reads other q) h = absurd (false_true h)
-end_outcome name log run _ _ (outcome.joins other a b d) h = absurd (false_true h)
+end_outcome name log run _ _ (outcome.joins other place a b d s) h = absurd (false_true h)
 end_outcome name log run _ _ (outcome.put other bytes j) h = absurd (false_true h)
 end_outcome name log run _ _ (outcome.took_all other) h = absurd (false_true h)
 end_outcome name log run _ _ (outcome.ended other a b) h = subst (λ n. is_ended n log ≡ true) ((bytes_eq-Decides other name).0 h) b
 
 end_entering : (name : List ℕ) (log : List Entry) (lane : ℕ) (run : Option ℕ) (call : Call) (reply : Reply) → Entering log lane run call reply
     → is_pipe_end name call reply ≡ true → is_ended name log ≡ true
-end_entering name log lane _ _ _ (enter.claims k none q) h = absurd (false_true h)
-end_entering name log lane _ _ _ (enter.told_done not_done none) h = absurd (false_true h)
+end_entering name log lane _ _ _ (enter.claims k source params none q s p) h = absurd (false_true h)
+end_entering name log lane _ _ _ (enter.told_done not_done none q is) h = absurd (false_true h)
 end_entering name log lane _ _ _ enter.quits h = absurd (false_true h)
 end_entering name log lane _ _ _ (enter.finishes run end held) h = absurd (false_true h)
 end_entering name log lane _ _ _ (enter.acts run call reply held fresh fit for_run no_finish answered) h =
@@ -125,48 +130,55 @@ granted_puts name (PipePut put bytes) e = absurd (false_true e)
 granted_puts name call e = refl
 
 -- what a run puts that does not hold the end to write
-unheld : (name other bytes : List ℕ) (own : List Entry) (b : Bool) → bytes_eq other name ≡ b → is_some (holder Writes other own) ≡ true
-    → holder Writes name own ≡ None → (if b then bytes else []) ≡ []
-unheld name other bytes own true is held none =
-    absurd (false_true (sym (ap is_some none) ∙ ap (λ n. is_some (holder Writes n own)) (sym ((bytes_eq-Decides other name).0 is)) ∙ held))
-unheld name other bytes own false is held none = refl
+unheld : (name other bytes : List ℕ) (log : List Entry) (run : ℕ) (b : Bool) → bytes_eq other name ≡ b → holder Writes other log ≡ Some run
+    → holder Writes name log ≡ None → (if b then bytes else []) ≡ []
+unheld name other bytes log run true is held none =
+    none_some run (sym none ∙ ap (λ n. holder Writes n log) (sym ((bytes_eq-Decides other name).0 is)) ∙ held)
+unheld name other bytes log run false is held none = refl
 
-puts_outcome : (name : List ℕ) (log own : List Entry) (run : ℕ) (call : Call) (reply : Reply) → Outcome log run call reply
-    → ends_fit run own call ≡ true → holder Writes name own ≡ None → put_by name call reply ≡ []
-puts_outcome name log own run _ _ (outcome.idle call reply is) fit none = idle_puts name call reply is
-puts_outcome name log own run _ _ (outcome.granted call is) fit none = granted_puts name call is
-puts_outcome name log own run _ _ (outcome.started model params less) fit none = refl
-puts_outcome name log own run _ _ (outcome.next_took place q) fit none = refl
-puts_outcome name log own run _ _ (outcome.drop_took place q) fit none = refl
-puts_outcome name log own run _ _ (outcome.queued to class value receiver) fit none = refl
-puts_outcome name log own run _ _ (outcome.found_write other place q) fit none = refl
-puts_outcome name log own run _ _ (outcome.found_file other bytes q d) fit none = refl
-puts_outcome name log own run _ _ (outcome.reads other q) fit none = refl
-puts_outcome name log own run _ _ (outcome.joins other a b d) fit none = refl
-puts_outcome name log own run _ _ (outcome.put other bytes j) fit none =
-    unheld name other bytes own (bytes_eq other name) refl (ap is_some (is_run-some run (holder Writes other own) fit)) none
-puts_outcome name log own run _ _ (outcome.took_all other) fit none = refl
-puts_outcome name log own run _ _ (outcome.ended other a b) fit none = refl
+-- a run that holds the end to write by what it was told is the one that holds it
+abbrev AreHeld : List Entry → ℕ → List (Call × Reply) → Type 0
+AreHeld log run told = (other : List ℕ) → holds Writes other told ≡ true → holder Writes other log ≡ Some run
 
-puts_entering : (name : List ℕ) (log : List Entry) (lane : ℕ) (run : Option ℕ) (call : Call) (reply : Reply) → Entering log lane run call reply
-    → holder Writes name (own_entries lane log) ≡ None → put_by name call reply ≡ []
-puts_entering name log lane _ _ _ (enter.claims k free q) none = refl
-puts_entering name log lane _ _ _ (enter.told_done not_done free) none = refl
-puts_entering name log lane _ _ _ enter.quits none = refl
-puts_entering name log lane _ _ _ (enter.finishes run end held) none = refl
-puts_entering name log lane _ _ _ (enter.acts run call reply held fresh fit for_run no_finish answered) none =
-    puts_outcome name log (own_entries lane log) run call reply (run_outcome log run call reply answered) fit none
+puts_outcome : (name : List ℕ) (log : List Entry) (told : List (Call × Reply)) (run : ℕ) (call : Call) (reply : Reply) → Outcome log run call reply
+    → AreHeld log run told → ends_fit told call ≡ true → holder Writes name log ≡ None → put_by name call reply ≡ []
+puts_outcome name log told run _ _ (outcome.idle call reply is can) held fit none = idle_puts name call reply is
+puts_outcome name log told run _ _ (outcome.granted call is) held fit none = granted_puts name call is
+puts_outcome name log told run _ _ (outcome.compiled src dst) held fit none = refl
+puts_outcome name log told run _ _ (outcome.loaded file source q) held fit none = refl
+puts_outcome name log told run _ _ (outcome.started model params is less) held fit none = refl
+puts_outcome name log told run _ _ (outcome.next_took event q) held fit none = refl
+puts_outcome name log told run _ _ (outcome.drop_took event q) held fit none = refl
+puts_outcome name log told run _ _ (outcome.queued to class value receiver) held fit none = refl
+puts_outcome name log told run _ _ (outcome.found_write other write q) held fit none = refl
+puts_outcome name log told run _ _ (outcome.found_file other bytes q d) held fit none = refl
+puts_outcome name log told run _ _ (outcome.reads other q) held fit none = refl
+puts_outcome name log told run _ _ (outcome.joins other place a b d s) held fit none = refl
+puts_outcome name log told run _ _ (outcome.put other bytes j) held fit none =
+    unheld name other bytes log run (bytes_eq other name) refl (held other fit) none
+puts_outcome name log told run _ _ (outcome.took_all other) held fit none = refl
+puts_outcome name log told run _ _ (outcome.ended other a b) held fit none = refl
 
-none_held : (name : List ℕ) (lane : ℕ) (log : List Entry) → IsLegal log → holder Writes name log ≡ None → (o : Option ℕ)
-    → holder Writes name (own_entries lane log) ≡ o → o ≡ None
-none_held name lane log legal none None q = refl
-none_held name lane log legal none (Some r) q = none_some r (sym none ∙ holds_whole Writes name lane r log legal q)
+-- what the lane that holds the run knows of it is all
+are_held : (log : List Entry) (lane run : ℕ) → IsLegal log → held_run (own_entries lane log) ≡ Some run
+    → AreHeld log run (exchange_of run (own_entries lane log))
+are_held log lane run h held other q =
+    let same = (one_lane_a_run log h run lane (was_held lane log h run held)).exchange in
+    holds_told Writes other run log h (ap (holds Writes other) (sym same) ∙ q)
+
+puts_entering : (name : List ℕ) (log : List Entry) (lane : ℕ) (run : Option ℕ) (call : Call) (reply : Reply) → IsLegal log → Entering log lane run call reply
+    → holder Writes name log ≡ None → put_by name call reply ≡ []
+puts_entering name log lane _ _ _ h (enter.claims k source params free q s p) none = refl
+puts_entering name log lane _ _ _ h (enter.told_done not_done free q is) none = refl
+puts_entering name log lane _ _ _ h enter.quits none = refl
+puts_entering name log lane _ _ _ h (enter.finishes run end held) none = refl
+puts_entering name log lane _ _ _ h (enter.acts run call reply held fresh fit for_run no_finish answered) none =
+    puts_outcome name log (exchange_of run (own_entries lane log)) run call reply (run_outcome log run call reply answered)
+    (are_held log lane run h held) fit none
 
 -- nothing is put behind the end
 puts_nothing : (name : List ℕ) (log : List Entry) (e : Entry) → IsLegal log → IsOver name log → Follows log e → put_by name e.call e.reply ≡ []
-puts_nothing name log e legal over f =
-    puts_entering name log e.lane e.run e.call e.reply (entering log e f)
-    (none_held name e.lane log legal over.1 (holder Writes name (own_entries e.lane log)) refl)
+puts_nothing name log e legal over f = puts_entering name log e.lane e.run e.call e.reply legal (entering log e f) over.1
 
 puts_none : (name : List ℕ) (log es : List Entry) → IsLegal log → IsOver name log → FollowOn log es → list_any (opens Reads name) es ≡ false
     → put_in name es ≡ []

@@ -9,12 +9,12 @@ use Rattle.job_calls.specs.declared.end.End.{End}
 use Rattle.job_calls.specs.declared.reply.Answer.{Answer}
 use Rattle.job_calls.specs.declared.reply.Answer.TheVariants.{Ready, NotYet, Shut}
 use Rattle.job_calls.specs.declared.reply.Reply.{Reply}
-use Rattle.job_calls.specs.declared.reply.Reply.TheVariants.{Done, Unit as Accepted}
+use Rattle.job_calls.specs.declared.reply.Reply.TheVariants.{Claimed, Done, Unit as Accepted}
 use Rattle.job_calls.specs.declared.entry.Entry.{Entry}
 use Rattle.job_calls.specs.Words.{is_run, is_finish, has_quit, is_claimed, is_finished, unclaimed, own_entries}
-use Rattle.job_calls.specs.Runs.{opening}
-use Rattle.job_calls.specs.Answers.{claimed, next_run, answer_to_run, open_answer}
-use Rattle.job_calls.specs.Fitting.{held_run, was_done, is_over, ends_fit, is_for_lane, below_lanes, call_fits}
+use Rattle.job_calls.specs.Runs.{opening, source_of, params_of}
+use Rattle.job_calls.specs.Answers.{give_run, next_run, answer_to_run, open_answer}
+use Rattle.job_calls.specs.Fitting.{held_run, was_done, exchange_of, is_over, ends_fit, may_call, is_for_lane, below_lanes, call_fits}
 use Rattle.job_calls.specs.Legal.{Follows}
 use Rattle.job_laws.proofs.Outcomes.{reply_of, false_true}
 
@@ -32,14 +32,16 @@ is_run-some k (Some run) e = ap Some (eqb-true run k e)
 
 -- an entry that a lane adds to the journal, by its run, call and reply
 pub data Entering (log : List Entry) (lane : ℕ) : Option ℕ → Call → Reply → Type 0 where
-  claims : (k : ℕ) → held_run (own_entries lane log) ≡ None → unclaimed log ≡ Some k → Entering log lane None Claim (claimed log k)
-  told_done : was_done (own_entries lane log) ≡ false → held_run (own_entries lane log) ≡ None → Entering log lane None Claim Done
+  claims : (k source : ℕ) (params : List ℕ) → held_run (own_entries lane log) ≡ None → unclaimed log ≡ Some k
+      → source_of k log ≡ Some source → params_of k log ≡ Some params → Entering log lane None Claim (Claimed k source params)
+  told_done : was_done (own_entries lane log) ≡ false → held_run (own_entries lane log) ≡ None → unclaimed log ≡ None
+      → is_finished 0 log ≡ true → Entering log lane None Claim Done
   quits : Entering log lane None Quit Accepted
   finishes : (run : ℕ) (end : End) → held_run (own_entries lane log) ≡ Some run → Entering log lane (Some run) (Finish end) Accepted
-  acts : (run : ℕ) (call : Call) (reply : Reply) → held_run (own_entries lane log) ≡ Some run → is_over run (own_entries lane log) ≡ false
-      → ends_fit run (own_entries lane log) call ≡ true → is_for_lane call ≡ false → is_finish call ≡ false → answer_to_run log (Some run) call ≡ Ready reply → Entering log lane (Some run) call reply
+  acts : (run : ℕ) (call : Call) (reply : Reply) → held_run (own_entries lane log) ≡ Some run → is_over (exchange_of run (own_entries lane log)) ≡ false
+      → ends_fit (exchange_of run (own_entries lane log)) call ≡ true → is_for_lane call ≡ false → is_finish call ≡ false → answer_to_run log (Some run) call ≡ Ready reply → Entering log lane (Some run) call reply
 
-not_true : (b : Bool) → not b ≡ true → b ≡ false
+pub not_true : (b : Bool) → not b ≡ true → b ≡ false
 not_true true e = sym e
 not_true false e = refl
 
@@ -54,7 +56,7 @@ answers_at_all _ = false
 shut_ready : (reply : Reply) → Shut ≡ Ready reply → ⊥
 shut_ready reply e = false_true (ap answers_at_all e)
 
-open_not : (b : Bool) (a : Answer) (reply : Reply) → (if b then Shut else a) ≡ Ready reply → (b ≡ false) × (a ≡ Ready reply)
+pub open_not : (b : Bool) (a : Answer) (reply : Reply) → (if b then Shut else a) ≡ Ready reply → (b ≡ false) × (a ≡ Ready reply)
 open_not true a reply e = absurd (shut_ready reply e)
 open_not false a reply e = (refl, e)
 
@@ -66,14 +68,22 @@ not_yet_if true a reply e = absurd (not_yet_ready reply e)
 not_yet_if false a reply e = e
 
 done_by : (log : List Entry) (lane : ℕ) (b : Bool) (reply : Reply) → was_done (own_entries lane log) ≡ false → held_run (own_entries lane log) ≡ None
-    → (if b then Ready Done else NotYet) ≡ Ready reply → Entering log lane None Claim reply
-done_by log lane true reply not_done none e = subst (Entering log lane None Claim) (ap reply_of e) (told_done not_done none)
-done_by log lane false reply not_done none e = absurd (not_yet_ready reply e)
+    → unclaimed log ≡ None → is_finished 0 log ≡ b → (if b then Ready Done else NotYet) ≡ Ready reply → Entering log lane None Claim reply
+done_by log lane true reply not_done none q is e = subst (Entering log lane None Claim) (ap reply_of e) (told_done not_done none q is)
+done_by log lane false reply not_done none q is e = absurd (not_yet_ready reply e)
+
+given_by : (log : List Entry) (lane k : ℕ) (source : Option ℕ) (params : Option (List ℕ)) (reply : Reply) → held_run (own_entries lane log) ≡ None
+    → unclaimed log ≡ Some k → source_of k log ≡ source → params_of k log ≡ params → give_run k source params ≡ Ready reply
+    → Entering log lane None Claim reply
+given_by log lane k (Some source) (Some params) reply none q s p e =
+    subst (Entering log lane None Claim) (ap reply_of e) (claims k source params none q s p)
+given_by log lane k (Some source) None reply none q s p e = absurd (not_yet_ready reply e)
+given_by log lane k None params reply none q s p e = absurd (not_yet_ready reply e)
 
 claim_by : (log : List Entry) (lane : ℕ) (o : Option ℕ) (reply : Reply) → was_done (own_entries lane log) ≡ false → held_run (own_entries lane log) ≡ None
     → unclaimed log ≡ o → next_run log o ≡ Ready reply → Entering log lane None Claim reply
-claim_by log lane None reply not_done none q e = done_by log lane (is_finished 0 log) reply not_done none e
-claim_by log lane (Some k) reply not_done none q e = subst (Entering log lane None Claim) (ap reply_of e) (claims k none q)
+claim_by log lane None reply not_done none q e = done_by log lane (is_finished 0 log) reply not_done none q refl e
+claim_by log lane (Some k) reply not_done none q e = given_by log lane k (source_of k log) (params_of k log) reply none q refl refl e
 
 by_lane : (log : List Entry) (lane : ℕ) (call : Call) (reply : Reply) → call_fits (own_entries lane log) None call ≡ true
     → open_answer log lane None call ≡ Ready reply → Entering log lane None call reply
@@ -96,8 +106,9 @@ by_run log lane run Quit reply fit e = absurd (false_true fit)
 by_run log lane run (Finish end) reply fit e =
     by_run_end log lane run end reply (is_run-some run _ (and_true (is_run run (held_run (own_entries lane log))) true fit).0) e
 by_run log lane run call reply fit e =
-    let held = and_true (is_run run (held_run (own_entries lane log))) (not (is_over run (own_entries lane log)) && ends_fit run (own_entries lane log) call) fit in
-    let goes_on = and_true (not (is_over run (own_entries lane log))) (ends_fit run (own_entries lane log) call) held.1 in
+    let told = exchange_of run (own_entries lane log) in
+    let held = and_true (is_run run (held_run (own_entries lane log))) (may_call told call) fit in
+    let goes_on = and_true (not (is_over told)) (ends_fit told call) held.1 in
     acts run call reply (is_run-some run _ held.0) (not_true _ goes_on.0) goes_on.1 refl refl e
 
 by_caller : (log : List Entry) (lane : ℕ) (run : Option ℕ) (call : Call) (reply : Reply) → call_fits (own_entries lane log) run call ≡ true

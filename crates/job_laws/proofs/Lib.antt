@@ -10,4 +10,9 @@ pub mod Listing
 pub mod Holding
 pub mod Ending
 pub mod Naming
+pub mod Truth
+pub mod Fit
+pub mod Sources
 pub mod Standing
+pub mod Lanes
+pub mod AllDone

@@ -9,7 +9,7 @@ use Rattle.job_laws.proofs.Outcomes.{false_true}
 pub none_some : {A B : Type 0} (x : A) → None ≡ Some x → B
 none_some x e = absurd (false_true (ap is_some e))
 
-later_none : {A : Type 0} (a : Option A) → later None a ≡ a
+pub later_none : {A : Type 0} (a : Option A) → later None a ≡ a
 later_none None = refl
 later_none (Some x) = refl
 

@@ -1,33 +1,31 @@
--- What was read, and what was taken out of a pipe: the last write, and what was put.
+-- The last write under a name, and what was put into a pipe and taken out of it.
 
-use Rattle.std.proofs.Common.{◌≡◌, ℕ, ◌+◌, Bool, true, false, ◌||◌, List, [], ◌∷◌, ◌++◌, Option, Some, None, refl, sym, ap, ◌∙◌, subst, inl, inr, nat_lt, length, length-append, drop, arith, append_assoc, append-nil}
-use Rattle.std.specs.Prelude.{slice_get, if◌then◌else◌}
+use Rattle.std.proofs.Common.{◌≡◌, ◌<◌, ℕ, ◌+◌, Bool, true, false, ◌||◌, List, [], ◌∷◌, ◌++◌, Option, Some, None, refl, sym, ap, ◌∙◌, subst, inl, inr, nat_lt, length, length-append, drop, arith, append_assoc, append-nil}
+use Rattle.std.specs.Prelude.{slice_get, option_map, option_and_then, if◌then◌else◌}
 use Rattle.std.specs.Option.{option_map_or}
 use Rattle.std.specs.List.{list_any, enumerate_from}
 use Rattle.std.specs.Str.{bytes_eq}
 use Rattle.std.proofs.Math.Seq.{drop-append_seam, drop-append-add}
 use Rattle.std.proofs.lemmas.List.{drop-append-le}
 use Rattle.std.proofs.lemmas.Grind.{flat_map-append}
-use Rattle.std.proofs.lemmas.Bool.{ltb-false}
 use Rattle.std.proofs.lemmas.Slice.Eq.{bytes_eq-Decides}
 use Rattle.job_calls.specs.declared.call.Call.{Call}
-use Rattle.job_calls.specs.declared.call.Call.TheVariants.{Write, PipeTake, Next, Drop}
+use Rattle.job_calls.specs.declared.call.Call.TheVariants.{Write, PipeTake}
 use Rattle.job_calls.specs.declared.call.Way.TheVariants.{Reads}
 use Rattle.job_calls.specs.declared.reply.Reply.{Reply}
-use Rattle.job_calls.specs.declared.reply.Reply.TheVariants.{Opened, Took, Found, Bytes, PipeEnd, Unit as Accepted}
+use Rattle.job_calls.specs.declared.reply.Reply.TheVariants.{Opened, Bytes, Unit as Accepted}
 use Rattle.job_calls.specs.declared.entry.Entry.{Entry}
-use Rattle.job_calls.specs.Runs.{later, last_given}
-use Rattle.job_calls.specs.Blocks.{writes, last_write, written, written_at}
+use Rattle.job_calls.specs.Runs.{later, last_given, opening_of}
+use Rattle.job_calls.specs.Blocks.{Written, writes, last_write, bytes_written, written_at, last_written}
 use Rattle.job_calls.specs.Pipes.{opens, session, in_session, put_by, taken_by, put_in, taken_in, untaken}
-use Rattle.job_calls.specs.Legal.{IsLegal, Follows}
-use Rattle.job_laws.specs.Laws.{IsLastWrite, SaysTrue}
-use Rattle.job_laws.proofs.Growing.{legal_induct, legal_cut, IsCut, opens as cut_opens, follows as cut_follows}
+use Rattle.job_calls.specs.Legal.{IsLegal, OpensSo, Follows}
+use Rattle.job_laws.specs.Truth.{IsLastWrite}
+use Rattle.job_laws.proofs.Growing.{legal_induct}
 use Rattle.job_laws.proofs.Lists.{none_some, some_is, last_given-snoc, enumerate-snoc, get_behind}
 use Rattle.job_laws.proofs.Outcomes as outcome
 use Rattle.job_laws.proofs.Outcomes.{Outcome, run_outcome, is_idle, false_true}
 use Rattle.job_laws.proofs.Entering as enter
 use Rattle.job_laws.proofs.Entering.{Entering, entering}
-use Rattle.job_laws.proofs.Taking.{taken_is_event}
 
 -- the place of the last that passes, counted from n
 abbrev last_from : (Entry → Bool) → ℕ → List Entry → Option ℕ
@@ -93,31 +91,63 @@ last_cut : (test : Entry → Bool) (n place : ℕ) (xs : List Entry) → last_fr
 last_cut test n place [] e = none_some place e
 last_cut test n place (x ∷ xs) e = cut_by test n place x xs (last_from test (n + 1) xs) refl (λ p q. last_cut test (n + 1) p xs q) e
 
-wrote_by : (name : List ℕ) (call : Call) (reply : Reply) → writes name call reply ≡ true → (call ≡ Write name (written call)) × (reply ≡ Accepted)
-wrote_by name (Write other bytes) Accepted e = (ap (λ n. Write n bytes) ((bytes_eq-Decides other name).0 e), refl)
+wrote_by : (name : List ℕ) (call : Call) (reply : Reply) → writes name call reply ≡ true → (bytes : List ℕ) × (call ≡ Write name bytes) × (reply ≡ Accepted)
+wrote_by name (Write other bytes) Accepted e = (bytes, ap (λ n. Write n bytes) ((bytes_eq-Decides other name).0 e), refl)
 wrote_by name (Write other bytes) reply e = absurd (false_true e)
 wrote_by name call reply e = absurd (false_true e)
 
+-- the first entry of a legal journal writes nothing
+not_first : (before : List Entry) (e : Entry) (after : List Entry) (name bytes : List ℕ) → IsLegal (before ++ e ∷ after)
+    → e.call ≡ Write name bytes → 0 < length before
+not_first [] e after name bytes h q = let o = h.0 in absurd (subst (λ call. OpensSo (opening_of call)) q o.opened)
+not_first (x ∷ xs) e after name bytes h q = omega arith
+
 -- the last write
-write_is : (log : List Entry) (name : List ℕ) (place : ℕ) → last_write name log ≡ Some place → IsLastWrite log name place (written_at place log)
-write_is log name place q =
+write_at : (log : List Entry) (name : List ℕ) (place : ℕ) → IsLegal log → last_write name log ≡ Some place
+    → (bytes : List ℕ) × (written_at place log ≡ Some record { place = place; bytes = bytes }) × IsLastWrite log name place bytes
+write_at log name place h q =
     let c = last_cut (λ e. writes name e.call e.reply) 0 place log q in
     let w = wrote_by name c.at.call c.at.reply c.passes in
     let at : length c.before ≡ place = let p = c.place_is in omega (arith, p) in
-    let bytes : written c.at.call ≡ written_at place log =
-    sym (ap (λ o. option_map_or (λ (e : Entry). written e.call) o []) (
-    ap (λ xs. slice_get xs place) c.cut ∙ ap (slice_get (c.before ++ c.at ∷ c.after)) (sym at) ∙ get_behind c.before c.at c.after
-    )) in
-    record {
-      before = c.before;
-      write = c.at;
-      after = c.after;
-      cut = c.cut;
-      place_is = at;
-      wrote = w.0 ∙ ap (Write name) bytes;
-      accepted = w.1;
-      last = c.last;
-    }
+    let first = not_first c.before c.at c.after name w.0 (subst IsLegal c.cut h) w.1 in
+    let stands : slice_get log place ≡ Some c.at =
+    ap (λ xs. slice_get xs place) c.cut ∙ ap (slice_get (c.before ++ c.at ∷ c.after)) (sym at) ∙ get_behind c.before c.at c.after in (
+      w.0,
+      ap (λ o. option_map (λ bytes. record { place = place; bytes = bytes }) (option_and_then (λ (e : Entry). bytes_written e.call) o)) stands
+          ∙ ap (λ call. option_map (λ bytes. record { place = place; bytes = bytes }) (bytes_written call)) w.1,
+      record {
+        before = c.before;
+        write = c.at;
+        after = c.after;
+        cut = c.cut;
+        place_is = at;
+        some = omega (arith, first, at);
+        wrote = w.1;
+        accepted = w.2;
+        last = c.last;
+      },
+    )
+
+write_by : (log : List Entry) (name : List ℕ) (o : Option ℕ) (write : Written) → IsLegal log → last_write name log ≡ o
+    → option_and_then (λ place. written_at place log) o ≡ Some write → IsLastWrite log name write.place write.bytes
+write_by log name None write h q r = none_some write r
+write_by log name (Some place) write h q r =
+    let w = write_at log name place h q in
+    subst (λ (x : Written). IsLastWrite log name x.place x.bytes) (some_is _ write (sym w.1 ∙ r)) w.2
+
+pub write_is : (log : List Entry) (name : List ℕ) (write : Written) → IsLegal log → last_written name log ≡ Some write
+    → IsLastWrite log name write.place write.bytes
+write_is log name write h q = write_by log name (last_write name log) write h refl q
+
+unwritten_by : (log : List Entry) (name : List ℕ) (o : Option ℕ) → IsLegal log → last_write name log ≡ o
+    → option_and_then (λ place. written_at place log) o ≡ None → list_any (λ e. writes name e.call e.reply) log ≡ false
+unwritten_by log name None h q r = none_passes (λ e. writes name e.call e.reply) 0 log q
+unwritten_by log name (Some place) h q r =
+    let w = write_at log name place h q in none_some (record { place = place; bytes = w.0 }) (sym r ∙ w.1)
+
+-- nothing was written
+pub unwritten : (log : List Entry) (name : List ℕ) → IsLegal log → last_written name log ≡ None → list_any (λ e. writes name e.call e.reply) log ≡ false
+unwritten log name h q = unwritten_by log name (last_write name log) h refl q
 
 pub session-snoc : (name : List ℕ) (log : List Entry) (e : Entry) (b : Bool) → opens Reads name e ≡ b
     → session name (log ++ e ∷ []) ≡ later (session name log) (if b then Some (length log) else None)
@@ -188,30 +218,32 @@ take_flow name other log true is =
 take_flow name other log false is = quiet (ap (λ b. if b then untaken other log else []) is)
 
 flow_outcome : (name : List ℕ) (log : List Entry) (run : ℕ) (call : Call) (reply : Reply) → Outcome log run call reply → Flow name log call reply
-flow_outcome name log run _ _ (outcome.idle call reply is) = quiet (idle_quiet name call reply is)
+flow_outcome name log run _ _ (outcome.idle call reply is can) = quiet (idle_quiet name call reply is)
 flow_outcome name log run _ _ (outcome.granted call is) = quiet (unit_quiet name call)
-flow_outcome name log run _ _ (outcome.started model params less) = quiet refl
-flow_outcome name log run _ _ (outcome.next_took place q) = quiet refl
-flow_outcome name log run _ _ (outcome.drop_took place q) = quiet refl
+flow_outcome name log run _ _ (outcome.compiled src dst) = quiet refl
+flow_outcome name log run _ _ (outcome.loaded file source q) = quiet refl
+flow_outcome name log run _ _ (outcome.started model params is less) = quiet refl
+flow_outcome name log run _ _ (outcome.next_took event q) = quiet refl
+flow_outcome name log run _ _ (outcome.drop_took event q) = quiet refl
 flow_outcome name log run _ _ (outcome.queued to class value receiver) = quiet refl
-flow_outcome name log run _ _ (outcome.found_write other place q) = quiet refl
+flow_outcome name log run _ _ (outcome.found_write other write q) = quiet refl
 flow_outcome name log run _ _ (outcome.found_file other bytes q d) = quiet refl
 flow_outcome name log run _ _ (outcome.reads other q) = quiet refl
-flow_outcome name log run _ _ (outcome.joins other a b d) = quiet refl
+flow_outcome name log run _ _ (outcome.joins other place a b d s) = quiet refl
 flow_outcome name log run _ _ (outcome.put other bytes j) = quiet refl
 flow_outcome name log run _ _ (outcome.took_all other) = take_flow name other log (bytes_eq other name) refl
 flow_outcome name log run _ _ (outcome.ended other a b) = quiet refl
 
 flow_entering : (name : List ℕ) (log : List Entry) (lane : ℕ) (run : Option ℕ) (call : Call) (reply : Reply) → Entering log lane run call reply → Flow name log call reply
-flow_entering name log lane _ _ _ (enter.claims k none q) = quiet refl
-flow_entering name log lane _ _ _ (enter.told_done not_done none) = quiet refl
+flow_entering name log lane _ _ _ (enter.claims k source params none q s p) = quiet refl
+flow_entering name log lane _ _ _ (enter.told_done not_done none q is) = quiet refl
 flow_entering name log lane _ _ _ enter.quits = quiet refl
 flow_entering name log lane _ _ _ (enter.finishes run end held) = quiet refl
 flow_entering name log lane _ _ _ (enter.acts run call reply held fresh ends_fit_ for_run no_finish answered) =
     flow_outcome name log run call reply (run_outcome log run call reply answered)
 
 -- what nobody has taken is the rest
-untaken_is : (name : List ℕ) (log : List Entry) (rest : List ℕ) → put_in name (in_session name log) ≡ taken_in name (in_session name log) ++ rest → untaken name log ≡ rest
+pub untaken_is : (name : List ℕ) (log : List Entry) (rest : List ℕ) → put_in name (in_session name log) ≡ taken_in name (in_session name log) ++ rest → untaken name log ≡ rest
 untaken_is name log rest q =
     ap (drop (length (taken_in name (in_session name log)))) q ∙ drop-append_seam (taken_in name (in_session name log)) rest
 
@@ -253,60 +285,3 @@ pub piped : (name : List ℕ) (journal : List Entry) → IsLegal journal → Pip
 piped name = legal_induct (λ log. Piped name (in_session name log))
     (λ e o. piped_step name [] e (opens Reads name e) refl ([], refl) (quiet (ap (taken_by name e.call) o.reply ∙ opened_quiet name e.call)))
     (λ log e p f. piped_step name log e (opens Reads name e) refl p (flow_entering name log e.lane e.run e.call e.reply (entering log e f)))
-
-idle_says : (log : List Entry) (run : Option ℕ) (call : Call) (reply : Reply) → is_idle reply ≡ true → SaysTrue log run call reply
-idle_says log run call (Took place class value) e = absurd (false_true e)
-idle_says log run call (Found place bytes) e = absurd (false_true e)
-idle_says log run call (Bytes bytes) e = absurd (false_true e)
-idle_says log run call PipeEnd e = absurd (false_true e)
-idle_says log run call reply e = tt
-
-no_bytes : (xs : List ℕ) → nat_lt 0 (length xs) ≡ false → xs ≡ []
-no_bytes [] e = refl
-no_bytes (x ∷ xs) e = absurd (let l = ltb-false 0 (length (x ∷ xs)) e in omega (arith, l))
-
-says_outcome : (log : List Entry) (run : ℕ) (call : Call) (reply : Reply) → ((name : List ℕ) → Piped name (in_session name log))
-    → Outcome log run call reply → SaysTrue log (Some run) call reply
-says_outcome log run _ _ p (outcome.idle call reply is) = idle_says log (Some run) call reply is
-says_outcome log run _ _ p (outcome.granted call is) = tt
-says_outcome log run _ _ p (outcome.started model params less) = tt
-says_outcome log run _ _ p (outcome.next_took place q) =
-    taken_is_event log (Some run) Next (record { 0 = place }) _ _ (record { taker = run; by = refl; taking = record { place = place; first = q; reply_is = refl } })
-says_outcome log run _ _ p (outcome.drop_took place q) =
-    taken_is_event log (Some run) Drop (record { 0 = place }) _ _ (record { taker = run; by = refl; taking = record { place = place; first = q; reply_is = refl } })
-says_outcome log run _ _ p (outcome.queued to class value receiver) = tt
-says_outcome log run _ _ p (outcome.found_write name place q) = inl (write_is log name place q)
-says_outcome log run _ _ p (outcome.found_file name bytes q d) =
-    inr (record { place_is = refl; unwritten = none_passes (λ e. writes name e.call e.reply) 0 log q; listed = d })
-says_outcome log run _ _ p (outcome.reads name q) = tt
-says_outcome log run _ _ p (outcome.joins name a b d) = tt
-says_outcome log run _ _ p (outcome.put name bytes j) = tt
-says_outcome log run _ _ p (outcome.took_all name) =
-    (p name).1 ∙ ap (λ xs. taken_in name (in_session name log) ++ xs) (sym (untaken_is name log (p name).0 (p name).1))
-says_outcome log run _ _ p (outcome.ended name a b) =
-    (p name).1
-    ∙ ap (λ xs. taken_in name (in_session name log) ++ xs) (sym (untaken_is name log (p name).0 (p name).1) ∙ no_bytes (untaken name log) a)
-    ∙ append-nil (taken_in name (in_session name log))
-
-says_entering : (log : List Entry) (lane : ℕ) (run : Option ℕ) (call : Call) (reply : Reply) → ((name : List ℕ) → Piped name (in_session name log))
-    → Entering log lane run call reply → SaysTrue log run call reply
-says_entering log lane _ _ _ p (enter.claims k none q) = tt
-says_entering log lane _ _ _ p (enter.told_done not_done none) = tt
-says_entering log lane _ _ _ p enter.quits = tt
-says_entering log lane _ _ _ p (enter.finishes run end held) = tt
-says_entering log lane _ _ _ p (enter.acts run call reply held fresh ends_fit_ for_run no_finish answered) =
-    says_outcome log run call reply p (run_outcome log run call reply answered)
-
--- a reply says what is true
-pub says_true : (log : List Entry) (e : Entry) → IsLegal log → Follows log e → SaysTrue log e.run e.call e.reply
-says_true log e h f = says_entering log e.lane e.run e.call e.reply (λ name. piped name log h) (entering log e f)
-
-opening_says : (log : List Entry) (run : Option ℕ) (call : Call) (reply : Reply) → reply ≡ Opened → SaysTrue log run call reply
-opening_says log run call reply q = subst (SaysTrue log run call) (sym q) tt
-
-says_cut : (before : List Entry) (e : Entry) → IsCut before e → SaysTrue before e.run e.call e.reply
-says_cut before e (cut_opens none o) = opening_says before e.run e.call e.reply o.reply
-says_cut before e (cut_follows h f) = says_true before e h f
-
-pub replies_true : (before after : List Entry) (e : Entry) → IsLegal (before ++ e ∷ after) → SaysTrue before e.run e.call e.reply
-replies_true before after e h = says_cut before e (legal_cut before after e h)

@@ -65,7 +65,7 @@ opens_job lanes some few = record {
     some_budget = omega arith;
     small_budget = omega arith;
     few_files = omega arith;
-    master = (inl refl, refl);
+    master = (refl, refl);
     names = refl;
     distinct = (all_apart master_file.name (child_file ∷ []) refl, (All-nil _, tt));
   };
@@ -84,7 +84,7 @@ opens_more = record {
     some_budget = omega arith;
     small_budget = omega arith;
     few_files = omega arith;
-    master = (inl refl, refl);
+    master = (refl, refl);
     names = refl;
     distinct = (
       all_apart master_file.name (child_file ∷ bad_file ∷ data_file ∷ []) refl,

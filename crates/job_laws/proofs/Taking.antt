@@ -1,8 +1,7 @@
 -- Events that are taken: each was sent, they come in order, and none comes twice.
 
 use Rattle.std.proofs.Common.{◌≡◌, ◌≢◌, ◌≤◌, ◌<◌, ℕ, ℤ, pos, suc, zero, ◌+◌, Bool, true, false, ◌&&◌, List, [], ◌∷◌, ◌++◌, Option, Some, None, refl, sym, ap, ◌∙◌, subst, inl, inr, ◌⊎◌, length, length-append, drop, map, cond, arith, append_assoc, append-nil}
-use Rattle.std.specs.Prelude.{filter, slice_get, if◌then◌else◌}
-use Rattle.std.specs.Option.{option_map_or}
+use Rattle.std.specs.Prelude.{filter, slice_get, option_and_then, if◌then◌else◌}
 use Rattle.std.proofs.Math.Seq.{drop-append_seam}
 use Rattle.std.proofs.lemmas.Bool.{eq-eqb}
 use Rattle.std.proofs.lemmas.List.{map-append, length-map}
@@ -17,10 +16,10 @@ use Rattle.job_calls.specs.declared.entry.Entry.{Entry}
 use Rattle.job_calls.specs.Moments.{Moment, moments_from, moments, place_of}
 use Rattle.job_calls.specs.Words.{is_run}
 use Rattle.job_calls.specs.Models.{parent_of}
-use Rattle.job_calls.specs.Events.{receiver_of, comes_to, arrivals, is_took, taken_count, event_of, event_at}
-use Rattle.job_calls.specs.Answers.{first_event}
+use Rattle.job_calls.specs.Events.{receiver_of, comes_to, arrivals, is_took, taken_count, first_event, Event, event_of, event_at, front}
 use Rattle.job_calls.specs.Legal.{IsLegal, IsOpening, Follows}
-use Rattle.job_laws.specs.Laws.{IsSent, IsEnd, IsEvent, IsTaken, place_taken, taken}
+use Rattle.job_laws.specs.Truth.{IsSent, IsEnd, IsEvent, IsTaken}
+use Rattle.job_laws.specs.Order.{place_taken, places_taken, TakesInOrder, TakesOnce}
 use Rattle.job_laws.proofs.Growing.{legal_induct, moments-snoc, legal_cut, IsCut, opens as cut_opens, follows as cut_follows}
 use Rattle.job_laws.proofs.Lists.{none_some, some_is, get_behind, first_is, same_cut, tail_of}
 use Rattle.job_laws.proofs.Outcomes as outcome
@@ -32,26 +31,50 @@ idle_took : (reply : Reply) → is_idle reply ≡ true → is_took reply ≡ fal
 idle_took (Took place class value) e = absurd (false_true e)
 idle_took reply e = refl
 
+event_place : (place : ℕ) (call : Call) (event : Event) → event_of place call ≡ Some event → event.place ≡ place
+event_place place (Send to class value) event q = ap (λ (x : Event). x.place) (sym (some_is _ event q))
+event_place place (Finish end) event q = ap (λ (x : Event). x.place) (sym (some_is _ event q))
+event_place place call event q = none_some event q
+
+at_place : (place : ℕ) (o : Option Entry) (event : Event) → option_and_then (λ (e : Entry). event_of place e.call) o ≡ Some event → event.place ≡ place
+at_place place None event q = none_some event q
+at_place place (Some e) event q = event_place place e.call event q
+
+front_by : (log : List Entry) (o : Option ℕ) (event : Event) → option_and_then (λ place. event_at place log) o ≡ Some event
+    → (o ≡ Some event.place) × (event_at event.place log ≡ Some event)
+front_by log None event q = none_some event q
+front_by log (Some place) event q =
+    let same = at_place place (slice_get log place) event q in
+    (ap Some (sym same), ap (λ n. event_at n log) same ∙ q)
+
 -- what an answer that takes an event is
 pub record Taking (log : List Entry) (run : ℕ) (reply : Reply) : Type 0 where
-  pub place : ℕ
-  pub first : first_event run log ≡ Some place
-  pub reply_is : reply ≡ Took (record { 0 = place }) (event_at place log).0 (event_at place log).1
+  pub event : Event
+  pub first : first_event run log ≡ Some event.place
+  pub at : event_at event.place log ≡ Some event
+  pub reply_is : reply ≡ Took (record { 0 = event.place }) event.class event.value
+
+pub taking : (log : List Entry) (run : ℕ) (event : Event) → front run log ≡ Some event → Taking log run (Took (record { 0 = event.place }) event.class event.value)
+taking log run event q =
+    let both = front_by log (first_event run log) event q in
+    record { event = event; first = both.0; at = both.1; reply_is = refl }
 
 no_taking : {A : Type 0} (reply : Reply) → is_took reply ≡ false → is_took reply ≡ true → A
 no_taking reply a b = absurd (false_true (sym a ∙ b))
 
 took_outcome : (log : List Entry) (run : ℕ) (call : Call) (reply : Reply) → Outcome log run call reply → is_took reply ≡ true → Taking log run reply
-took_outcome log run _ _ (outcome.idle call reply is) t = no_taking reply (idle_took reply is) t
+took_outcome log run _ _ (outcome.idle call reply is can) t = no_taking reply (idle_took reply is) t
 took_outcome log run _ _ (outcome.granted call is) t = absurd (false_true t)
-took_outcome log run _ _ (outcome.started model params less) t = absurd (false_true t)
-took_outcome log run _ _ (outcome.next_took place q) t = record { place = place; first = q; reply_is = refl }
-took_outcome log run _ _ (outcome.drop_took place q) t = record { place = place; first = q; reply_is = refl }
+took_outcome log run _ _ (outcome.compiled src dst) t = absurd (false_true t)
+took_outcome log run _ _ (outcome.loaded file source q) t = absurd (false_true t)
+took_outcome log run _ _ (outcome.started model params is less) t = absurd (false_true t)
+took_outcome log run _ _ (outcome.next_took event q) t = taking log run event q
+took_outcome log run _ _ (outcome.drop_took event q) t = taking log run event q
 took_outcome log run _ _ (outcome.queued to class value receiver) t = absurd (false_true t)
-took_outcome log run _ _ (outcome.found_write name place q) t = absurd (false_true t)
+took_outcome log run _ _ (outcome.found_write name write q) t = absurd (false_true t)
 took_outcome log run _ _ (outcome.found_file name bytes q d) t = absurd (false_true t)
 took_outcome log run _ _ (outcome.reads name q) t = absurd (false_true t)
-took_outcome log run _ _ (outcome.joins name a b d) t = absurd (false_true t)
+took_outcome log run _ _ (outcome.joins name place a b d s) t = absurd (false_true t)
 took_outcome log run _ _ (outcome.put name bytes j) t = absurd (false_true t)
 took_outcome log run _ _ (outcome.took_all name) t = absurd (false_true t)
 took_outcome log run _ _ (outcome.ended name a b) t = absurd (false_true t)
@@ -64,8 +87,8 @@ pub record Taker (log : List Entry) (run : Option ℕ) (call : Call) (reply : Re
 
 took_entering : (log : List Entry) (lane : ℕ) (run : Option ℕ) (call : Call) (reply : Reply) → Entering log lane run call reply
     → is_took reply ≡ true → Taker log run call reply
-took_entering log lane _ _ _ (enter.claims k none q) t = absurd (false_true t)
-took_entering log lane _ _ _ (enter.told_done not_done none) t = absurd (false_true t)
+took_entering log lane _ _ _ (enter.claims k source params none q s p) t = absurd (false_true t)
+took_entering log lane _ _ _ (enter.told_done not_done none q is) t = absurd (false_true t)
 took_entering log lane _ _ _ enter.quits t = absurd (false_true t)
 took_entering log lane _ _ _ (enter.finishes run end held) t = absurd (false_true t)
 took_entering log lane _ _ _ (enter.acts run call reply held fresh ends_fit_ for_run no_finish answered) t =
@@ -137,34 +160,40 @@ made_by before r run (Send to class value) (Queued receiver) q =
 made_by before r (Some run) (Finish end) reply q = ended run end reply q
 made_by before r run call reply q = none_some r q
 
-event_is : (before : List Entry) (r : ℕ) (run : Option ℕ) (call : Call) (reply : Reply) (lane : ℕ) → Made before r run call reply
-    → IsSent (record { lane = lane; run = run; call = call; reply = reply }) r (event_of call).0 (event_of call).1
-    ⊎ IsEnd before (record { lane = lane; run = run; call = call; reply = reply }) r (event_of call).0 (event_of call).1
-event_is before r _ _ _ lane (sent run to class value) = inl (record { to = to; sent = refl; queued = refl })
-event_is before r _ _ _ lane (ended run end reply q) =
-    inr (record { run = run; end = end; by = refl; ended = refl; started = q; class_is = refl; value_is = refl })
+event_is : (before : List Entry) (r place : ℕ) (run : Option ℕ) (call : Call) (reply : Reply) (lane : ℕ) (event : Event) → Made before r run call reply
+    → event_of place call ≡ Some event
+    → IsSent (record { lane = lane; run = run; call = call; reply = reply }) r event.class event.value
+    ⊎ IsEnd before (record { lane = lane; run = run; call = call; reply = reply }) r event.class event.value
+event_is before r place _ _ _ lane event (sent run to class value) q =
+    let e : Entry = record { lane = lane; run = run; call = Send to class value; reply = Queued r } in
+    subst (λ (x : Event). IsSent e r x.class x.value ⊎ IsEnd before e r x.class x.value) (some_is _ event q)
+    (inl (record { to = to; sent = refl; queued = refl }))
+event_is before r place _ _ _ lane event (ended run end reply p) q =
+    let e : Entry = record { lane = lane; run = Some run; call = Finish end; reply = reply } in
+    subst (λ (x : Event). IsSent e r x.class x.value ⊎ IsEnd before e r x.class x.value) (some_is _ event q)
+    (inr (record { run = run; end = end; by = refl; ended = refl; started = p; class_is = refl; value_is = refl }))
 
--- the class and value at a place are those of the entry there
+-- the event at a place is that of the entry there
 at_cut : (earlier : List Entry) (event : Entry) (rest log : List Entry) (place : ℕ) → log ≡ earlier ++ event ∷ rest → length earlier ≡ place
-    → event_at place log ≡ event_of event.call
+    → event_at place log ≡ event_of place event.call
 at_cut earlier event rest log place cut at =
-    ap (λ o. option_map_or (λ (e : Entry). event_of e.call) o (pos 0, pos 0)) (
+    ap (option_and_then (λ (e : Entry). event_of place e.call)) (
     ap (λ xs. slice_get xs place) cut ∙ ap (slice_get (earlier ++ event ∷ rest)) (sym at) ∙ get_behind earlier event rest
     )
 
-event_from : (log : List Entry) (r place : ℕ) → Arrival r place [] log → IsEvent log place r (event_at place log).0 (event_at place log).1
-event_from log r place a =
+event_from : (log : List Entry) (r : ℕ) (event : Event) → event_at event.place log ≡ Some event → Arrival r event.place [] log
+    → IsEvent log event.place r event.class event.value
+event_from log r event q a =
     let m = made_by a.earlier r a.event.run a.event.call a.event.reply (is_run-some r _ a.comes) in
-    let same = at_cut a.earlier a.event a.rest log place a.cut a.place_is in
-    subst (λ x. IsEvent log place r x.0 x.1) (sym same)
-    (record {
+    let same = at_cut a.earlier a.event a.rest log event.place a.cut a.place_is in
+    record {
       before = a.earlier;
       event = a.event;
       after = a.rest;
       cut = a.cut;
       place_is = a.place_is;
-      made = event_is a.earlier r a.event.run a.event.call a.event.reply a.event.lane m;
-    })
+      made = event_is a.earlier r event.place a.event.run a.event.call a.event.reply a.event.lane event m (sym same ∙ q);
+    }
 
 abbrev class_taken : Reply → ℤ
 class_taken (Took place class value) = class
@@ -178,31 +207,31 @@ value_taken _ = pos 0
 pub taken_is_event : (log : List Entry) (run : Option ℕ) (call : Call) (place : Place) (class value : ℤ)
     → Taker log run call (Took place class value) → IsTaken log run place.0 class value
 taken_is_event log run call place class value t =
-    let a = arrival_from t.taker t.taking.place [] log (taken_count t.taker log) t.taking.first in
-    let e = event_from log t.taker t.taking.place a in
-    let p : place.0 ≡ t.taking.place = ap place_taken t.taking.reply_is in
-    let c : class ≡ (event_at t.taking.place log).0 = ap class_taken t.taking.reply_is in
-    let v : value ≡ (event_at t.taking.place log).1 = ap value_taken t.taking.reply_is in
+    let event = t.taking.event in
+    let e = event_from log t.taker event t.taking.at (arrival_from t.taker event.place [] log (taken_count t.taker log) t.taking.first) in
+    let p : place.0 ≡ event.place = ap place_taken t.taking.reply_is in
+    let c : class ≡ event.class = ap class_taken t.taking.reply_is in
+    let v : value ≡ event.value = ap value_taken t.taking.reply_is in
     record {
       taker = t.taker;
       by = t.by;
       event =
           subst (λ x. IsEvent log x t.taker class value) (sym p)
-          (subst (λ x. IsEvent log t.taking.place t.taker x value) (sym c)
-          (subst (λ x. IsEvent log t.taking.place t.taker (event_at t.taking.place log).0 x) (sym v) e));
+          (subst (λ x. IsEvent log event.place t.taker x value) (sym c)
+          (subst (λ x. IsEvent log event.place t.taker event.class x) (sym v) e));
     }
 
 -- the entries by which run r took an event
 abbrev is_taking : ℕ → Entry → Bool
 is_taking r e = is_run r e.run && is_took e.reply
 
-taken_length : (r : ℕ) (log : List Entry) → length (taken r log) ≡ taken_count r log
+taken_length : (r : ℕ) (log : List Entry) → length (places_taken r log) ≡ taken_count r log
 taken_length r log = length-map (filter (is_taking r) log) (λ (e : Entry). place_taken e.reply) ∙ length-filter (is_taking r) log
 
-one_taken : (r : ℕ) (e : Entry) → taken r (e ∷ []) ≡ (if is_taking r e then place_taken e.reply ∷ [] else [])
+one_taken : (r : ℕ) (e : Entry) → places_taken r (e ∷ []) ≡ (if is_taking r e then place_taken e.reply ∷ [] else [])
 one_taken r e = elim (is_taking r e) as (λ b. map (λ (x : Entry). place_taken x.reply) (cond b (e ∷ []) []) ≡ cond b (place_taken e.reply ∷ []) []) [ true ↦ refl | false ↦ refl ]
 
-taken-snoc : (r : ℕ) (log : List Entry) (e : Entry) → taken r (log ++ e ∷ []) ≡ taken r log ++ taken r (e ∷ [])
+taken-snoc : (r : ℕ) (log : List Entry) (e : Entry) → places_taken r (log ++ e ∷ []) ≡ places_taken r log ++ places_taken r (e ∷ [])
 taken-snoc r log e =
     ap (map (λ (x : Entry). place_taken x.reply)) (filter-append (is_taking r) log (e ∷ []))
     ∙ map-append (λ (x : Entry). place_taken x.reply) (filter (is_taking r) log) (filter (is_taking r) (e ∷ []))
@@ -214,54 +243,51 @@ arrivals-snoc r log e =
     ∙ ap (map place_of) (filter-append (comes_to r) (moments log) (record { before = log; entry = e } ∷ []))
     ∙ map-append place_of (filter (comes_to r) (moments log)) (filter (comes_to r) (record { before = log; entry = e } ∷ []))
 
--- what a run took is a beginning of what came to it
-abbrev pub InOrder : List Entry → Type 0
-InOrder log = (r : ℕ) → (rest : List ℕ) × (arrivals r log ≡ taken r log ++ rest)
-
 -- the rest begins with the queue's first
-rest_first : (r place : ℕ) (log : List Entry) (rest : List ℕ) → arrivals r log ≡ taken r log ++ rest → first_event r log ≡ Some place → rest ≡ place ∷ tail_of rest
+rest_first : (r place : ℕ) (log : List Entry) (rest : List ℕ) → arrivals r log ≡ places_taken r log ++ rest → first_event r log ≡ Some place → rest ≡ place ∷ tail_of rest
 rest_first r place log rest q first =
     let left : drop (taken_count r log) (arrivals r log) ≡ rest =
-    ap (λ n. drop n (arrivals r log)) (sym (taken_length r log)) ∙ ap (drop (length (taken r log))) q ∙ drop-append_seam (taken r log) rest in
+    ap (λ n. drop n (arrivals r log)) (sym (taken_length r log)) ∙ ap (drop (length (places_taken r log))) q ∙ drop-append_seam (places_taken r log) rest in
     first_is rest place (ap (λ xs. slice_get xs 0) (sym left) ∙ first)
 
-order_by : (r : ℕ) (log : List Entry) (e : Entry) (rest : List ℕ) → arrivals r log ≡ taken r log ++ rest → Follows log e
-    → (b : Bool) → is_taking r e ≡ b → (more : List ℕ) × (arrivals r (log ++ e ∷ []) ≡ taken r (log ++ e ∷ []) ++ more)
+order_by : (r : ℕ) (log : List Entry) (e : Entry) (rest : List ℕ) → arrivals r log ≡ places_taken r log ++ rest → Follows log e
+    → (b : Bool) → is_taking r e ≡ b → (more : List ℕ) × (arrivals r (log ++ e ∷ []) ≡ places_taken r (log ++ e ∷ []) ++ more)
 order_by r log e rest q f false is =
     let new = map place_of (filter (comes_to r) (record { before = log; entry = e } ∷ [])) in
-    let none : taken r (e ∷ []) ≡ [] = one_taken r e ∙ ap (λ b. if b then place_taken e.reply ∷ [] else []) is in (
+    let none : places_taken r (e ∷ []) ≡ [] = one_taken r e ∙ ap (λ b. if b then place_taken e.reply ∷ [] else []) is in (
       rest ++ new,
       arrivals-snoc r log e
           ∙ ap (λ xs. xs ++ new) q
-          ∙ append_assoc (taken r log) rest new
-          ∙ ap (λ xs. xs ++ (rest ++ new)) (sym (taken-snoc r log e ∙ ap (λ xs. taken r log ++ xs) none ∙ append-nil (taken r log))),
+          ∙ append_assoc (places_taken r log) rest new
+          ∙ ap (λ xs. xs ++ (rest ++ new)) (sym (taken-snoc r log e ∙ ap (λ xs. places_taken r log ++ xs) none ∙ append-nil (places_taken r log))),
     )
 order_by r log e rest q f true is =
     let both = enter.and_true (is_run r e.run) (is_took e.reply) is in
     let t = takes log e f both.1 in
     let same : t.taker ≡ r = some_is t.taker r (sym t.by ∙ is_run-some r e.run both.0) in
-    let at : place_taken e.reply ≡ t.taking.place = ap place_taken t.taking.reply_is in
+    let at : place_taken e.reply ≡ t.taking.event.place = ap place_taken t.taking.reply_is in
     let first : first_event r log ≡ Some (place_taken e.reply) =
     ap (λ k. first_event k log) (sym same) ∙ t.taking.first ∙ ap Some (sym at) in
     let head = rest_first r (place_taken e.reply) log rest q first in
     let new = map place_of (filter (comes_to r) (record { before = log; entry = e } ∷ [])) in
-    let one : taken r (e ∷ []) ≡ place_taken e.reply ∷ [] = one_taken r e ∙ ap (λ b. if b then place_taken e.reply ∷ [] else []) is in (
+    let one : places_taken r (e ∷ []) ≡ place_taken e.reply ∷ [] = one_taken r e ∙ ap (λ b. if b then place_taken e.reply ∷ [] else []) is in (
       tail_of rest ++ new,
       arrivals-snoc r log e
-          ∙ ap (λ xs. xs ++ new) (q ∙ ap (λ xs. taken r log ++ xs) head)
-          ∙ append_assoc (taken r log) (place_taken e.reply ∷ tail_of rest) new
-          ∙ sym (append_assoc (taken r log) (place_taken e.reply ∷ []) (tail_of rest ++ new))
-          ∙ ap (λ xs. xs ++ (tail_of rest ++ new)) (sym (taken-snoc r log e ∙ ap (λ xs. taken r log ++ xs) one)),
+          ∙ ap (λ xs. xs ++ new) (q ∙ ap (λ xs. places_taken r log ++ xs) head)
+          ∙ append_assoc (places_taken r log) (place_taken e.reply ∷ tail_of rest) new
+          ∙ sym (append_assoc (places_taken r log) (place_taken e.reply ∷ []) (tail_of rest ++ new))
+          ∙ ap (λ xs. xs ++ (tail_of rest ++ new)) (sym (taken-snoc r log e ∙ ap (λ xs. places_taken r log ++ xs) one)),
     )
 
-order_first : (r : ℕ) (e : Entry) → IsOpening e → (rest : List ℕ) × (arrivals r (e ∷ []) ≡ taken r (e ∷ []) ++ rest)
+order_first : (r : ℕ) (e : Entry) → IsOpening e → (rest : List ℕ) × (arrivals r (e ∷ []) ≡ places_taken r (e ∷ []) ++ rest)
 order_first r e o =
-    let none : taken r (e ∷ []) ≡ [] =
+    let none : places_taken r (e ∷ []) ≡ [] =
     one_taken r e ∙ ap (λ k. if is_run r k && is_took e.reply then place_taken e.reply ∷ [] else []) o.run in
     (arrivals r (e ∷ []), sym (ap (λ xs. xs ++ arrivals r (e ∷ [])) none))
 
-pub in_order : (journal : List Entry) → IsLegal journal → InOrder journal
-in_order = legal_induct InOrder
+-- what a run took is a beginning of what came to it
+pub in_order : (journal : List Entry) → IsLegal journal → TakesInOrder journal
+in_order = legal_induct TakesInOrder
     (λ e o r. order_first r e o)
     (λ log e p f r. order_by r log e (p r).0 (p r).1 f (is_taking r e) refl)
 
@@ -299,7 +325,7 @@ pair_rises : (n p q : ℕ) (xs ys zs : List ℕ) → Rises n (xs ++ p ∷ (ys ++
 pair_rises n p q [] ys zs h = let a = above (p + 1) (p + 1) q ys zs (omega arith) h.1 in omega (arith, a)
 pair_rises n p q (x ∷ xs) ys zs h = pair_rises (x + 1) p q xs ys zs h.1
 
-taken-append : (r : ℕ) (xs ys : List Entry) → taken r (xs ++ ys) ≡ taken r xs ++ taken r ys
+taken-append : (r : ℕ) (xs ys : List Entry) → places_taken r (xs ++ ys) ≡ places_taken r xs ++ places_taken r ys
 taken-append r xs ys =
     ap (map (λ (x : Entry). place_taken x.reply)) (filter-append (is_taking r) xs ys)
     ∙ map-append (λ (x : Entry). place_taken x.reply) (filter (is_taking r) xs) (filter (is_taking r) ys)
@@ -314,7 +340,7 @@ pub record TakesEvent (log : List Entry) (e : Entry) : Type 0 where
 takes_event : (log : List Entry) (e : Entry) → Follows log e → is_took e.reply ≡ true → TakesEvent log e
 takes_event log e f t =
     let k = takes log e f t in
-    let at : place_taken e.reply ≡ k.taking.place = ap place_taken k.taking.reply_is in
+    let at : place_taken e.reply ≡ k.taking.event.place = ap place_taken k.taking.reply_is in
     let first : first_event k.taker log ≡ Some (place_taken e.reply) = k.taking.first ∙ ap Some (sym at) in
     record {
       taker = k.taker;
@@ -340,15 +366,15 @@ apart_by r before between e f h takes_e first =
     let log = before ++ e ∷ between in
     let o = in_order log h r in
     let head = rest_first r (place_taken f.reply) log o.0 o.1 first in
-    let one : taken r (e ∷ []) ≡ place_taken e.reply ∷ [] = one_taken r e ∙ ap (λ b. if b then place_taken e.reply ∷ [] else []) takes_e in
-    let tail : taken r (e ∷ between) ≡ place_taken e.reply ∷ taken r between =
-    taken-append r (e ∷ []) between ∙ ap (λ xs. xs ++ taken r between) one in
-    let whole : arrivals r log ≡ taken r before ++ place_taken e.reply ∷ (taken r between ++ place_taken f.reply ∷ tail_of o.0) =
+    let one : places_taken r (e ∷ []) ≡ place_taken e.reply ∷ [] = one_taken r e ∙ ap (λ b. if b then place_taken e.reply ∷ [] else []) takes_e in
+    let tail : places_taken r (e ∷ between) ≡ place_taken e.reply ∷ places_taken r between =
+    taken-append r (e ∷ []) between ∙ ap (λ xs. xs ++ places_taken r between) one in
+    let whole : arrivals r log ≡ places_taken r before ++ place_taken e.reply ∷ (places_taken r between ++ place_taken f.reply ∷ tail_of o.0) =
     o.1
-    ∙ ap (λ xs. taken r log ++ xs) head
-    ∙ ap (λ xs. xs ++ place_taken f.reply ∷ tail_of o.0) (taken-append r before (e ∷ between) ∙ ap (λ xs. taken r before ++ xs) tail)
-    ∙ append_assoc (taken r before) (place_taken e.reply ∷ taken r between) (place_taken f.reply ∷ tail_of o.0) in
-    pair_rises 0 (place_taken e.reply) (place_taken f.reply) (taken r before) (taken r between) (tail_of o.0) (subst (Rises 0) whole (places_rise r [] log))
+    ∙ ap (λ xs. places_taken r log ++ xs) head
+    ∙ ap (λ xs. xs ++ place_taken f.reply ∷ tail_of o.0) (taken-append r before (e ∷ between) ∙ ap (λ xs. places_taken r before ++ xs) tail)
+    ∙ append_assoc (places_taken r before) (place_taken e.reply ∷ places_taken r between) (place_taken f.reply ∷ tail_of o.0) in
+    pair_rises 0 (place_taken e.reply) (place_taken f.reply) (places_taken r before) (places_taken r between) (tail_of o.0) (subst (Rises 0) whole (places_rise r [] log))
 
 -- no event is taken twice
 pub taken_apart : (before between : List Entry) (e f : Entry) → IsLegal (before ++ e ∷ between) → Follows before e → Follows (before ++ e ∷ between) f
@@ -371,8 +397,8 @@ once_cut before between e f (cut_opens none o) g te tf = absurd (none_opens e o 
 once_cut before between e f (cut_follows h k) (cut_opens none o) te tf = absurd (none_opens f o tf)
 once_cut before between e f (cut_follows h k) (cut_follows g l) te tf = taken_apart before between e f g k l te tf
 
-pub taken_once : (before between after : List Entry) (e f : Entry) → IsLegal (before ++ e ∷ between ++ f ∷ after)
-    → is_took e.reply ≡ true → is_took f.reply ≡ true → place_taken e.reply ≢ place_taken f.reply
-taken_once before between after e f h te tf =
-    let whole : before ++ e ∷ between ++ f ∷ after ≡ before ++ e ∷ (between ++ f ∷ after) = append_assoc before (e ∷ between) (f ∷ after) in
-    once_cut before between e f (legal_cut before (between ++ f ∷ after) e (subst IsLegal whole h)) (legal_cut (before ++ e ∷ between) after f h) te tf
+pub taken_once : (journal : List Entry) → IsLegal journal → TakesOnce journal
+taken_once journal h before between after e f cut te tf =
+    let whole : journal ≡ before ++ e ∷ (between ++ f ∷ after) = cut ∙ append_assoc before (e ∷ between) (f ∷ after) in
+    once_cut before between e f (legal_cut before (between ++ f ∷ after) e (subst IsLegal whole h))
+    (legal_cut (before ++ e ∷ between) after f (subst IsLegal cut h)) te tf

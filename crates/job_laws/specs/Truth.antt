@@ -84,9 +84,9 @@ pub record HasSource (journal : List Entry) (k source : ℕ) (params : List ℕ)
 
 -- what a reply says of the journal before it
 abbrev pub SaysTrue : List Entry → Option ℕ → Call → Reply → Type 0
+SaysTrue journal run call (Took place class value) = IsTaken journal run place.0 class value
 SaysTrue journal run Claim (Claimed k source params) = HasSource journal k source params
 SaysTrue journal run (Load file) (Loaded model source) = IsAccepted journal source
-SaysTrue journal run call (Took place class value) = IsTaken journal run place.0 class value
 SaysTrue journal run (Read name) (Found place bytes) =
     IsLastWrite journal name place.0 bytes ⊎ IsListed journal name place.0 bytes
 SaysTrue journal run (PipeTake name) (Bytes bytes) =

@@ -17,7 +17,7 @@ returns c = (
       some_budget = omega arith;
       small_budget = omega arith;
       few_files = omega arith;
-      master = (inl refl, refl);
+      master = (refl, refl);
       names = refl;
       distinct = (All-nil _, tt);
     };
