@@ -71,9 +71,19 @@ fits_run fit before lane None call reply range answered may ours more =
 fits_run fit before lane (Some k) call reply range answered may ours more =
     fit before lane k call reply answered ours more range
 
+-- a reply fits its call
+pub fits_call : AnswersFit → (before : List Entry) (lane : ℕ) (run : Option ℕ) (call : Call) (result : Result Acted Held)
+    → IfOk result (λ acted. InRange acted.reply)
+    → IfOk result (λ acted. answer_of before lane run call ≡ Ready acted.reply)
+    → IsTrue (fits (opening before) (own_entries lane before) lane run call)
+    → is_for_lane call ≡ false → is_finish call ≡ false → IfOk result (λ acted. FitsCall call acted.reply)
+fits_call fit before lane run call (Err held) range answered may ours more = tt
+fits_call fit before lane run call (Ok acted) range answered may ours more =
+    fits_run fit before lane run call acted.reply range answered may ours more
+
 -- the entry that was put, and what is known of it
 module _ (before after : List Entry) (lane : ℕ) (run : Option ℕ) (call : Call) where
-  Put : Result Acted Held → Type 0
+  abbrev pub Put : Result Acted Held → Type 0
   Put result = IfOk result (λ acted. after ≡ before ++ entry_of lane run call acted.reply ∷ [])
 
   -- its reply says what is true of the journal before it
@@ -81,15 +91,7 @@ module _ (before after : List Entry) (lane : ℕ) (run : Option ℕ) (call : Cal
   says truth (Err held) h put = tt
   says truth (Ok acted) h put = truth before [] (entry_of lane run call acted.reply) (subst IsLegal put h)
 
-  -- it fits its call
-  pub fits_call : AnswersFit → (result : Result Acted Held) → IfOk result (λ acted. InRange acted.reply)
-      → IfOk result (λ acted. answer_of before lane run call ≡ Ready acted.reply)
-      → IsTrue (fits (opening before) (own_entries lane before) lane run call)
-      → is_for_lane call ≡ false → is_finish call ≡ false → IfOk result (λ acted. FitsCall call acted.reply)
-  fits_call fit (Err held) range answered may ours more = tt
-  fits_call fit (Ok acted) range answered may ours more = fits_run fit before lane run call acted.reply range answered may ours more
-
-  -- and it is Halt, or the call is Finish, where the run was asked to stop
+  -- it is Halt, or the call is Finish, where the run was asked to stop
   pub stops : KeepsLaws after → (result : Result Acted Held) → Put result → (k : ℕ) → run ≡ Some k → is_asked k before ≡ true
       → IfOk result (λ acted. (acted.reply ≡ Halt) ⊎ (is_finish call ≡ true))
   stops laws (Err held) put k by asked = tt

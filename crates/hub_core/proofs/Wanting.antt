@@ -22,7 +22,7 @@ use Rattle.hub_core.specs.Hubs.{LacksMemory}
 use Rattle.hub_core.specs.Room.{takes_no_memory, MayWant}
 
 -- an answer that holds neither texts nor bytes
-is_light : Answer → Bool
+abbrev is_light : Answer → Bool
 is_light (Ready reply) = is_plain reply
 is_light answer.NotYet = true
 is_light answer.Shut = true
@@ -49,6 +49,9 @@ peek_light (Some event) = refl
 
 true_is_not_false : true ≡ false → ⊥
 true_is_not_false h = cc
+
+false_is_not_true : false ≡ true → ⊥
+false_is_not_true h = cc
 
 open_light : (journal : List Entry) (lane : ℕ) (run : Option ℕ) (call : Call) → takes_no_memory call ≡ true
     → is_light (open_answer journal lane run call) ≡ true
@@ -77,10 +80,11 @@ pub lacks : (spare : ℕ) (call : Call) (result : Result Acted Held)
 lacks spare call (Ok acted) served = tt
 lacks spare call (Err (NotYet same)) served = tt
 lacks spare call (Err (Shut same)) served = tt
-lacks spare call (Err (NoMemory same)) served = may_want spare call (takes_no_memory call) refl served
+lacks spare call (Err (NoMemory same)) served =
+    may_want spare call (takes_no_memory call) refl (λ some few. false_is_not_true (served some few))
 
 -- an answer that took memory was of a call that may want it
 pub wanted : {A B : Type 0} (spare : ℕ) (call : Call) (answer : Result A B) (error : B) → answer ≡ Err error
     → (IsTrue (takes_no_memory call) → IsOk answer) → MayWant spare call
 wanted spare call answer error is room =
-    may_want spare call (takes_no_memory call) refl (λ some few. subst IsOk is (room few))
+    may_want spare call (takes_no_memory call) refl (λ some few. false_is_not_true (subst IsOk is (room few)))

@@ -146,9 +146,9 @@ impl Hub {
         laws::legal_keeps_laws();
         laws::replies_are_true();
         laws::answers_fit();
-        let result = self.serve(lane, run, call);
-        in_range(&result);
-        result
+        let outcome = self.serve(lane, run, call);
+        in_range(&outcome);
+        outcome
     }
 
     /// Answers the call, and puts it with its reply at the end of the journal.
@@ -216,10 +216,10 @@ impl Hub {
 }
 
 /// What was replied is in the ranges of its types: it does nothing, and says so.
-fn in_range(result: &Result<Acted, Held>)
-    ensures { IfOk result.now (λ acted. InRange acted.reply) }
+fn in_range(outcome: &Result<Acted, Held>)
+    ensures { IfOk outcome.now (λ acted. InRange acted.reply) }
 {
-    match result {
+    match outcome {
         Ok(acted) => acted.reply.in_range(),
         Err(_) => (),
     }
