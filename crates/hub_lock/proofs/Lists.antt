@@ -1,5 +1,5 @@
 -- Lists: sums over views, the entries of a lane, and beginnings.
-use Rattle.std.proofs.Common.{◌≡◌, ◌≢◌, ℕ, zero, suc, ◌+◌, ◌<◌, ◌≤◌, Bool, cond, eqb, eq-eqb, ne_eqb, List, [], ◌∷◌, ◌++◌, All, length, set, sum_by, slice_get, refl, sym, ap, ◌∙◌, append_assoc, append-nil, arith}
+use Rattle.std.proofs.Common.{◌≡◌, ◌≢◌, ℕ, zero, suc, ◌+◌, ◌<◌, ◌≤◌, Bool, cond, eqb, eq-eqb, ne_eqb, List, [], ◌∷◌, ◌++◌, All, length, set, sum_by, slice_get, ◌⊎◌, inl, inr, ⊎_elim, refl, sym, ap, ◌∙◌, append_assoc, append-nil, arith}
 use Rattle.std.proofs.lemmas.List.{append_cancel_left, length-append}
 use Rattle.std.proofs.lemmas.List.Sums.{sum_by-cons}
 use Rattle.std.proofs.lemmas.List.Elements.{filter-append, All-head, All-tail}
@@ -25,6 +25,11 @@ module _ {A : Type 0} (f : A → ℕ) where
   sum_by-most h [] = omega arith
   sum_by-most h (x ∷ xs) = let a = sum_by-most h xs in let b = h x in omega (arith, sum_by-cons f x xs)
 
+  -- a sum of which all parts are 0
+  pub sum_by-none : (l : List A) → ((j : ℕ) (w : A) → get_elem? l j ≡ some w → f w ≡ 0) → sum_by f l ≡ 0
+  sum_by-none [] h = refl
+  sum_by-none (x ∷ xs) h = let first = h 0 x refl in let rest = sum_by-none xs (λ j w at. h (suc j) w at) in omega (arith, sum_by-cons f x xs)
+
   abbrev Part : List A → Type 0
   Part l = (j : ℕ) × (v : A) × (get_elem? l j ≡ some v) × (0 < f v)
 
@@ -36,6 +41,17 @@ module _ {A : Type 0} (f : A → ℕ) where
   pub sum_by-some : (l : List A) → 0 < sum_by f l → Part l
   sum_by-some [] h = absurd (omega arith)
   sum_by-some (x ∷ xs) h = some_of x xs (sum_by-some xs) h (f x) refl
+
+module _ {A : Type 0} (f : A → ℕ) where
+  -- a sum of which all parts but one are 0
+  pub sum_by-one : (l : List A) (i : ℕ) (v : A) → get_elem? l i ≡ some v → ((j : ℕ) (w : A) → j ≢ i → get_elem? l j ≡ some w → f w ≡ 0) → sum_by f l ≡ f v
+  sum_by-one [] i v e h = absurd (some-ne-none v (sym e))
+  sum_by-one (x ∷ xs) zero v e h =
+      let is : f x ≡ f v = ap f (some-injective x v e) in
+      let rest = sum_by-none f xs (λ j w at. h (suc j) w (λ q. absurd (omega arith)) at) in omega (arith, sum_by-cons f x xs)
+  sum_by-one (x ∷ xs) (suc i) v e h =
+      let first = h 0 x (λ q. absurd (omega arith)) refl in
+      let rest = sum_by-one xs i v e (λ j w ne at. h (suc j) w (λ q. ne (omega arith)) at) in omega (arith, sum_by-cons f x xs)
 
 append_nil_left : {A : Type 0} (xs ys : List A) → xs ++ ys ≡ [] → xs ≡ []
 append_nil_left [] ys e = refl
@@ -85,6 +101,13 @@ module _ {E : Type 0} where
 
   pub length-one_more : (xs : List E) (e : E) → length (xs ++ e ∷ []) ≡ length xs + 1
   length-one_more xs e = length-append xs (e ∷ [])
+
+-- the last item of a longer list, or an earlier one
+pub at_pushed : {A : Type 0} (l : List A) (a b : A) (j : ℕ) → get_elem? (l ++ a ∷ []) j ≡ some b → (get_elem? l j ≡ some b) ⊎ ((j ≡ length l) × (a ≡ b))
+at_pushed [] a b zero e = inr (refl, some-injective a b e)
+at_pushed [] a b (suc j) e = absurd (some-ne-none b (sym e))
+at_pushed (x ∷ xs) a b zero e = inl e
+at_pushed (x ∷ xs) a b (suc j) e = ⊎_elim (λ (h : get_elem? xs j ≡ some b). inl h) (λ (h : (j ≡ length xs) × (a ≡ b)). let i = h.0 in inr (omega arith, h.1)) (at_pushed xs a b j e)
 
 pub at_less : {A : Type 0} (l : List A) (i : ℕ) (a : A) → get_elem? l i ≡ some a → i < length l
 at_less [] i a e = absurd (some-ne-none a (sym e))

@@ -1,12 +1,14 @@
 //! What a seat knows, the rule that every step keeps, and the kinds of step.
 
+use crate::mark::Mark;
 use crate::story::Story;
 use atomic_table::{Join, Play, Split, TableRule};
 use std::collections::LinkedList;
 use std::marker::PhantomData;
 use std::snapshot::Snapshot;
 
-/// How far a seat is in a call. A ticket counts from 0 without end; the words of the lock have it modulo 2^64.
+/// How far a seat is in a call. A ticket counts from 0 without end; the words of the lock have it
+/// modulo 2^64.
 pub enum Stage {
     Idle,
     Waits(u64),
@@ -18,12 +20,20 @@ pub enum Stage {
 pub struct View<E> {
     pub lane: u64,
     pub seen: LinkedList<E>,
+    // Of each turn of the seat, in order.
+    pub marks: LinkedList<Mark>,
     pub stage: Stage,
-    pub turns: u64,
     // Of lane 0's seat: the number of seats made.
     pub made: u64,
-    // Of lane 0's seat: what the seats of lanes 1, 2 and so on had seen when they were joined.
-    pub joined: LinkedList<LinkedList<E>>,
+    // Of lane 0's seat: what is kept of the seats of lanes 1, 2 and so on that were joined into it.
+    pub joined: LinkedList<Part<E>>,
+}
+
+/// What is kept of a seat that was joined into lane 0's: what it had seen, and its marks. No value of it
+/// is made.
+pub struct Part<E> {
+    pub seen: LinkedList<E>,
+    pub marks: LinkedList<Mark>,
 }
 
 /// The lock's rule, for the story `S`.
@@ -32,7 +42,7 @@ pub struct Rule<S> {
 }
 
 impl<S: Story> TableRule<Option<S>, View<S::Entry>, Snapshot<S>> for Rule<S> {
-    ghost use Rattle.hub_lock.specs.Rule.{HasJournal, starting};
+    ghost use Rattle.hub_lock.specs.Inner.Rule.{HasJournal, starting};
 
     ghost holds = { λ _. HasJournal S.list S.lane_of S.sound };
 
@@ -42,7 +52,7 @@ impl<S: Story> TableRule<Option<S>, View<S::Entry>, Snapshot<S>> for Rule<S> {
 pub struct Draw;
 
 impl<S, E> Play<Option<S>, View<E>> for Draw {
-    ghost use Rattle.hub_lock.specs.Steps.{drew};
+    ghost use Rattle.hub_lock.specs.Inner.Steps.{drew};
 
     ghost then = { drew };
 }
@@ -52,7 +62,7 @@ pub struct Look<S> {
 }
 
 impl<S: Story> Play<Option<S>, View<S::Entry>> for Look<S> {
-    ghost use Rattle.hub_lock.specs.Steps.{looked};
+    ghost use Rattle.hub_lock.specs.Inner.Steps.{looked};
 
     ghost then = { looked S.list S.lane_of S.sound };
 }
@@ -62,15 +72,15 @@ pub struct Count<S> {
 }
 
 impl<S: Story> Play<Option<S>, View<S::Entry>> for Count<S> {
-    ghost use Rattle.hub_lock.specs.Steps.{counted};
+    ghost use Rattle.hub_lock.specs.Inner.Steps.{counted};
 
-    ghost then = { counted S.list S.lane_of S.sound };
+    ghost then = { counted S.list };
 }
 
 pub struct Pass;
 
 impl<S, E> Play<Option<S>, View<E>> for Pass {
-    ghost use Rattle.hub_lock.specs.Steps.{passed};
+    ghost use Rattle.hub_lock.specs.Inner.Steps.{passed};
 
     ghost then = { passed };
 }
@@ -78,7 +88,7 @@ impl<S, E> Play<Option<S>, View<E>> for Pass {
 pub struct Deal;
 
 impl<E> Split<View<E>> for Deal {
-    ghost use Rattle.hub_lock.specs.Steps.{dealt, fresh};
+    ghost use Rattle.hub_lock.specs.Inner.Steps.{dealt, fresh};
 
     ghost left = { dealt };
 
@@ -88,7 +98,7 @@ impl<E> Split<View<E>> for Deal {
 pub struct Merge;
 
 impl<E> Join<View<E>> for Merge {
-    ghost use Rattle.hub_lock.specs.Steps.{both, spent};
+    ghost use Rattle.hub_lock.specs.Inner.Steps.{both, spent};
 
     ghost both = { both };
 
