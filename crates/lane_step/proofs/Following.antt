@@ -44,6 +44,11 @@ run_follows o file image ran end course ends =
     ap (λ replies. course_of image [] replies o.budget) (no_replies o end) ∙ course in
     subst (RunFollows (schedule_of o end) 0 (line_of file.name end ran) file) (sym same) (took o file ran end ends)
 
+-- the run follows the first of these files
+abbrev HasFollowed : ℕ → ℕ → Listed → List Listed → Image → End → List (Option Behaviour) → ℕ → RunLine → Type 0
+HasFollowed lanes budget file files image end others =
+    Follows (schedule_of (opening_with lanes budget (file ∷ files)) end) (opening_with lanes budget (file ∷ files)) (Some (course_of image) ∷ others)
+
 by_file : (lanes budget : ℕ) (file : Listed) (files : List Listed) (image : Image) (ran : RunResult) (end : End) (others : List (Option Behaviour))
     → IsCourse image budget ran → end_of (stop_of ran.stop) ≡ Some end
     → FollowsSources (schedule_of (opening_with lanes budget (file ∷ files)) end) (line_of file.name end ran ∷ []) (Some (course_of image) ∷ others)
@@ -51,11 +56,8 @@ by_file lanes budget file files image ran end others course ends =
     let o = opening_with lanes budget (file ∷ files) in
     record { opened = o; opened_is = refl; all_runs = sym (one_run o end); each = each }
   where
-    abbrev Holds : ℕ → RunLine → Type 0
-    Holds = Follows (schedule_of (opening_with lanes budget (file ∷ files)) end) (opening_with lanes budget (file ∷ files)) (Some (course_of image) ∷ others)
-
-    one : (line : RunLine) → line_of file.name end ran ≡ line → Holds 0 line
-    one line same = subst (Holds 0) same (record {
+    one : (line : RunLine) → line_of file.name end ran ≡ line → HasFollowed lanes budget file files image end others 0 line
+    one line same = subst (HasFollowed lanes budget file files image end others 0) same (record {
       source = 0;
       params = [];
       file = file;
@@ -67,7 +69,7 @@ by_file lanes budget file files image ran end others course ends =
       follows = run_follows (opening_with lanes budget (file ∷ files)) file image ran end course ends;
     })
 
-    each : (run : ℕ) (line : RunLine) → slice_get (line_of file.name end ran ∷ []) run ≡ Some line → Holds run line
+    each : (run : ℕ) (line : RunLine) → slice_get (line_of file.name end ran ∷ []) run ≡ Some line → HasFollowed lanes budget file files image end others run line
     each zero line found = one line cc
     each (suc run) line found = cc
 
