@@ -6,7 +6,7 @@ use Rattle.bim_compile.specs.Sizes.{size_of_block}
 use Rattle.mos_meaning.specs.Syntax.{statements_of}
 use Rattle.mosel_run.proofs.KnownStatements.{sound-works}
 use Rattle.mosel_run.proofs.SmallModels.{block_short}
-use Rattle.mosel_run.proofs.jobs.image_of.Goals as goal
+use Rattle.mosel_run.proofs.image.image_of.Goals as goal
 
 pub compile-requires : goal.compile-requires
 compile-requires c = record {

@@ -4,8 +4,8 @@ use Rattle.std.specs.Str.{IsCharBoundary}
 use Rattle.std.proofs.lemmas.Str.{IsCharBoundary-before_ascii}
 use Rattle.std.proofs.lemmas.List.{get_or-drop}
 use Rattle.job_calls.specs.Legal.{IsSourceName}
-use Rattle.mosel_run.proofs.WholeJobs.{source_name}
-use Rattle.mosel_run.proofs.jobs.name_of_image.Goals as goal
+use Rattle.mosel_run.proofs.Opening.{source_name}
+use Rattle.mosel_run.proofs.image.name_of_image.Goals as goal
 
 four : (name : List ℕ) → IsSourceName name → 4 ≤ length name
 four name e = let l = length-drop (length name - 4) name in let k = ap (λ bytes. length bytes) e in omega arith
