@@ -1,5 +1,5 @@
 -- the refusal of a source is true of it alone
-use Rattle.std.proofs.Common.{◌≡◌, ◌∷◌, [], refl}
+use Rattle.std.proofs.Common.{◌≡◌, ◌∷◌, [], refl, subst}
 use Rattle.std.proofs.lemmas.Result.{IfOk-weaker}
 use Rattle.job_calls.specs.ErrorLines.{verdict_line}
 use Rattle.mosel_run.specs.declared.answer.Answer.{Answer}
@@ -7,7 +7,9 @@ use Rattle.mosel_run.specs.declared.status.Status.TheVariants.{Refused}
 use Rattle.mosel_run.specs.Answered.{run_request}
 use Rattle.mosel_run.specs.Answers.{line_answer}
 use Rattle.mosel_run.specs.Jobs.{OneThread}
+use Rattle.mosel_run.specs.ReadAnswers.{IsRefusal}
 use Rattle.mosel_run.specs.Run.{IsAnswerTo, refusal}
+use Rattle.mosel_run.proofs.Refusals.{only-refusal}
 use Rattle.mosel_run.proofs.run.answer_source.Goals as goal
 
 pub returns-in-Err-At : goal.returns-in-Err-At
@@ -21,8 +23,8 @@ returns-in-Err-At c =
       source = c.args.source.now;
       want_is = refl;
       source_is = refl;
-      refused = c.in-Err-At.ensures.refusal;
-      only = record { one = c.in-Err-At.ensures.only_refusal; never = c.in-Err-At.ensures.only_tree };
+      refused = subst (IsRefusal c.args.source.now) c.in-Err-At.field-0-is c.in-Err-At.ensures.refusal;
+      only = only-refusal c.args.source.now c.in-Err-At.field-0 line kind c.in-Err-At.field-0-is c.in-Err-At.ensures.only_tree c.in-Err-At.ensures.only_refusal;
       answer_is = is;
     }))
     c.refusal.ensures
