@@ -83,6 +83,3 @@ fn fault_of(refusal: Refusal) -> ReadFault
         kind: refusal.kind,
     }
 }
-
-#[cfg(test)]
-mod tests;
