@@ -1,7 +1,7 @@
 use Rattle.std.specs.Prelude.{ℕ, ◌+◌, ◌-◌, ◌*◌, ◌==◌, nat_lt, nat_le, Bool, false, not, ◌&&◌, ◌||◌, if◌then◌else◌, Option, Some, None, List, [], ◌∷◌, length, drop, slice_index, slice_index_or, codes, fold}
 use Rattle.std.specs.List.{list_all, list_any, before_first, after_first}
 use Rattle.std.specs.Str.{bytes_eq}
-use Rattle.mos_text.specs.FileName.{is_digit, is_file_name}
+use Rattle.mos_text.specs.FileName.{is_digit, is_file_name, is_source_name}
 use Rattle.mos_words.specs.declared.words.commands.Command.{Command}
 use Rattle.mos_words.specs.declared.words.commands.Command.TheVariants.{Run}
 use Rattle.mos_words.specs.declared.words.options.OptionName.{OptionName}
@@ -107,10 +107,6 @@ files_behind before (word ∷ words) = if takes_next before || begins_with_dash 
 -- the file words of a command
 abbrev pub files : List Word → List Word
 files arguments = files_behind [] arguments
-
--- whether a name ends in `.mos`
-unfoldable pub is_source_name : Word → Bool
-is_source_name name = bytes_eq (drop (length name - 4) name) (codes ".mos")
 
 -- a word is misshapen, or has `=` and nothing behind it, or an option without `=` has no value
 unfoldable pub breaks_words : List Word → Bool
