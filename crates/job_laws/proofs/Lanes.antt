@@ -1,6 +1,6 @@
 -- Lanes and their runs: each run is of the one lane that was given it, and ends before its lane does.
 
-use Rattle.std.proofs.Common.{◌≡◌, ◌≢◌, ◌≤◌, ◌<◌, ℕ, Bool, true, false, not, ◌&&◌, ◌||◌, List, [], ◌∷◌, ◌++◌, Option, Some, None, refl, sym, ap, ◌∙◌, subst, inl, inr, ◌⊎◌, nat_eq, cond, length, arith, append-nil}
+use Rattle.std.proofs.Common.{◌≡◌, ◌≢◌, ◌≤◌, ◌<◌, ℕ, Bool, true, false, not, ◌&&◌, ◌||◌, List, [], ◌∷◌, ◌++◌, Option, Some, None, refl, sym, ap, ◌∙◌, subst, inl, inr, ◌⊎◌, nat_eq, cond, length, arith, append_assoc, append-nil}
 use Rattle.std.specs.Prelude.{count_by, filter, map, if◌then◌else◌}
 use Rattle.std.specs.List.{list_any}
 use Rattle.std.proofs.lemmas.Bool.{eq-eqb, eqb-true, le-ltb}
@@ -396,3 +396,11 @@ stays_asked journal more k asked =
           ∙ ap (λ b. b || list_any (asks k) (moments_from journal more)) w)
           ∙ or_yes (is_finished 0 (journal ++ more))
     ]
+
+-- a run is told so from the entry on by which it was asked
+pub asked_stops : (before between after : List Entry) (ask e : Entry) (k : ℕ) → IsLegal (before ++ ask ∷ between ++ e ∷ after)
+    → is_asked k (before ++ ask ∷ []) ≡ true → e.run ≡ Some k → (e.reply ≡ Halt) ⊎ (is_finish e.call ≡ true)
+asked_stops before between after ask e k h asked q =
+    let journal = before ++ ask ∷ between ++ e ∷ after in
+    stops_when_asked journal h (before ++ ask ∷ between) after e k refl q
+    (subst (λ log. is_asked k log ≡ true) (append_assoc before (ask ∷ []) between) (stays_asked (before ++ ask ∷ []) between k asked))

@@ -232,12 +232,12 @@ loaded_has m (x ∷ xs) e = by (last_given (λ (y : Entry). loads m y.call y.rep
       let l = later_some s.0 (source_of_model m xs) in
       (l.0, ap (λ o. later o (source_of_model m xs)) s.1 ∙ l.1)
 
-or_false : (o : Option Bool) → unwrap_or o false ≡ true → o ≡ Some true
-or_false None e = absurd (false_true e)
-or_false (Some b) e = ap Some e
+unwrap_true : (o : Option Bool) → unwrap_or o false ≡ true → o ≡ Some true
+unwrap_true None e = absurd (false_true e)
+unwrap_true (Some b) e = ap Some e
 
 model_source : (m : ℕ) (log : List Entry) → is_loaded m log ≡ true → (source : ℕ) × (source_of_model m log ≡ Some source)
-model_source m log is = loaded_has m log (or_false (last_given (λ (e : Entry). loads m e.call e.reply) log) is)
+model_source m log is = loaded_has m log (unwrap_true (last_given (λ (e : Entry). loads m e.call e.reply) log) is)
 
 -- and the source was accepted
 abbrev AreModelsAccepted : List Entry → Type 0

@@ -1,6 +1,6 @@
 //! What holds of every legal journal: functions that do nothing, whose contracts are the laws.
 ghost use Rattle.job_laws.specs.Truth.{RepliesAreTrue, ReadsOfFiles, ReadsOfBlocks, BlocksAreNotListed};
-ghost use Rattle.job_laws.specs.Order.{StaysAsked};
+ghost use Rattle.job_laws.specs.Order.{AskedStops, StaysAsked};
 ghost use Rattle.job_laws.specs.Lanes.{AnswersFit, ClaimedOnce, ClaimedBefore, OneLaneARun, AllEnd, NoQuit};
 ghost use Rattle.job_laws.specs.Growth.{FewEntries, FewFiles, Grows, MomentsGrow, RunsHaveSources, SourcesStay};
 ghost use Rattle.job_laws.specs.Laws.{LegalKeepsLaws};
@@ -15,6 +15,11 @@ pub fn answers_fit()
 /// stop is told so, and finishes.
 pub fn legal_keeps_laws()
     ensures { LegalKeepsLaws }
+{}
+
+/// After an entry by which a run was asked to stop, the run is told so and only finishes.
+pub fn asked_stops()
+    ensures { AskedStops }
 {}
 
 /// A run that was asked to stop is asked in every longer journal.
