@@ -132,8 +132,8 @@ fn three_lanes_share_one_hub(rt: HostRuntime) -> Result<(), Fail> {
     others.push(second.0)?;
     others.push(third.0)?;
     let Ended { story, entries } = keep.close(first.0, others);
-    // The master has made 16 calls and each child 4.
-    assert_eq!(rt; entries, 25);
-    assert_eq!(rt; story.journal().len(), 25);
+    // The master has made 19 calls and each child 6.
+    assert_eq!(rt; entries, 32);
+    assert_eq!(rt; story.journal().len(), 32);
     Ok(())
 }

@@ -1,6 +1,6 @@
 //! What the lanes of the test do: a master that starts two children, and a child.
 ghost use Rattle.std.specs.Prelude.{◌≡◌, IfSome};
-ghost use Rattle.tests_threads.specs.Holding.{IsLane, IsKept, IsFresh, IsHolding};
+ghost use Rattle.tests_threads.specs.Holding.{IsLane, IsKept, IsFresh, IsHolding, IsPlainCall};
 
 use crate::asking::{call, claim, done, finish};
 use hub_core::Hub;
@@ -50,7 +50,17 @@ fn take<R: Wait>(rt: &R, keep: &Keep<Hub>, seat: &mut Seat<Hub>, run: u32) -> Op
     call(rt, keep, seat, run, Call::Next)
 }
 
-// Starts two children and takes what each sends, and its end.
+fn event(to: Option<u32>) -> Call
+    ensures { IsPlainCall result }
+{
+    Call::Send {
+        to,
+        class: 2,
+        value: 7,
+    }
+}
+
+// Starts two children, hears from both, lets them end and hears of their ends.
 fn lead<R: Wait>(
     rt: &R,
     alloc: Global,
@@ -67,7 +77,21 @@ fn lead<R: Wait>(
     start(rt, alloc, keep, seat, run)?;
     take(rt, keep, seat, run)?;
     take(rt, keep, seat, run)?;
+    call(rt, keep, seat, run, event(Some(1)))?;
+    call(rt, keep, seat, run, event(Some(2)))?;
     take(rt, keep, seat, run)?;
+    take(rt, keep, seat, run)?;
+    Some(())
+}
+
+// Says that it is there, and waits for an event.
+fn follow<R: Wait>(rt: &R, keep: &Keep<Hub>, seat: &mut Seat<Hub>, run: u32) -> Option<()>
+    requires lane { IsLane keep.now seat.old }
+    requires held { IsHolding run seat.old }
+    ensures kept { IsKept keep.now seat.old seat.new }
+    ensures held { IfSome result (λ _. IsHolding run seat.new) }
+{
+    call(rt, keep, seat, run, event(None))?;
     take(rt, keep, seat, run)?;
     Some(())
 }
@@ -87,7 +111,7 @@ pub fn master<R: Wait>(rt: &R, alloc: Global, keep: &Keep<Hub>, seat: &mut Seat<
     finish(rt, keep, seat, run) && done(rt, keep, seat)
 }
 
-// The whole of another lane, which sends its parent an event.
+// The whole of another lane; whether it was told at its end that the job is done.
 pub fn child<R: Wait>(rt: &R, keep: &Keep<Hub>, seat: &mut Seat<Hub>) -> bool
     requires lane { IsLane keep.now seat.old }
     requires fresh { IsFresh seat.old }
@@ -96,12 +120,7 @@ pub fn child<R: Wait>(rt: &R, keep: &Keep<Hub>, seat: &mut Seat<Hub>) -> bool
     let Some(run) = claim(rt, keep, seat) else {
         return false;
     };
-    let event = Call::Send {
-        to: None,
-        class: 2,
-        value: 7,
-    };
-    if call(rt, keep, seat, run, event).is_none() {
+    if follow(rt, keep, seat, run).is_none() {
         return false;
     }
     finish(rt, keep, seat, run) && done(rt, keep, seat)
