@@ -7,7 +7,7 @@ use Rattle.std.proofs.lemmas.Slice.Eq.{bytes_eq-Decides}
 use Rattle.job_calls.specs.Legal.{CanOpen, IsSourceName}
 use Rattle.lane_step.specs.Alone.{opening_with}
 use Rattle.mos_words.specs.Fit.{IsFit}
-use Rattle.mos_words.specs.Words.{is_source_name}
+use Rattle.mos_words.specs.CommandLine.{is_source_name}
 use Rattle.mos_words.specs.declared.words.commands.Command.TheVariants.{Run as RunCommand}
 use Rattle.mosel_run.specs.Making.{listed}
 

@@ -1,11 +1,15 @@
 -- The files that a command wants, in order, and how the folder gives them.
 
-use Rattle.std.specs.Prelude.{◌≡◌, ℕ, List, [], ◌∷◌, Option, ◌⊎◌}
-use Rattle.mos_text.specs.Content.{Files, known_of}
+use Rattle.std.specs.Prelude.{◌≡◌, ◌≢◌, ℕ, List, [], ◌∷◌, Option, All, ◌⊎◌}
+use Rattle.mos_text.specs.Content.{Files, Unknown, known_of}
 use Rattle.mos_text.specs.Gets.{Answers}
 use Rattle.mos_text.specs.declared.folder.Got.{Got}
 use Rattle.mos_text.specs.declared.folder.Got.TheVariants.{Bytes}
 use Rattle.mosel_run.specs.declared.wanted.Wanted.{Wanted}
+
+-- of each of these names it is known whether there is a file, and with which bytes
+abbrev pub AreKnown : Option Files → List Wanted → Type 0
+AreKnown content wanted = All (λ (file : Wanted). known_of content file.name ≢ Unknown) wanted
 
 -- the folder gives these bytes for all of these files
 abbrev pub AreRead : Option Files → List Wanted → List (List ℕ) → Type 0

@@ -4,7 +4,7 @@ ghost use Rattle.bim_code.specs.Limits.{FitsFields};
 ghost use Rattle.bim_code.specs.Tables.{image_bytes};
 ghost use Rattle.job_calls.specs.ReportText.{report_text};
 ghost use Rattle.mos_words.specs.Fit.{IsFit};
-ghost use Rattle.mos_words.specs.Words.{is_source_name};
+ghost use Rattle.mos_words.specs.CommandLine.{is_source_name};
 ghost use Rattle.mos_words.specs.declared.words.commands.Command.TheVariants.{Run as RunCommand};
 ghost use Rattle.lane_step.specs.Alone.{IsOwnEnd};
 ghost use Rattle.mosel_run.specs.Accepted.{IsAccepted, IsOnlyTree};
@@ -179,8 +179,13 @@ fn status_of(end: End) -> Status
     ensures { IsStatusOf (Some end) result }
 {
     match end {
-        End::Code(0) => Status::Done,
-        End::Code(_) | End::Fault(_) => Status::MasterFailed,
+        End::Code(code) => {
+            if code == 0 {
+                return Status::Done;
+            }
+            Status::MasterFailed
+        }
+        End::Fault(_) => Status::MasterFailed,
         End::Spent => Status::MasterSpent,
         End::Stopped | End::NoMemory => unreachable!(),
     }

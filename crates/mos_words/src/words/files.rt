@@ -2,7 +2,7 @@
 ghost use Rattle.std.specs.Prelude.{◌≡◌, true, false, [], slice_index_or, IfOk, MatchOption};
 ghost use Rattle.std.specs.List.{list_all};
 ghost use Rattle.mos_text.specs.FileName.{is_file_name};
-ghost use Rattle.mos_words.specs.Words.{files, lacks_value, is_source_name, breaks_files};
+ghost use Rattle.mos_words.specs.CommandLine.{files, lacks_value, is_source_name, breaks_files};
 
 use crate::words::options::first_of;
 use crate::words::shape::{begins_with_dash, takes_next};
@@ -52,14 +52,14 @@ pub fn only_source(named: Items<Text>) -> Option<Text>
     }
 }
 
-#[tactic(auto, unfolding(crate::specs::Words::breaks_files))]
+#[tactic(auto, unfolding(crate::specs::CommandLine::breaks_files))]
 fn breaks_files(named: &[Text]) -> bool
     ensures { result ≡ breaks_files named.now }
 {
     !are_file_names(named) || named.len() != 1 || !are_source_names(named)
 }
 
-#[tactic(auto, unfolding(crate::specs::Words::breaks_files))]
+#[tactic(auto, unfolding(crate::specs::CommandLine::breaks_files))]
 fn first_of_one(mut named: Items<Text>) -> Text
     requires { breaks_files named ≡ false }
     ensures { result ≡ slice_index_or named 0 [] }
@@ -79,7 +79,7 @@ fn are_source_names(named: &[Text]) -> bool
     named.iter().all(|name| is_source_name(name.as_bytes()))
 }
 
-#[tactic(auto, unfolding(crate::specs::Words::is_source_name))]
+#[tactic(auto, unfolding(crate::specs::CommandLine::is_source_name))]
 fn is_source_name(name: &[u8]) -> bool
     ensures { result ≡ is_source_name name.now }
 {
