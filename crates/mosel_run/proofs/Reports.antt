@@ -17,7 +17,7 @@ use Rattle.bim_code.specs.Limits.{FitsFields}
 use Rattle.bim_compile.specs.Means.{Means, NeverStuck}
 use Rattle.bim_compile.specs.Plain.{IsPlain}
 use Rattle.lane_step.specs.Alone.{opening_with}
-use Rattle.lane_step.specs.Schedule.{schedule_of, dones}
+use Rattle.lane_step.specs.Schedule.{schedule_of, done_entries}
 use Rattle.lane_step.specs.Whole.{IsWhole}
 use Rattle.mos_meaning.specs.State.{Stuck, Outcome}
 use Rattle.mos_meaning.specs.Syntax.{Block, statements_of}
@@ -87,7 +87,7 @@ no_puts : (files : List Listed) (images : List (Option Image)) (o : Opening) (en
     → filter_map (λ (e : Entry). put_of files images e.call e.reply) (schedule_of o end) ≡ []
 no_puts files images o end = past 1 (o.lanes - 1)
   where
-    past : (lane many : ℕ) → filter_map (λ (e : Entry). put_of files images e.call e.reply) (dones lane many) ≡ []
+    past : (lane many : ℕ) → filter_map (λ (e : Entry). put_of files images e.call e.reply) (done_entries lane many) ≡ []
     past lane zero = refl
     past lane (suc many) = past (lane + 1) many
 

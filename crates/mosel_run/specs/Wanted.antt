@@ -19,17 +19,9 @@ AreRead content (file ∷ files) [] = ⊥
 AreRead content (file ∷ files) (bytes ∷ sources) =
     Answers (known_of content file.name) file.limit (Bytes bytes) × AreRead content files sources
 
--- this is the name of the file, and the folder answers so
-abbrev pub IsAnswered : Option Files → Wanted → List ℕ → Got → Type 0
-IsAnswered content file name got = (file.name ≡ name) × Answers (known_of content file.name) file.limit got
-
--- the folder gives the file, and the first that it does not give lies behind it
-abbrev pub IsPassed : Option Files → Wanted → Type 0 → Type 0
-IsPassed content file behind =
-    ((bytes : List ℕ) × Answers (known_of content file.name) file.limit (Bytes bytes)) × behind
-
 -- the first of these files that the folder does not give has this name, and the folder answers so
 abbrev pub IsUnread : Option Files → List Wanted → List ℕ → Got → Type 0
 IsUnread content [] name got = ⊥
 IsUnread content (file ∷ files) name got =
-    IsAnswered content file name got ⊎ IsPassed content file (IsUnread content files name got)
+    ((file.name ≡ name) × Answers (known_of content file.name) file.limit got)
+    ⊎ (((bytes : List ℕ) × Answers (known_of content file.name) file.limit (Bytes bytes)) × IsUnread content files name got)

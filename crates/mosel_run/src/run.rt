@@ -59,7 +59,8 @@ pub(crate) fn answer_run<F: Folder>(
 
 /// The one file that is wanted.
 fn one_wanted(alloc: Global, name: &Text) -> Result<Items<Wanted>, NoMemory>
-    ensures { IfOk result (λ wanted. wanted ≡ record { name = name.now; limit = source_limit } ∷ []) }
+    ensures { IfOk result (λ wanted.
+        wanted ≡ record { name = name.now; limit = source_limit } ∷ []) }
 {
     let mut wanted = Items::new(alloc);
     wanted.push(Wanted {
@@ -97,7 +98,8 @@ fn answer_source(
 ) -> Result<Answer, NoMemory>
     requires fit { IsFit (RunCommand name.now lanes budget) }
     requires small { length source.now ≤ 1048576 }
-    ensures { IfOk result (IsAnswerTo OneThread (run_request name.now lanes budget) (source.now ∷ [])) }
+    ensures { IfOk result
+        (IsAnswerTo OneThread (run_request name.now lanes budget) (source.now ∷ [])) }
 {
     match read_source(alloc, source) {
         Ok(tree) => report(alloc, name, lanes, budget, source, &tree),
@@ -119,7 +121,8 @@ fn report(
     requires accepted { IsAccepted source.now tree.now }
     requires only { IsOnlyTree source.now tree.now }
     requires in_size { IsInSize (statements_of tree.now) }
-    ensures { IfOk result (IsReport OneThread (run_request name.now lanes budget) (source.now ∷ [])) }
+    ensures { IfOk result
+        (IsReport OneThread (run_request name.now lanes budget) (source.now ∷ [])) }
 {
     let image = image_of(alloc, tree)?;
     let files = files(alloc, name, source)?;
@@ -148,7 +151,8 @@ fn files(alloc: Global, name: &Text, source: &[u8]) -> Result<Items<Listed>, NoM
 fn put_of_image(alloc: Global, name: &Text, image: Image) -> Result<Put, NoMemory>
     requires fields { FitsFields image }
     requires source { is_source_name name.now ≡ true }
-    ensures { IfOk result (λ put. put ≡ record { name = image_name name.now; bytes = image_bytes image }) }
+    ensures { IfOk result (λ put.
+        put ≡ record { name = image_name name.now; bytes = image_bytes image }) }
 {
     let name = name_of_image(alloc, name)?;
     let bytes = write_image(alloc, &image)?;
@@ -162,11 +166,7 @@ fn answer_of(alloc: Global, put: Put, stepped: Stepped) -> Result<Answer, NoMemo
     ensures puts { IfOk result (λ answer. answer.puts ≡ put ∷ []) }
     ensures status { IfOk result (λ answer. IsStatusOf (Some stepped.end) answer.status) }
 {
-    let text = write_report(
-        alloc,
-        stepped.lines.as_slice(),
-        stepped.journal.as_slice(),
-    )?;
+    let text = write_report(alloc, stepped.lines.as_slice(), stepped.journal.as_slice())?;
     let mut puts = Items::new(alloc);
     puts.push(put)?;
     let status = status_of(stepped.end);

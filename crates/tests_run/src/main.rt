@@ -1,10 +1,11 @@
-//! The tests of the program over devices in memory that fail by list. Each line of standard input is a case: the words
-//! behind the program's name, then fields with semicolons between them; `|` stands for a newline. For each a line is
-//! printed: the number of the status, what the sink has, and the bytes of the names that were asked for.
+//! The tests of the program over devices in memory that fail by list. Each line of standard input is
+//! a case: the words behind the program's name, then fields with semicolons between them; `|` stands
+//! for a newline. For each a line is printed: the number of the status, how often the folder and the
+//! sink failed, what the sink has, and the bytes of the names that were asked for.
 //!
-//! `NAME=TEXT` is a file of the folder, `long=NAME` one of 1,048,577 blanks and `full=NAME` one of 1,048,576;
-//! `gets=`, `puts=` and `writes=` the numbers of the calls that fail; `piece=` the most bytes that a write takes;
-//! `show=NAME` asks for a name.
+//! `NAME=TEXT` is a file of the folder, `long=NAME` one of 1,048,577 blanks and `full=NAME` one of
+//! 1,048,576; `gets=`, `puts=` and `writes=` are the numbers of the calls that fail; `piece=` the
+//! most bytes that a write takes; `show=NAME` asks for a name.
 #![tactic(auto)]
 
 mod case;

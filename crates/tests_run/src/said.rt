@@ -5,7 +5,8 @@ use mos_text::{MemFolder, Text};
 use mosel_run::Status;
 use std::alloc::{AllocError, Global};
 
-/// The number of the status, the counts of faults, what the sink has, and the bytes of each name that was asked for.
+/// The number of the status, the counts of faults, what the sink has, and the bytes of each name
+/// that was asked for.
 pub fn said(alloc: Global, status: &Status, case: &Case) -> Result<String, AllocError> {
     let (code, gets, writes) = (status.code(), case.folder.faults(), case.sink.faults());
     let mut line = format!(in alloc; "{code} faults {gets} {writes} ")?;
