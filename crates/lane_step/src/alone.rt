@@ -41,7 +41,8 @@ pub fn run_alone(
     requires keeps { KeepsTicks image.now }
     requires small { code_size image.now.code < 2 ^ 30 }
     requires never_stuck { (course_of image.now [] [] budget).outcome.stop ≢ Stuck }
-    ensures schedule { IfOk result (λ s. s.journal ≡ schedule_of (opening_with lanes budget files) s.end) }
+    ensures schedule { IfOk result (λ s.
+        s.journal ≡ schedule_of (opening_with lanes budget files) s.end) }
     ensures whole { IfOk result (λ s. IsWhole (opening_with lanes budget files) s.journal) }
     ensures follows { IfOk result (λ s. (others : List (Option Behaviour))
         → FollowsSources s.journal s.lines (Some (course_of image.now) ∷ others)) }

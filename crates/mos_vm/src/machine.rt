@@ -6,8 +6,8 @@ ghost use Rattle.mos_vm.specs.Running.{begins, IsResultOf};
 ghost use Rattle.mos_vm.specs.Stepping.{IsStep, IsStepAnywhere, Combines, WritesHeld};
 
 use crate::arithmetic::{Operator, compared, result_of};
-use crate::stop::{Control, Stop};
 use crate::runner::RunResult;
+use crate::stop::{Control, Stop};
 use bim_code::{Comparison, Image, Instruction};
 use mos_text::{Blob, FaultKind, NoMemory, Scalar, Text};
 use std::alloc::Global;
@@ -83,7 +83,7 @@ impl Machine {
         image: &Image,
         instruction: Instruction,
     ) -> Result<Control, NoMemory>
-        ensures { IfOk result (λ flow. IsStep image.now instruction self.old flow self.new) }
+        ensures { IfOk result (λ control. IsStep image.now instruction self.old control self.new) }
     {
         match instruction {
             Instruction::Tick => Ok(self.tick()),
@@ -118,21 +118,29 @@ impl Machine {
     }
 
     fn push_int(&mut self, number: i32) -> Result<Control, NoMemory>
-        ensures { IfOk result (λ flow. IsStepAnywhere (Instruction.PushInt number) self.old flow self.new) }
+        ensures { IfOk result (λ control.
+            IsStepAnywhere (Instruction.PushInt number) self.old control self.new) }
     {
         self.stack.push(Scalar::Int(number))?;
         Ok(Control::Goes)
     }
 
     fn push_bool(&mut self, truth: bool) -> Result<Control, NoMemory>
-        ensures { IfOk result (λ flow. IsStepAnywhere (Instruction.PushBool truth) self.old flow self.new) }
+        ensures { IfOk result (λ control.
+            IsStepAnywhere (Instruction.PushBool truth) self.old control self.new) }
     {
         self.stack.push(Scalar::Bool(truth))?;
         Ok(Control::Goes)
     }
 
-    fn push_text(&mut self, alloc: Global, image: &Image, constant: u32) -> Result<Control, NoMemory>
-        ensures { IfOk result (λ flow. IsStep image.now (Instruction.PushText constant) self.old flow self.new) }
+    fn push_text(
+        &mut self,
+        alloc: Global,
+        image: &Image,
+        constant: u32,
+    ) -> Result<Control, NoMemory>
+        ensures { IfOk result (λ control.
+            IsStep image.now (Instruction.PushText constant) self.old control self.new) }
     {
         match image.constants.get(constant as usize) {
             None => Ok(Control::Halts(Stop::Stuck)),
@@ -147,7 +155,8 @@ impl Machine {
     }
 
     fn load(&mut self, alloc: Global, slot: u32) -> Result<Control, NoMemory>
-        ensures { IfOk result (λ flow. IsStepAnywhere (Instruction.LoadGlobal slot) self.old flow self.new) }
+        ensures { IfOk result (λ control.
+            IsStepAnywhere (Instruction.LoadGlobal slot) self.old control self.new) }
     {
         match sqlite_items::at(self.store.as_slice(), slot as usize) {
             None => Ok(Control::Halts(Stop::Stuck)),
@@ -175,7 +184,8 @@ impl Machine {
     }
 
     fn swap(&mut self) -> Result<Control, NoMemory>
-        ensures { IfOk result (λ flow. IsStepAnywhere Instruction.Swap self.old flow self.new) }
+        ensures { IfOk result (λ control.
+            IsStepAnywhere Instruction.Swap self.old control self.new) }
     {
         match self.stack.pop() {
             Some(above) => match self.stack.pop() {
@@ -191,7 +201,8 @@ impl Machine {
     }
 
     fn compare(&mut self, comparison: Comparison) -> Result<Control, NoMemory>
-        ensures { IfOk result (λ flow. IsStepAnywhere (Instruction.Compare comparison) self.old flow self.new) }
+        ensures { IfOk result (λ control.
+            IsStepAnywhere (Instruction.Compare comparison) self.old control self.new) }
     {
         match self.stack.pop() {
             Some(right) => match self.stack.pop() {
@@ -208,7 +219,8 @@ impl Machine {
         }
     }
 
-    /// Jumps where the boolean on top, which it takes, is true. Which address it names does not matter.
+    /// Jumps where the boolean on top, which it takes, is true. Which address it names does not
+    /// matter.
     fn jump_if(&mut self) -> Control
         ensures { IsStepAnywhere (Instruction.JumpIf 0) self.old result self.new }
     {
@@ -231,7 +243,7 @@ impl Machine {
     }
 
     fn combine(&mut self, operator: Operator) -> Result<Control, NoMemory>
-        ensures { IfOk result (λ flow. Combines operator self.old flow self.new) }
+        ensures { IfOk result (λ control. Combines operator self.old flow self.new) }
     {
         match self.stack.pop() {
             Some(Scalar::Int(right)) => match self.stack.pop() {
@@ -249,7 +261,8 @@ impl Machine {
     }
 
     fn show(&mut self, alloc: Global) -> Result<Control, NoMemory>
-        ensures { IfOk result (λ flow. IsStepAnywhere Instruction.Show self.old flow self.new) }
+        ensures { IfOk result (λ control.
+            IsStepAnywhere Instruction.Show self.old control self.new) }
     {
         match self.stack.pop() {
             None => Ok(Control::Halts(Stop::Stuck)),
@@ -265,7 +278,8 @@ impl Machine {
     }
 
     fn hold(&mut self) -> Result<Control, NoMemory>
-        ensures { IfOk result (λ flow. IsStepAnywhere Instruction.Write self.old flow self.new) }
+        ensures { IfOk result (λ control.
+            IsStepAnywhere Instruction.Write self.old control self.new) }
     {
         match self.stack.pop() {
             Some(Scalar::Str(text)) => {
@@ -277,7 +291,8 @@ impl Machine {
     }
 
     fn line(&mut self) -> Result<Control, NoMemory>
-        ensures { IfOk result (λ flow. IsStepAnywhere Instruction.Line self.old flow self.new) }
+        ensures { IfOk result (λ control.
+            IsStepAnywhere Instruction.Line self.old control self.new) }
     {
         match self.stack.pop() {
             Some(Scalar::Bool(newline)) => {
@@ -292,7 +307,7 @@ impl Machine {
 
     /// All that is held goes to the output, or nothing where that would be too much.
     fn write_held(&mut self) -> Result<Control, NoMemory>
-        ensures { IfOk result (λ flow. WritesHeld self.old flow self.new) }
+        ensures { IfOk result (λ control. WritesHeld self.old flow self.new) }
     {
         if self.output.len() + self.held.len() > OUTPUT_LIMIT {
             return Ok(Control::Halts(Stop::Failed(FaultKind::OutFull)));

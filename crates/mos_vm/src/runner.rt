@@ -5,8 +5,8 @@ ghost use Rattle.mos_meaning.specs.MachineLaws.{KeepsTicks};
 ghost use Rattle.mos_vm.specs.Courses.{IsCourse};
 
 use crate::code::{by_address, found_at, target};
-use crate::stop::{Control, Stop};
 use crate::machine::Machine;
+use crate::stop::{Control, Stop};
 use bim_code::Image;
 use mos_meaning::machine_laws;
 use mos_text::{Blob, NoMemory};

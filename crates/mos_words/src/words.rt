@@ -10,7 +10,7 @@ mod shape;
 ghost use Rattle.std.specs.Prelude.{◌≡◌, false, not, nat_lt, length, IfOk, IsErrOf};
 ghost use Rattle.std.specs.List.{list_any, list_all};
 ghost use Rattle.mos_words.specs.Fit.{IsFit};
-ghost use Rattle.mos_words.specs.Words.{command_of, run_command, is_misshapen, has_empty_value, is_unknown, is_value, breaks_words, breaks_options, run_options, values, setting_of};
+ghost use Rattle.mos_words.specs.CommandLine.{command_of, run_command, is_misshapen, has_empty_value, is_unknown, is_value, breaks_words, breaks_options, run_options, values, setting_of};
 ghost use Rattle.mos_words.specs.declared.words.options.OptionName.TheVariants.{Lanes, Budget};
 ghost use Rattle.mos_words.specs.declared.words.commands.WordFault.TheVariants.{Usage};
 
@@ -26,7 +26,7 @@ const RUN_OPTIONS: [OptionName; 2] = [OptionName::Lanes, OptionName::Budget];
 
 /// The command that the words ask for. The first word is the program's name and is not looked at;
 /// the second is the command, `run`; the others are files and options in any mixture.
-#[tactic(auto, unfolding(crate::specs::Words::command_of))]
+#[tactic(auto, unfolding(crate::specs::CommandLine::command_of))]
 pub fn command(alloc: Global, words: &[Text]) -> Result<Command, WordFault>
     ensures value { IfOk result (λ command. command_of words.now ≡ Some command) }
     ensures fit { IfOk result IsFit }
@@ -40,7 +40,7 @@ pub fn command(alloc: Global, words: &[Text]) -> Result<Command, WordFault>
     }
 }
 
-#[tactic(auto, unfolding(crate::specs::Words::run_command))]
+#[tactic(auto, unfolding(crate::specs::CommandLine::run_command))]
 fn run_command(alloc: Global, arguments: &[Text]) -> Result<Command, WordFault>
     ensures value { IfOk result (λ command. run_command arguments.now ≡ Some command) }
     ensures usage { IsErrOf result Usage → run_command arguments.now ≡ None }
@@ -58,7 +58,7 @@ fn run_command(alloc: Global, arguments: &[Text]) -> Result<Command, WordFault>
     })
 }
 
-#[tactic(auto, unfolding(crate::specs::Words::breaks_words))]
+#[tactic(auto, unfolding(crate::specs::CommandLine::breaks_words))]
 fn breaks_words(arguments: &[Text]) -> bool
     ensures { result ≡ breaks_words arguments.now }
 {
@@ -79,7 +79,7 @@ fn has_empty_values(arguments: &[Text]) -> bool
         .any(|word| has_empty_value(word.as_bytes()))
 }
 
-#[tactic(auto, unfolding(crate::specs::Words::breaks_options))]
+#[tactic(auto, unfolding(crate::specs::CommandLine::breaks_options))]
 fn breaks_options(options: &[OptionName], arguments: &[Text]) -> bool
     ensures { result ≡ breaks_options options.now arguments.now }
 {
@@ -112,7 +112,7 @@ fn has_one_wrong(options: &[OptionName], arguments: &[Text]) -> bool
         .any(|option| has_wrong_value(*option, arguments))
 }
 
-#[tactic(auto, unfolding(crate::specs::Words::breaks_options))]
+#[tactic(auto, unfolding(crate::specs::CommandLine::breaks_options))]
 fn lanes(arguments: &[Text]) -> u32
     requires { breaks_options run_options arguments.now ≡ false }
     ensures { result ≡ setting_of Lanes (values Lanes arguments.now) }
@@ -120,7 +120,7 @@ fn lanes(arguments: &[Text]) -> u32
     setting(OptionName::Lanes, arguments)
 }
 
-#[tactic(auto, unfolding(crate::specs::Words::breaks_options))]
+#[tactic(auto, unfolding(crate::specs::CommandLine::breaks_options))]
 fn budget(arguments: &[Text]) -> u32
     requires { breaks_options run_options arguments.now ≡ false }
     ensures { result ≡ setting_of Budget (values Budget arguments.now) }

@@ -14,3 +14,4 @@ pub mod KnownExpressions
 pub mod KnownStatements
 pub mod SmallModels
 pub mod LastPuts
+pub mod Finding

@@ -1,6 +1,6 @@
 -- The report of a job over one source.
 
-use Rattle.std.proofs.Common.{◌≡◌, ◌≢◌, ℕ, zero, suc, List, [], ◌∷◌, Option, Some, None, refl, sym, ap, ◌∙◌, subst, ◌-◌, ◌+◌}
+use Rattle.std.proofs.Common.{◌≡◌, ◌≢◌, ℕ, zero, suc, true, List, [], ◌∷◌, Option, Some, None, refl, sym, ap, ◌∙◌, subst, ◌-◌, ◌+◌}
 use Rattle.std.specs.Prelude.{slice_get}
 use Rattle.std.specs.List.{filter_map}
 use Rattle.mos_tree.specs.declared.source.Tree.{Tree}
@@ -17,7 +17,7 @@ use Rattle.bim_code.specs.Limits.{FitsFields}
 use Rattle.bim_compile.specs.Means.{Means, NeverStuck}
 use Rattle.bim_compile.specs.Plain.{IsPlain}
 use Rattle.lane_step.specs.Alone.{opening_with}
-use Rattle.lane_step.specs.Schedule.{schedule_of, dones}
+use Rattle.lane_step.specs.Schedule.{schedule_of, done_entries}
 use Rattle.lane_step.specs.Whole.{IsWhole}
 use Rattle.mos_meaning.specs.State.{Stuck, Outcome}
 use Rattle.mos_meaning.specs.Syntax.{Block, statements_of}
@@ -30,7 +30,7 @@ use Rattle.mosel_run.specs.Jobs.{Model, OneThread, behaviours_of, images_of}
 use Rattle.mosel_run.specs.Making.{listed}
 use Rattle.mosel_run.specs.Puts.{puts_of, put_of, image_name, last_puts}
 use Rattle.mosel_run.specs.Run.{IsReport, IsStatusOf}
-use Rattle.job_calls.specs.Legal.{IsSourceName}
+use Rattle.mos_text.specs.FileName.{is_source_name}
 
 -- an image that means its model does what the model does
 same_course : (model : Block) (image : Image) (params : List ℕ) (replies : List Reply) (budget : ℕ) → Means model image
@@ -87,7 +87,7 @@ no_puts : (files : List Listed) (images : List (Option Image)) (o : Opening) (en
     → filter_map (λ (e : Entry). put_of files images e.call e.reply) (schedule_of o end) ≡ []
 no_puts files images o end = past 1 (o.lanes - 1)
   where
-    past : (lane many : ℕ) → filter_map (λ (e : Entry). put_of files images e.call e.reply) (dones lane many) ≡ []
+    past : (lane many : ℕ) → filter_map (λ (e : Entry). put_of files images e.call e.reply) (done_entries lane many) ≡ []
     past lane zero = refl
     past lane (suc many) = past (lane + 1) many
 
@@ -101,7 +101,7 @@ puts_are name source lanes budget image journal end is =
     (no_puts (listed name source ∷ []) (Some image ∷ []) (opening_with lanes budget (listed name source ∷ [])) end)
 
 pub is_report : (name source : List ℕ) (lanes budget : ℕ) (tree : Tree) (image : Image) (journal : List Entry) (lines : List RunLine) (end : End) (answer : Answer)
-    → IsSourceName name → IsAccepted source tree → IsOnlyTree source tree → Means (statements_of tree) image → FitsFields image → IsPlain image
+    → is_source_name name ≡ true → IsAccepted source tree → IsOnlyTree source tree → Means (statements_of tree) image → FitsFields image → IsPlain image
     → journal ≡ schedule_of (opening_with lanes budget (listed name source ∷ [])) end
     → IsWhole (opening_with lanes budget (listed name source ∷ [])) journal
     → FollowsSources journal lines (Some (course_of image) ∷ [])

@@ -5,7 +5,7 @@ use Rattle.std.specs.Prelude.{◌≡◌, ℕ, List, [], ◌∷◌, Option, Some,
 use Rattle.job_calls.specs.declared.entry.Entry.{Entry}
 use Rattle.hub_text.specs.ErrorLines.{usage_line}
 use Rattle.job_calls.specs.Runs.{Opening}
-use Rattle.mos_words.specs.Words.{command_of}
+use Rattle.mos_words.specs.CommandLine.{command_of}
 use Rattle.mos_words.specs.declared.words.commands.Command.{Command}
 use Rattle.mos_words.specs.declared.words.commands.Command.TheVariants.{Run}
 use Rattle.mosel_run.specs.declared.answer.Answer.{Answer}

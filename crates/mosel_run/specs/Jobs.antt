@@ -1,6 +1,6 @@
 -- Jobs: what their files are, and what their journals and lines say of them.
 
-use Rattle.std.specs.Prelude.{◌≡◌, ℕ, List, [], ◌∷◌, Option, Some, None, map, option_map, ◌⊎◌}
+use Rattle.std.specs.Prelude.{◌≡◌, ℕ, true, false, List, [], ◌∷◌, Option, Some, None, map, option_map, ◌⊎◌}
 use Rattle.mos_text.specs.declared.kind.Kind.{Kind}
 use Rattle.mos_tree.specs.declared.source.Tree.{Tree}
 use Rattle.job_calls.specs.declared.end.End.{End}
@@ -8,7 +8,7 @@ use Rattle.job_calls.specs.declared.entry.Entry.{Entry}
 use Rattle.job_calls.specs.declared.entry.Listed.{Listed}
 use Rattle.job_calls.specs.declared.run_line.RunLine.{RunLine}
 use Rattle.job_calls.specs.Runs.{Opening}
-use Rattle.job_calls.specs.Legal.{IsSourceName}
+use Rattle.mos_text.specs.FileName.{is_source_name}
 use Rattle.bim_code.specs.declared.image.Image.{Image}
 use Rattle.bim_code.specs.Limits.{FitsFields}
 use Rattle.bim_compile.specs.Means.{Means}
@@ -35,13 +35,13 @@ pub record IsModelOf (source : List ℕ) (model : Model) : Type 0 where
 
 -- a source that is accepted
 pub record IsAcceptedFile (file : Listed) (model : Model) : Type 0 where
-  pub named : IsSourceName file.name
+  pub named : is_source_name file.name ≡ true
   pub code : file.code ≡ 0
   pub model_is : IsModelOf file.bytes model
 
 -- a source that is not, for one reason
 pub record IsRefusedFile (file : Listed) : Type 0 where
-  pub named : IsSourceName file.name
+  pub named : is_source_name file.name ≡ true
   pub code : HasCode file.bytes file.code
   pub line : ℕ
   pub kind : Kind
@@ -50,7 +50,7 @@ pub record IsRefusedFile (file : Listed) : Type 0 where
 
 -- a file that is no source
 pub record IsDataFile (file : Listed) : Type 0 where
-  pub named : IsSourceName file.name → ⊥
+  pub named : is_source_name file.name ≡ false
   pub code : file.code ≡ 0
 
 -- what a listed file is: a source with a model exactly where it is accepted, or data

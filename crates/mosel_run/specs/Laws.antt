@@ -11,10 +11,11 @@ use Rattle.job_calls.specs.Words.{own_entries, has_quit, run_count, is_finished}
 use Rattle.job_calls.specs.Runs.{Opening, opening, source_of, last_given}
 use Rattle.mos_meaning.specs.Follows.{Behaviour, FollowsSources}
 use Rattle.mos_parse.specs.Parsed.{IsParsed, IsSyntaxFault}
-use Rattle.lane_step.specs.Whole.{EndsDone, IsWhole}
+use Rattle.job_laws.specs.Lanes.{EndsDone}
+use Rattle.lane_step.specs.Whole.{IsWhole}
 use Rattle.mosel_run.specs.declared.answer.Put.{Put}
 use Rattle.mosel_run.specs.Accepted.{IsAccepted, IsRefusedAt}
-use Rattle.mosel_run.specs.Puts.{named, last_puts, put_all}
+use Rattle.mosel_run.specs.Puts.{bytes_under, last_puts, put_all}
 
 -- a whole job has the lanes, the budget and the files that its `Open` says, and no others
 abbrev pub OneOpening : Type 0
@@ -49,12 +50,12 @@ EachLineNamesItsSource = (journal : List Entry) (lines : List RunLine) (behaviou
 
 -- a name that is given bytes has the last of them when all is put
 abbrev pub LastPutStays : Type 0
-LastPutStays = (files : Files) (puts : List Put) (name bytes : List ℕ) → last_given (named name) puts ≡ Some bytes
+LastPutStays = (files : Files) (puts : List Put) (name bytes : List ℕ) → last_given (bytes_under name) puts ≡ Some bytes
     → known_of (put_all (Some files) (last_puts puts)) name ≡ Holds bytes
 
 -- a name that is given none is what it was
 abbrev pub OthersStay : Type 0
-OthersStay = (files : Files) (puts : List Put) (name : List ℕ) → last_given (named name) puts ≡ None
+OthersStay = (files : Files) (puts : List Put) (name : List ℕ) → last_given (bytes_under name) puts ≡ None
     → known_of (put_all (Some files) (last_puts puts)) name ≡ known_of (Some files) name
 
 abbrev pub HasATree : List ℕ → Type 0

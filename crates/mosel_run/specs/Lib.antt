@@ -5,7 +5,6 @@ pub mod Answers
 pub mod Delivered
 pub mod Run
 pub mod Wanted
-pub mod Known
 pub mod Exact
 pub mod Jobs
 pub mod Accepted

@@ -47,7 +47,8 @@ pub(crate) fn usage(alloc: Global) -> Result<Answer, NoMemory>
 
 /// The answer to a source that is refused.
 pub(crate) fn refusal(alloc: Global, name: &Text, line: u32, kind: Kind) -> Result<Answer, NoMemory>
-    ensures { IfOk result (λ answer. answer ≡ line_answer (verdict_line name.now line kind) (Refused line kind)) }
+    ensures { IfOk result (λ answer.
+        answer ≡ line_answer (verdict_line name.now line kind) (Refused line kind)) }
 {
     let text = write_verdict(alloc, name, line, &kind)?;
     Ok(line_answer(alloc, text, Status::Refused { line, kind }))

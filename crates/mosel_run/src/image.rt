@@ -6,7 +6,7 @@ ghost use Rattle.bim_compile.specs.Means.{Means, NeverStuck};
 ghost use Rattle.bim_compile.specs.Plain.{IsPlain};
 ghost use Rattle.mos_meaning.specs.MachineLaws.{KeepsTicks};
 ghost use Rattle.mos_meaning.specs.Syntax.{statements_of};
-ghost use Rattle.mos_words.specs.Words.{is_source_name};
+ghost use Rattle.mos_text.specs.FileName.{is_source_name};
 ghost use Rattle.mosel_run.specs.Accepted.{IsSound};
 ghost use Rattle.mosel_run.specs.InSize.{IsInSize};
 ghost use Rattle.mosel_run.specs.Puts.{image_name};

@@ -2,7 +2,7 @@
 ghost use Rattle.std.specs.Prelude.{◌≡◌, true, false, [], slice_index_or, IfOk, MatchOption};
 ghost use Rattle.std.specs.List.{list_all};
 ghost use Rattle.mos_text.specs.FileName.{is_file_name, is_source_name};
-ghost use Rattle.mos_words.specs.Words.{files, lacks_value, breaks_files};
+ghost use Rattle.mos_words.specs.CommandLine.{files, lacks_value, breaks_files};
 
 use crate::words::options::first_of;
 use crate::words::shape::{begins_with_dash, takes_next};

@@ -1,4 +1,4 @@
--- What is known beforehand of the files that a command wants.
+-- What is found beforehand of the files that a command wants, as one value.
 
 use Rattle.std.specs.Prelude.{ℕ, List, [], ◌∷◌, Option, length, nat_le, if◌then◌else◌}
 use Rattle.mos_text.specs.Content.{Files, Known, Unknown, Absent, Holds, known_of}

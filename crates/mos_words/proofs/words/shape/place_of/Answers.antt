@@ -4,7 +4,7 @@ use Rattle.std.proofs.lemmas.Bool.Decides.{nat_tests}
 use Rattle.std.proofs.lemmas.List.Sums.{prefix_len-le-length}
 use Rattle.std.proofs.lemmas.Iterator.{YieldsList-from_slice}
 use Rattle.std.proofs.lemmas.Iterator.Search.{position_from_yields_List}
-use Rattle.mos_words.proofs.bytes.place_of.Goals as goal
+use Rattle.mos_words.proofs.words.shape.place_of.Goals as goal
 
 by_test : (place size : ℕ) (below : Bool) → place ≤ size → nat_lt place size ≡ below → unwrap_or (cond below (Some place) None) size ≡ place
 by_test place size true h e = refl
