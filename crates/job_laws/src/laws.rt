@@ -1,13 +1,18 @@
 //! What holds of every legal journal: functions that do nothing, whose contracts are the laws.
 ghost use Rattle.job_laws.specs.Truth.{RepliesAreTrue, ReadsOfFiles, ReadsOfBlocks, BlocksAreNotListed};
 ghost use Rattle.job_laws.specs.Order.{AskedStops, StaysAsked};
-ghost use Rattle.job_laws.specs.Lanes.{AnswersFit, ClaimedOnce, ClaimedBefore, OneLaneARun, AllEnd, NoQuit};
+ghost use Rattle.job_laws.specs.Lanes.{AnswersFit, RunsFit, ClaimedOnce, ClaimedBefore, OneLaneARun, AllEnd, NoQuit};
 ghost use Rattle.job_laws.specs.Growth.{FewEntries, FewFiles, Grows, MomentsGrow, RunsHaveSources, SourcesStay};
 ghost use Rattle.job_laws.specs.Laws.{LegalKeepsLaws};
 
 /// A reply that the hub gives fits its call, as a machine wants it.
 pub fn answers_fit()
     ensures { AnswersFit }
+{}
+
+/// All that a run was answered fits what it called, where every reply can be held.
+pub fn runs_fit()
+    ensures { RunsFit }
 {}
 
 /// A run takes its events in the order in which they came, skips none and takes none twice; what is
