@@ -4,6 +4,7 @@ ghost use denote.Param.Send.{IsSync};
 ghost use Rattle.hub_core.specs.Hubs.{journal_of};
 ghost use Rattle.tests_threads.specs.Holding.{IsLane, IsKept, IsFresh, OpensThree};
 
+use crate::end;
 use crate::runs::{child, master};
 use hub_core::{Acted, Hub, HubCall, HubHeld, can_open};
 use hub_lock::{Ended, Keep, Seat};
@@ -131,7 +132,7 @@ fn three_lanes_share_one_hub(rt: HostRuntime) -> Result<(), Fail> {
     let mut others = Vec::with_capacity(rt.alloc(), 2)?;
     others.push(second.0)?;
     others.push(third.0)?;
-    let Ended { story, entries } = keep.close(first.0, others);
+    let Ended { story, entries } = end(keep, first.0, others);
     // The master has made 19 calls and each child 6.
     assert_eq!(rt; entries, 32);
     assert_eq!(rt; story.journal().len(), 32);

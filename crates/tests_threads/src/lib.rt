@@ -3,7 +3,10 @@
 
 #[cfg(test)]
 mod asking;
+mod ending;
 #[cfg(test)]
 mod jobs;
 #[cfg(test)]
 mod runs;
+
+pub use ending::end;
