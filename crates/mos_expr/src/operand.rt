@@ -218,12 +218,7 @@ pub(crate) fn between_of(
     }
 }
 
-fn if_over(
-    alloc: Global,
-    a: Boxed<Expr>,
-    b: Boxed<Expr>,
-    c: Expr,
-) -> Result<Option<Expr>, NoMemory>
+fn if_over(alloc: Global, a: Boxed<Expr>, b: Boxed<Expr>, c: Expr) -> Result<Option<Expr>, NoMemory>
     ensures { IfOk result (λ made. made ≡ Some (spec.if_expr a b c)) }
 {
     match boxed(alloc, c, (a, b)) {

@@ -57,7 +57,7 @@ formals_reads words = record {
 
 -- two trees side by side
 both_same : (made : List Expr × Expr) (xs : List Expr) (y : Expr) → made.0 ≡ xs → made.1 ≡ y → made ≡ (xs, y)
-both_same (as, b) xs y e f = cc
+both_same (some, one) xs y e f = cc
 
 pub sides_read : (indexes value : List Word) → Reads (AreParts indexes value) parts_trees parts_height (AreIndexesAndValue indexes value)
 sides_read indexes value = record {
