@@ -1,7 +1,7 @@
 -- Names that are used before a statement gives them a value, and `break` and `next` outside loops: the
 -- first piece of a source that does one of these.
 
-use Rattle.std.specs.Prelude.{◌≡◌, ℕ, Bool, true, false, if◌then◌else◌, List, [], ◌∷◌, Option, Some, None, map}
+use Rattle.std.specs.Prelude.{◌≡◌, ℕ, Bool, true, false, if◌then◌else◌, List, [], ◌∷◌, Option, Some, None}
 use Rattle.mos_text.specs.declared.kind.Kind.{Kind}
 use Rattle.mos_text.specs.declared.kind.Kind.TheVariants.{Unknown, Loop}
 use Rattle.mos_tree.specs.declared.expr.Expr.{Expr}

@@ -1,7 +1,7 @@
 -- What the code cuts are the pieces, and there are no others.
 
-use Rattle.std.proofs.Common.{◌≡◌, ℕ, ◌+◌, nat_lt, nat_eq, Bool, ◌||◌, true, false, List, [], ◌∷◌, ◌++◌, length, Result, Ok, Err, IfOk, refl, sym, ◌∙◌, ap, subst, arith, append_assoc, length-append, fold}
-use Rattle.std.proofs.lemmas.Bool.{lt-ltb, le-ltb, ne_eqb}
+use Rattle.std.proofs.Common.{◌≡◌, ℕ, ◌+◌, nat_lt, nat_eq, Bool, ◌||◌, true, false, List, [], ◌∷◌, ◌++◌, length, Result, Ok, Err, IfOk, refl, sym, ◌∙◌, ap, subst, arith, append_assoc, length-append}
+use Rattle.std.proofs.lemmas.Bool.{or_left, or_right, or_parts, lt-ltb, ne_eqb}
 use Rattle.std.proofs.lemmas.List.{append-nil}
 use Rattle.std.proofs.lemmas.List.Sums.{fold-append}
 use Rattle.mos_scan.specs.declared.token.TokenKind.{TokenKind}
@@ -11,7 +11,7 @@ use Rattle.mos_scan.specs.declared.context.Context.{Context}
 use Rattle.mos_scan.specs.declared.piece.Piece.{Piece}
 use Rattle.mos_scan.specs.declared.piece.OpenPiece.{OpenPiece}
 use Rattle.mos_scan.specs.Pieces.{last_kind, first_kind, second_kind, first_line, depth, depth_behind, declarations_after, parameters_after, initializations_after, in_declarations, in_parameters, in_initializations, separates, begins_piece, ends_piece, is_cut, IsUncut, one_token, one_more, IsEnded, piece_of, ArePiecesBehind, no_token, separator, whole_piece, ArePieces}
-use Rattle.mos_scan.specs.Cutting.{no_context, context_after, is_separator, nothing_at, piece_with, is_ended, starts, closed_piece, pieces_from, cut_pieces}
+use Rattle.mos_scan.specs.Cutting.{context_after, is_separator, nothing_at, piece_with, is_ended, starts, closed_piece, pieces_from, cut_pieces}
 use Rattle.mos_scan.proofs.Lists.{on_bool}
 
 -- ---- what the code keeps
@@ -107,20 +107,8 @@ close_open before [] ts ps o e more =
 close_open before (x ∷ xs) ts ps o e more =
     subst (λ qs. ArePiecesBehind before ((x ∷ xs) ++ ts) (qs ++ ps)) (sym (closed_some before x xs)) (whole_piece before (x ∷ xs) ts ps o e more)
 
--- the first answer decides, or the others do
-or_left : (a b : Bool) → a ≡ true → (a || b) ≡ true
-or_left a b e = rw e refl
-
-or_right : (a b : Bool) → b ≡ true → (a || b) ≡ true
-or_right true b e = refl
-or_right false b e = e
-
 neither : (a b : Bool) → a ≡ false → b ≡ false → (a || b) ≡ false
 neither a b e h = rw (e, h) refl
-
-parted : (a b : Bool) → (a || b) ≡ false → (a ≡ false) × (b ≡ false)
-parted true b e = cc
-parted false b e = (refl, e)
 
 -- one token more goes on with what is open
 grown : (before xs : List Token) (t : Token) → IsOpen before xs → separates (before ++ xs) t.kind ≡ false → (begins_piece t.kind || ends_piece before xs) ≡ false → IsUncut before (xs ++ t ∷ [])
@@ -203,7 +191,7 @@ read_on : (before xs ts : List Token) → IsUncut before xs → cut_from before 
 read_on before _ ts (one_token t s) = fresh before t ts s
 read_on before _ ts (one_more xs t u joined) =
     let here : Context = context_of (before ++ xs) in
-    let apart = parted (separates (before ++ xs) t.kind) (begins_piece t.kind || ends_piece before xs) joined in
+    let apart = or_parts (separates (before ++ xs) t.kind) (begins_piece t.kind || ends_piece before xs) joined in
     let next : context_of (before ++ (xs ++ t ∷ [])) ≡ context_after here t.kind = ap (λ zs. context_of zs) (sym (append_assoc before xs (t ∷ []))) ∙ context_more (before ++ xs) t in
     let step : cut_from before xs (t ∷ ts) ≡ cut_from before (xs ++ t ∷ []) ts =
     rw (separator_is (before ++ xs) t.kind ∙ apart.0, starts_is before xs t.kind ∙ apart.1)

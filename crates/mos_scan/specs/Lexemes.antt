@@ -6,7 +6,7 @@ use Rattle.std.specs.Char.{is_ascii_digit}
 use Rattle.mos_scan.specs.Characters.{begins_name, is_word, is_quote}
 use Rattle.mos_scan.specs.Words.{same_word, in_one_case, plain_word}
 use Rattle.mos_scan.specs.Vocabulary.{Table, ends}
-use Rattle.mos_scan.specs.Tokens.{closing, one_byte, two_bytes, gap_at, fault_at, kind_of}
+use Rattle.mos_scan.specs.Tokens.{closing_quote, one_byte, two_bytes, gap_at, fault_at, kind_of}
 use Rattle.mos_scan.specs.declared.token.TokenKind.{TokenKind}
 use Rattle.mos_scan.specs.declared.token.TokenKind.TheVariants as t
 use Rattle.mos_scan.specs.declared.lexeme.LexicalError.{LexicalError}
@@ -48,7 +48,7 @@ symbol_at a (b ∷ bs) = two_or_one (two_bytes a b) a
 
 -- the text in quotes at the front
 abbrev pub quoted_at : ℕ → List ℕ → TokenKind × ℕ
-quoted_at quote bs = (t.Text, unwrap_or (closing quote false 0 bs) 0 + 1)
+quoted_at quote bs = (t.Text, unwrap_or (closing_quote quote false 0 bs) 0 + 1)
 
 -- the word at the front
 unfoldable pub word_at : List ℕ → TokenKind × ℕ

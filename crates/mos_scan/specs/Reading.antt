@@ -19,33 +19,33 @@ abbrev pub escape_of : ℕ → ℕ
 escape_of b = if b == 110 then 10 else (if b == 116 then 9 else b)
 
 -- a text with its escapes read; the Bool says that a backslash stands before it
-abbrev pub unescaped : Bool → List ℕ → List ℕ
-unescaped escaped [] = []
-unescaped escaped (b ∷ bs) =
-    if escaped then escape_of b ∷ unescaped false bs
-    else (if b == 92 then unescaped true bs else b ∷ unescaped false bs)
+abbrev pub without_escapes : Bool → List ℕ → List ℕ
+without_escapes escaped [] = []
+without_escapes escaped (b ∷ bs) =
+    if escaped then escape_of b ∷ without_escapes false bs
+    else (if b == 92 then without_escapes true bs else b ∷ without_escapes false bs)
 
 -- bytes that are UTF-8, as all are that `scan` gives
 abbrev pub is_text : List ℕ → Bool
 is_text bytes = utf8_valid_len bytes == length bytes
 
 -- the name of these bytes
-unfoldable pub named : List ℕ → Word
-named bytes = if is_text bytes then w.Name bytes else w.Key t.Name
+unfoldable pub name_word : List ℕ → Word
+name_word bytes = if is_text bytes then w.Name bytes else w.Key t.Name
 
 -- the text of these bytes
-unfoldable pub text_of : List ℕ → Word
-text_of bytes = if is_text bytes then w.Text bytes else w.Key t.Text
+unfoldable pub text_word : List ℕ → Word
+text_word bytes = if is_text bytes then w.Text bytes else w.Key t.Text
 
 -- all but the last byte
 abbrev pub without_last : List ℕ → List ℕ
 without_last bs = take (length bs - 1) bs
 
 -- the text in these quotes: double ones have escapes
-unfoldable pub quoted : List ℕ → Word
-quoted [] = text_of []
-quoted (q ∷ []) = text_of []
-quoted (q ∷ b ∷ bs) = if q == 34 then text_of (unescaped false (without_last (b ∷ bs))) else text_of (without_last (b ∷ bs))
+unfoldable pub quoted_word : List ℕ → Word
+quoted_word [] = text_word []
+quoted_word (q ∷ []) = text_word []
+quoted_word (q ∷ b ∷ bs) = if q == 34 then text_word (without_escapes false (without_last (b ∷ bs))) else text_word (without_last (b ∷ bs))
 
 -- the bytes of a token in its source
 abbrev pub bytes_of : List ℕ → Token → List ℕ
@@ -53,9 +53,9 @@ bytes_of source token = take (token.to - token.from) (drop token.from source)
 
 -- what the grammar sees of these bytes as a token of this kind
 abbrev pub word_as : TokenKind → List ℕ → Word
-word_as t.Name bytes = named bytes
+word_as t.Name bytes = name_word bytes
 word_as t.Number bytes = w.Number (literal bytes)
-word_as t.Text bytes = quoted bytes
+word_as t.Text bytes = quoted_word bytes
 word_as kind bytes = w.Key kind
 
 -- what the grammar sees of a token

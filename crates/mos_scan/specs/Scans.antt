@@ -1,9 +1,8 @@
 -- What `scan` answers where a source has a lexical fault.
 
-use Rattle.std.specs.Prelude.{◌≡◌, ℕ, ◌+◌, ◌≤◌, List, length, Some, None, Result, Ok, Err}
+use Rattle.std.specs.Prelude.{◌≡◌, ℕ, List, Result, Ok, Err}
 use Rattle.mos_scan.specs.Cuts.{IsLexicalFault, line_of, column_of}
 use Rattle.mos_text.specs.declared.kind.Kind.{Kind}
-use Rattle.mos_scan.specs.declared.token.Token.{Token}
 use Rattle.mos_scan.specs.declared.fault.LexFault.{LexFault}
 use Rattle.mos_scan.specs.declared.fault.LexFault.TheVariants as l
 

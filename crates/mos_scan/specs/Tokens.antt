@@ -40,12 +40,12 @@ gap_at (a ∷ bs) =
 
 -- the place behind the closing quote on this line, for bytes that begin at `at`;
 -- in double quotes a backslash and what follows it go together
-abbrev pub closing : ℕ → Bool → ℕ → List ℕ → Option ℕ
-closing quote escaped at [] = None
-closing quote escaped at (b ∷ bs) =
+abbrev pub closing_quote : ℕ → Bool → ℕ → List ℕ → Option ℕ
+closing_quote quote escaped at [] = None
+closing_quote quote escaped at (b ∷ bs) =
     if b == 10 then None
     else (if not escaped && b == quote then Some (at + 1)
-    else closing quote (not escaped && quote == 34 && b == 92) (at + 1) bs)
+    else closing_quote quote (not escaped && quote == 34 && b == 92) (at + 1) bs)
 
 -- the place of the first byte that makes no escape with the backslash before it
 abbrev pub bad_escape : Bool → ℕ → List ℕ → Option ℕ
@@ -94,7 +94,7 @@ kind_of [] = None
 kind_of (a ∷ bs) =
     if begins_name a then end_or_plain (end_word (a ∷ bs)) (a ∷ bs)
     else (if is_ascii_digit a then when (list_all is_ascii_digit bs) t.Number
-    else (if is_quote a then when (is_length (closing a false 0 bs) (length bs)) t.Text
+    else (if is_quote a then when (is_length (closing_quote a false 0 bs) (length bs)) t.Text
     else symbol a bs))
 
 -- ---- faults
@@ -133,7 +133,7 @@ closed_or_wrong quote (Some n) bs = if quote == 34 then escape_fault (bad_escape
 
 -- the fault of a text in quotes, behind its first quote
 unfoldable pub text_fault : ℕ → List ℕ → Option (Kind × ℕ)
-text_fault quote bs = closed_or_wrong quote (closing quote false 0 bs) bs
+text_fault quote bs = closed_or_wrong quote (closing_quote quote false 0 bs) bs
 
 -- a word that is left out is named
 unfoldable pub word_fault : List ℕ → Option (Kind × ℕ)

@@ -64,8 +64,8 @@ fn gap_at(text: &[u8]) -> Option<usize>
 }
 
 /// The length of the text in quotes behind its first quote, where it is closed on its line.
-fn closing(quote: u8, text: &[u8]) -> Option<usize>
-    ensures value { result ≡ spec.closing quote false 0 text.now }
+fn closing_quote(quote: u8, text: &[u8]) -> Option<usize>
+    ensures value { result ≡ spec.closing_quote quote false 0 text.now }
     ensures within { IfSome result (λ n. n ≤ length text.now) }
 {
     let mut rest = text;
@@ -154,7 +154,7 @@ fn text_fault(quote: u8, text: &[u8]) -> Option<(LexicalError, usize)>
         → model.kind_and_offset whole result ≡ spec.text_fault quote text.now }
     ensures within { IfSome result (λ x. x.1 ≤ length text.now) }
 {
-    let Some(length) = closing(quote, text) else {
+    let Some(length) = closing_quote(quote, text) else {
         return Some((LexicalError::Text, 0));
     };
     let (inside, _) = text.split_at(length);
@@ -251,7 +251,7 @@ fn quoted_at(quote: u8, rest: &[u8]) -> (TokenKind, usize)
     ensures value { result ≡ model.quoted_at quote rest.now }
     ensures within { result.1 ≤ length rest.now + 1 }
 {
-    (TokenKind::Text, closing(quote, rest).unwrap_or(0) + 1)
+    (TokenKind::Text, closing_quote(quote, rest).unwrap_or(0) + 1)
 }
 
 /// The token at the front, where no gap and no fault is.

@@ -52,8 +52,8 @@ fn escape_of(byte: u8) -> u8
 }
 
 /// The text with its escapes read.
-fn unescaped(alloc: Global, text: &[u8]) -> Result<Vec<u8>, NoMemory>
-    ensures value { IfOk result (λ v. v.items ≡ spec.unescaped false text.now) }
+fn without_escapes(alloc: Global, text: &[u8]) -> Result<Vec<u8>, NoMemory>
+    ensures value { IfOk result (λ v. v.items ≡ spec.without_escapes false text.now) }
     ensures short { IfOk result (λ v. length v.items ≤ length text.now) }
 {
     let mut read = Vec::new(alloc);
@@ -81,10 +81,10 @@ fn source_text(alloc: Global, text: &str) -> Result<SourceText, NoMemory>
 }
 
 /// The word of these bytes, which are UTF-8 in what `scan` gives.
-#[tactic(auto, unfolding(crate::specs::Reading::named))]
-fn named(alloc: Global, bytes: &[u8]) -> Result<Word, NoMemory>
+#[tactic(auto, unfolding(crate::specs::Reading::name_word))]
+fn name_word(alloc: Global, bytes: &[u8]) -> Result<Word, NoMemory>
     requires { length bytes.now ≤ source_limit }
-    ensures { IfOk result (λ word. word ≡ spec.named bytes.now) }
+    ensures { IfOk result (λ word. word ≡ spec.name_word bytes.now) }
 {
     match std::str::from_utf8(bytes) {
         Ok(text) => Ok(Word::Name(source_text(alloc, text)?)),
@@ -93,10 +93,10 @@ fn named(alloc: Global, bytes: &[u8]) -> Result<Word, NoMemory>
 }
 
 /// The text of these bytes, which are UTF-8 in what `scan` gives.
-#[tactic(auto, unfolding(crate::specs::Reading::text_of))]
-fn text_of(alloc: Global, bytes: &[u8]) -> Result<Word, NoMemory>
+#[tactic(auto, unfolding(crate::specs::Reading::text_word))]
+fn text_word(alloc: Global, bytes: &[u8]) -> Result<Word, NoMemory>
     requires { length bytes.now ≤ source_limit }
-    ensures { IfOk result (λ word. word ≡ spec.text_of bytes.now) }
+    ensures { IfOk result (λ word. word ≡ spec.text_word bytes.now) }
 {
     match std::str::from_utf8(bytes) {
         Ok(text) => Ok(Word::Text(source_text(alloc, text)?)),
@@ -105,15 +105,15 @@ fn text_of(alloc: Global, bytes: &[u8]) -> Result<Word, NoMemory>
 }
 
 /// The text in these quotes.
-#[tactic(auto, unfolding(crate::specs::Reading::quoted))]
-fn quoted(alloc: Global, bytes: &[u8]) -> Result<Word, NoMemory>
+#[tactic(auto, unfolding(crate::specs::Reading::quoted_word))]
+fn quoted_word(alloc: Global, bytes: &[u8]) -> Result<Word, NoMemory>
     requires { length bytes.now ≤ source_limit }
-    ensures { IfOk result (λ word. word ≡ spec.quoted bytes.now) }
+    ensures { IfOk result (λ word. word ≡ spec.quoted_word bytes.now) }
 {
     match bytes {
-        [b'"', inside @ .., _] => text_of(alloc, unescaped(alloc, inside)?.as_slice()),
-        [_, inside @ .., _] => text_of(alloc, inside),
-        _ => text_of(alloc, &[]),
+        [b'"', inside @ .., _] => text_word(alloc, without_escapes(alloc, inside)?.as_slice()),
+        [_, inside @ .., _] => text_word(alloc, inside),
+        _ => text_word(alloc, &[]),
     }
 }
 
@@ -125,9 +125,9 @@ fn word_of(alloc: Global, source: &[u8], token: &Token) -> Result<Word, NoMemory
 {
     let bytes = bytes_between(source, token.from as usize, token.to as usize);
     match token.kind {
-        TokenKind::Name => named(alloc, bytes),
+        TokenKind::Name => name_word(alloc, bytes),
         TokenKind::Number => Ok(Word::Number(literal(bytes))),
-        TokenKind::Text => quoted(alloc, bytes),
+        TokenKind::Text => quoted_word(alloc, bytes),
         kind => Ok(Word::Key(kind)),
     }
 }

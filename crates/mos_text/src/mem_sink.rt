@@ -3,7 +3,7 @@ ghost use Rattle.std.specs.Prelude.{◌≡◌, ◌≢◌, ◌↔◌, ◌<◌, �
 ghost use Rattle.mos_text.specs.Calls.{FailsNext, after_one, calls_of, one_more};
 ghost use Rattle.mos_text.specs.SinkBytes.{TakesSome, taken};
 
-use crate::numbered::Numbered;
+use crate::failing_calls::FailingCalls;
 use crate::{Sink, Wrote};
 use std::alloc::Global;
 use std::marker::Model;
@@ -14,7 +14,7 @@ use std::marker::Model;
 pub struct MemSink {
     written: Vec<u8>,
     piece: u32,
-    writes: Numbered,
+    writes: FailingCalls,
     faults: u64,
 }
 
@@ -49,7 +49,7 @@ impl MemSink {
         MemSink {
             written: Vec::new(alloc),
             piece,
-            writes: Numbered::new(failing),
+            writes: FailingCalls::new(failing),
             faults: 0,
         }
     }

@@ -6,12 +6,12 @@ use std::marker::Model;
 
 /// Calls of one kind, numbered from 1, and the numbers of those that are to fail.
 #[derive(Debug, Drop)]
-pub(crate) struct Numbered {
+pub(crate) struct FailingCalls {
     made: u64,
     failing: Vec<u32>,
 }
 
-impl Model for Numbered {
+impl Model for FailingCalls {
     ghost use Rattle.mos_text.specs.Calls.{Calls, calls_code};
 
     ghost Value = { Calls };
@@ -21,11 +21,11 @@ impl Model for Numbered {
     ghost view = { λ n. record { made = n.made; failing = n.failing.items } };
 }
 
-impl Numbered {
-    pub(crate) fn new(failing: Vec<u32>) -> Numbered
+impl FailingCalls {
+    pub(crate) fn new(failing: Vec<u32>) -> FailingCalls
         ensures { result ≡ calls_of failing.items }
     {
-        Numbered { made: 0, failing }
+        FailingCalls { made: 0, failing }
     }
 
     /// Counts one call, and says whether it is to fail.
