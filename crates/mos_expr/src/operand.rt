@@ -1,5 +1,5 @@
 //! What has been read of an operand, and the operand that an operator makes of its own.
-ghost use Rattle.std.specs.Prelude.{◌≡◌, ◌≤◌, IfOk, Some};
+ghost use Rattle.std.specs.Prelude.{◌≡◌, IfOk, Some};
 ghost use Rattle.mos_expr.specs.Operands as spec;
 
 use crate::building::boxed;

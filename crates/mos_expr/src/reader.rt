@@ -1,5 +1,5 @@
 //! What one word does.
-ghost use Rattle.std.specs.Prelude.{◌≡◌, true, false, Some, List, IfOk};
+ghost use Rattle.std.specs.Prelude.{◌≡◌, IfOk};
 ghost use Rattle.mos_expr.specs.Machine as spec;
 ghost use Rattle.mos_expr.specs.Reader as reads;
 

@@ -1,5 +1,5 @@
 //! What the innermost frame makes of an operand at a bracket, a comma or a bar.
-ghost use Rattle.std.specs.Prelude.{◌≡◌, IfOk, Some, List};
+ghost use Rattle.std.specs.Prelude.{◌≡◌, IfOk};
 ghost use Rattle.mos_expr.specs.Machine as spec;
 ghost use Rattle.mos_expr.specs.Operands as operands;
 ghost use Rattle.mos_expr.specs.declared.frame.Frame.TheVariants as f;

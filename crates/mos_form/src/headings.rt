@@ -1,9 +1,8 @@
 //! Pieces with names, texts and formals behind their first word.
-ghost use Rattle.std.specs.Prelude.{◌≡◌, ◌∷◌, ◌++◌, [], List, Option, Some, None, IfOk, MatchOption, true, false, option_copied};
+ghost use Rattle.std.specs.Prelude.{◌≡◌, ◌∷◌, Some, None, IfOk};
 ghost use Rattle.mos_scan.specs.declared.reading.Word.TheVariants as w;
 ghost use Rattle.mos_scan.specs.declared.token.TokenKind.TheVariants as t;
 ghost use Rattle.mos_form.specs.Fixed as fixed;
-ghost use Rattle.mos_form.specs.Phrases.{Phrase, answer};
 ghost use Rattle.mos_form.specs.Telling as spec;
 
 use crate::cut::{before_result, first, first_name, is_key};

@@ -1,5 +1,5 @@
 //! What one piece is.
-ghost use Rattle.std.specs.Prelude.{◌≡◌, ◌≤◌, ◌∷◌, ◌++◌, [], List, length, MatchOption, IfOk};
+ghost use Rattle.std.specs.Prelude.{◌≡◌, ◌≤◌, ◌∷◌, List, length, MatchOption, IfOk};
 ghost use Rattle.mos_tree.specs.Sizes.{size_of_form};
 ghost use Rattle.mos_scan.specs.declared.reading.Word.{Word as word_type};
 ghost use Rattle.mos_scan.specs.declared.reading.Word.TheVariants as w;
