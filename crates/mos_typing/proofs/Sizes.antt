@@ -1,10 +1,8 @@
 -- The expressions in a type, and in formals, have no more nodes than the words are many.
 
-use Rattle.std.proofs.Common.{◌≡◌, ℕ, ◌+◌, ◌≤◌, true, false, List, [], ◌∷◌, ◌++◌, length, map, sum, refl, sym, ◌∙◌, ap, arith, length-append}
+use Rattle.std.proofs.Common.{◌≡◌, ℕ, ◌+◌, ◌≤◌, List, [], ◌∷◌, ◌++◌, length, map, sum, refl, sym, ◌∙◌, ap, arith, length-append}
 use Rattle.std.proofs.lemmas.List.Sums.{sum-map, sum_by-cons}
 use Rattle.mos_tree.specs.declared.declaration.Dimension.{Dimension}
-use Rattle.mos_tree.specs.declared.declaration.TypeForm.{TypeForm}
-use Rattle.mos_tree.specs.declared.declaration.FormalGroup.{FormalGroup}
 use Rattle.mos_tree.specs.Sizes.{size_of_dimension, size_of_type, size_of_formal, size_of_formals}
 use Rattle.mos_scan.specs.declared.token.TokenKind.TheVariants as t
 use Rattle.mos_scan.specs.declared.reading.Word.{Word}
@@ -12,7 +10,6 @@ use Rattle.mos_scan.specs.declared.reading.Word.TheVariants as w
 use Rattle.mos_expr.specs.Grammar.{spell, tree, height, spell_names, list_of_names}
 use Rattle.mos_expr.specs.Sizes.{ExpressionIsSmall}
 use Rattle.mos_typing.specs.Typing.{Dim, any_range, any_set, within, Dims, last_dim, and_dim, Typing, of_base, a_range, a_set, a_list, an_array, Groups, last_group, and_group, Formals, no_brackets, empty_brackets, formals, base_words, dynamic_words, dim_words, dims_words, typing_words, group_words, formal_words, in_brackets, dimension_of, dimensions_of, type_of, groups_of, formals_of, DimIsGrouped, DimsAreGrouped, TypeIsGrouped, GroupsAreGrouped, FormalsAreGrouped}
-use Rattle.mos_typing.specs.Spellings.{IsTypeForm, AreFormalGroups}
 use Rattle.mos_typing.specs.Sizes.{TypeIsSmall, FormalsAreSmall}
 
 -- words behind others, the first of them named
