@@ -1,5 +1,5 @@
 //! What one piece is.
-ghost use Rattle.std.specs.Prelude.{◌≡◌, ◌≤◌, ◌∷◌, ◌++◌, [], List, length, MatchOption, IfOk};
+ghost use Rattle.std.specs.Prelude.{◌≡◌, ◌≤◌, ◌∷◌, List, length, MatchOption, IfOk};
 ghost use Rattle.mos_tree.specs.Sizes.{size_of_form};
 ghost use Rattle.mos_scan.specs.declared.reading.Word.{Word as word_type};
 ghost use Rattle.mos_scan.specs.declared.reading.Word.TheVariants as w;
@@ -19,10 +19,10 @@ use crate::expressions::{
 use crate::head::{Head, Next, head_of, keyword_of, next_of};
 use crate::headings::{forward, function, model, options, procedure};
 use crate::lists::{labels, uses};
+use mos_expr::trees_are_small;
 use mos_scan::{TokenKind, Word};
 use mos_text::{NoMemory, SourceText};
 use mos_tree::{Assignment, ConditionKeyword, Form, Reference, Simple};
-use mos_expr::trees_are_small;
 use mos_typing::{expressions_have_plain_words, names, types_are_small};
 use std::alloc::Global;
 
@@ -109,7 +109,11 @@ fn condition(keyword: ConditionKeyword, rest: &[Word]) -> Option<&[Word]>
 }
 
 /// What stands behind a keyword with a condition.
-fn behind_condition(alloc: Global, keyword: ConditionKeyword, rest: &[Word]) -> Result<Form, NoMemory>
+fn behind_condition(
+    alloc: Global,
+    keyword: ConditionKeyword,
+    rest: &[Word],
+) -> Result<Form, NoMemory>
     ensures { IfOk result (spec.TellsPiece (w.Key (fixed.condition_word keyword) ∷ rest.now)) }
 {
     match condition(keyword, rest) {
@@ -233,7 +237,12 @@ fn dotted(alloc: Global, name: &SourceText, behind: &[Word]) -> Result<Form, NoM
 }
 
 /// What stands behind a field of a variable.
-fn after_field(alloc: Global, name: &SourceText, field: &SourceText, rest: &[Word]) -> Result<Form, NoMemory>
+fn after_field(
+    alloc: Global,
+    name: &SourceText,
+    field: &SourceText,
+    rest: &[Word],
+) -> Result<Form, NoMemory>
     ensures { IfOk result (spec.TellsPiece (w.Name name.now ∷ w.Key t.Dot ∷ w.Name field.now ∷ rest.now)) }
 {
     match first(rest) {

@@ -19,7 +19,10 @@ use mos_tree::{FormalGroup, TypeForm};
 use sqlite_items::Items;
 use std::alloc::Global;
 
-fn group_of(names: Items<SourceText>, typ: Result<TypeForm, ExprFault>) -> Result<FormalGroup, ExprFault>
+fn group_of(
+    names: Items<SourceText>,
+    typ: Result<TypeForm, ExprFault>,
+) -> Result<FormalGroup, ExprFault>
     ensures { result ≡ joining.on_ok (reads.group_of names) typ }
 {
     match typ {
