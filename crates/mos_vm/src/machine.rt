@@ -243,7 +243,7 @@ impl Machine {
     }
 
     fn combine(&mut self, operator: Operator) -> Result<Control, NoMemory>
-        ensures { IfOk result (λ control. Combines operator self.old flow self.new) }
+        ensures { IfOk result (λ control. Combines operator self.old control self.new) }
     {
         match self.stack.pop() {
             Some(Scalar::Int(right)) => match self.stack.pop() {
@@ -307,7 +307,7 @@ impl Machine {
 
     /// All that is held goes to the output, or nothing where that would be too much.
     fn write_held(&mut self) -> Result<Control, NoMemory>
-        ensures { IfOk result (λ control. WritesHeld self.old flow self.new) }
+        ensures { IfOk result (λ control. WritesHeld self.old control self.new) }
     {
         if self.output.len() + self.held.len() > OUTPUT_LIMIT {
             return Ok(Control::Halts(Stop::Failed(FaultKind::OutFull)));
