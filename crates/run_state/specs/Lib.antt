@@ -1,0 +1,6 @@
+pub mod Stops
+pub mod State
+pub mod Calls
+pub mod Places
+pub mod Parameters
+pub mod Examples
