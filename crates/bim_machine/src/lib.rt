@@ -1,13 +1,9 @@
-// A library with one function.
+//! The abstract machine, which does what an image says: definitions, and laws of them.
+//!
+//! The machine begins with what the tables of the image say, and goes on instruction by instruction.
+//! It is given replies and a budget of ticks from outside.
 #![tactic(auto)]
 
-ghost use Rattle.std.specs.Prelude.{◌≡◌};
-ghost use Rattle.bim_machine.specs.Echo.{echo_of};
+mod laws;
 
-// The `ensures` clause is the contract: what `echo` returns is `echo_of` of its argument, a definition
-// in `specs/Echo.antt`, which a caller's clause can cite too.
-pub fn echo(x: usize) -> usize
-    ensures { result ≡ echo_of x }
-{
-    x
-}
+pub use laws::machine_laws;

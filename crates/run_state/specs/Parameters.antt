@@ -9,6 +9,8 @@ use Rattle.mos_text.specs.declared.scalar.Scalar.TheVariants.{Int, Bool as Truth
 use Rattle.mos_names.specs.NameLists.{Name, place_of}
 use Rattle.mos_value.specs.Values.{Value, One}
 use Rattle.mos_value.specs.Answers.{is_integer}
+use Rattle.mos_text.specs.declared.fault_kind.FaultKind.TheVariants.{BadParam}
+use Rattle.run_state.specs.Stops.{Outcome, Failed}
 
 -- a parameter: its name, and the value that it has where no other is given; that is of its type
 pub record Parameter : Type 0 where
@@ -143,3 +145,7 @@ with_values [] values frame = Some frame
 with_values (slot ∷ slots) [] frame = None
 with_values (slot ∷ slots) (value ∷ values) frame =
     if nat_lt slot (length frame) then with_values slots values (slice_set frame slot (One value)) else None
+
+-- a run whose parameter text is refused does nothing
+abbrev pub refused : Outcome
+refused = record { output = []; calls = []; ticks = 0; stop = Failed BadParam }
