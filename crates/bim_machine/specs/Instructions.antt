@@ -10,7 +10,7 @@ use Rattle.bim_code.specs.declared.instruction.Comparison.TheVariants.{Equal, No
 use Rattle.bim_code.specs.declared.instruction.Instruction.{Instruction}
 use Rattle.bim_code.specs.declared.instruction.Instruction.TheVariants.{Tick, PushInt, PushBool, PushText, LoadGlobal, StoreGlobal, Swap, Add, Subtract, Compare, Jump, JumpIf, JumpNot, Show, Write, Line, End, Fault}
 use Rattle.mos_value.specs.Values.{Value, One, Place, Operand, Holds, Points, Walks}
-use Rattle.mos_value.specs.Answers.{Operation, sum, difference, compare, show, Result, Gives, Faults, Sticks as NoAnswer, answer, text}
+use Rattle.mos_value.specs.Answers.{Operation, between, sum, difference, compare, show, Result, Gives, Faults, Sticks as NoAnswer, answer, text}
 use Rattle.mos_value.specs.Answers as how
 use Rattle.run_state.specs.State.{line_end}
 use Rattle.run_state.specs.Places.{load}
@@ -115,9 +115,9 @@ act constants (LoadGlobal slot) slots work store = on_some (load (global slot) s
 act constants (StoreGlobal slot) slots work store = on_value work.stack work (λ value below. Puts ((global slot, value) ∷ []) below)
 act constants Swap slots work store =
     on_operand work.stack work (λ b rest. on_operand rest.stack rest (λ a below. On (with_stack (a ∷ b ∷ below.stack) below)))
-act constants Add slots work store = operate sum 2 work
-act constants Subtract slots work store = operate difference 2 work
-act constants (Compare comparison) slots work store = operate (compare (comparison_of comparison)) 2 work
+act constants Add slots work store = operate (between sum) 2 work
+act constants Subtract slots work store = operate (between difference) 2 work
+act constants (Compare comparison) slots work store = operate (between (compare (comparison_of comparison))) 2 work
 act constants (Jump address) slots work store = Jumps work
 act constants (JumpIf address) slots work store = on_truth work.stack work jumps_if
 act constants (JumpNot address) slots work store = on_truth work.stack work jumps_not

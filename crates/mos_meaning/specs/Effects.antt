@@ -5,7 +5,7 @@ use Rattle.std.specs.Prelude.{ℕ, ◌-◌, zero, suc, Bool, true, false, List, 
 use Rattle.mos_text.specs.declared.scalar.Scalar.TheVariants.{Str}
 use Rattle.mos_names.specs.NameLists.{Name}
 use Rattle.mos_value.specs.Values.{Value, One, Place}
-use Rattle.mos_value.specs.Answers.{Operation, show, answer}
+use Rattle.mos_value.specs.Answers.{Operator, between, show, answer}
 use Rattle.run_state.specs.Stops.{Stop, Stuck, Lost}
 use Rattle.run_state.specs.State.{World, State, over, Out, Gave, Halts, bind, on_line, answered, line_end}
 use Rattle.run_state.specs.State as state
@@ -32,9 +32,9 @@ assigned None value s = Halts Lost None s
 assigned (Some place) value s = stored (put place value s.memory.store) s
 
 -- the old value, read now, and this one give the new value
-abbrev pub changed : Operation → Option Place → Value → State → Out Flow
-changed operation place value s =
-    bind (loaded place s) (λ old s1. bind (answered (answer operation (old ∷ value ∷ [])) s1) (λ new s2. assigned place new s2))
+abbrev pub changed : Operator → Option Place → Value → State → Out Flow
+changed operator place value s =
+    bind (loaded place s) (λ old s1. bind (answered (answer (between operator) (old ∷ value ∷ [])) s1) (λ new s2. assigned place new s2))
 
 -- Printing.
 
@@ -77,8 +77,8 @@ abbrev mutual
   pub effect_of : World → Routine → Names → Effect → Env → State → Out Flow
   effect_of w call names (assign line scope n e) env s =
       on_line line (ticking w s (λ s1. bind (value_of w call names e env s1) (λ v s2. assigned (place_in names env scope n) v s2)))
-  effect_of w call names (change line operation scope n e) env s =
-      on_line line (ticking w s (λ s1. bind (value_of w call names e env s1) (λ v s2. changed operation (place_in names env scope n) v s2)))
+  effect_of w call names (change line operator scope n e) env s =
+      on_line line (ticking w s (λ s1. bind (value_of w call names e env s1) (λ v s2. changed operator (place_in names env scope n) v s2)))
   effect_of w call names (write line newline all) env s = on_line line (ticking w s (λ s1. written w call names newline all env [] s1))
   effect_of w call names (perform line routine all) env s =
       on_line line (ticking w s (λ s1. bind (arguments_of w call names all env [] s1) (λ given s2.

@@ -23,7 +23,7 @@ use Rattle.run_state.specs.Places.{load}
 use Rattle.bim_machine.specs.Machine.{Work, Here, Machine, At, Over, Halt, Fails, Sticks, Act, On, Jumps, Stops, Puts, Asks, Enters, Leaves, Site, push, settle}
 use Rattle.bim_machine.specs.Instructions.{on_some, on_value, with_stack, values_off, operate, global, act}
 use Rattle.bim_machine.specs.Courses.{Progress, start, told}
-use Rattle.mos_meaning.specs.Syntax.{Own, Model, number, variable, index, apply, sum_over, ask_hub, Arguments, no_argument, by_value, by_place, Shown, nothing, one_more, Block, no_more, first, assign, change, write, perform, invoke, Body, Program}
+use Rattle.mos_meaning.specs.Syntax.{Own, Model, number, variable, index, apply, range_of, sum_over, ask_hub, Arguments, no_argument, by_value, by_place, Shown, nothing, one_more, Block, no_more, first, assign, change, write, perform, invoke, Body, Program}
 use Rattle.mos_meaning.specs.Meaning.{meaning_of}
 
 -- The model.
@@ -31,7 +31,7 @@ use Rattle.mos_meaning.specs.Meaning.{meaning_of}
 -- sum(i in 1..3 | i<>2) i
 abbrev pub one_and_three : Arguments
 one_and_three =
-    by_value (sum_over (codes "i") (apply range (number (pos 1)) (number (pos 3)))
+    by_value (sum_over (codes "i") (range_of (number (pos 1)) (number (pos 3)))
     (apply (compare not_equal) (index (codes "i")) (number (pos 2))) (index (codes "i"))) no_argument
 
 -- procedure addto(r, n): y:=n, r+=y; r is shared with the caller

@@ -3,6 +3,7 @@ pub mod Sources
 pub mod Values
 pub mod Effects
 pub mod Meaning
+pub mod Working
 pub mod Follows
 pub mod Examples
 pub mod FormsToCome

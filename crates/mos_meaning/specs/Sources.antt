@@ -1,6 +1,6 @@
 -- The model that the tree of a source is, as far as its forms can be run today.
 
-use Rattle.std.specs.Prelude.{ℕ, ℤ, pos, Bool, true, false, List, [], ◌∷◌, Option, Some, None, codes, map, if◌then◌else◌}
+use Rattle.std.specs.Prelude.{ℕ, ℤ, pos, Bool, true, false, List, [], ◌∷◌, Option, Some, None, codes, map, length, replicate, if◌then◌else◌}
 use Rattle.std.specs.Str.{bytes_eq}
 use Rattle.mos_text.specs.declared.scalar.Scalar.TheVariants.{Int}
 use Rattle.mos_tree.specs.declared.expr.Expr.{Expr}
@@ -11,7 +11,7 @@ use Rattle.mos_tree.specs.declared.expr.Expr.TheFolds.{fold-Expr}
 use Rattle.mos_tree.specs.declared.statement.Reference.{Reference}
 use Rattle.mos_tree.specs.declared.statement.Reference.TheVariants as target
 use Rattle.mos_tree.specs.declared.statement.Assignment.{Assignment}
-use Rattle.mos_tree.specs.declared.statement.Assignment.TheVariants as operator
+use Rattle.mos_tree.specs.declared.statement.Assignment.TheVariants as how
 use Rattle.mos_tree.specs.declared.statement.Arm.{Arm}
 use Rattle.mos_tree.specs.declared.statement.Statement.{Statement}
 use Rattle.mos_tree.specs.declared.statement.Statement.TheOpen.{Statement-F, Assign, Fill, Call, If, Case, Forall, While, Repeat, Do, Break, Next, Initializations}
@@ -21,34 +21,34 @@ use Rattle.mos_tree.specs.declared.source.Top.TheVariants as top
 use Rattle.mos_tree.specs.declared.source.Tree.{Tree}
 use Rattle.mos_names.specs.NameLists.{Name, with_name}
 use Rattle.mos_value.specs.Values.{Value, One}
-use Rattle.mos_value.specs.Answers.{Operation, sum, difference, compare, equal, not_equal, less, at_most, greater, at_least}
+use Rattle.mos_value.specs.Answers.{Operator, sum, difference, compare, equal, not_equal, less, at_most, greater, at_least}
 use Rattle.mos_meaning.specs.Syntax.{Scope, Own, Model, Expression, number, text, truth, variable, apply, unbuilt, Shown, nothing, one_more, Effect, assign, change, write, perform, if_, while_, do_, break_, next_, unbuilt_effect, Branches, else_, elif, Block, no_more, first, Program}
 
 -- Expressions.
 
-abbrev pub operation_of : BinaryOperator → Option Operation
-operation_of Plus = Some sum
-operation_of Minus = Some difference
-operation_of Equal = Some (compare equal)
-operation_of NotEqual = Some (compare not_equal)
-operation_of Less = Some (compare less)
-operation_of AtMost = Some (compare at_most)
-operation_of Greater = Some (compare greater)
-operation_of AtLeast = Some (compare at_least)
-operation_of Times = None
-operation_of Div = None
-operation_of Mod = None
-operation_of Inter = None
-operation_of Union = None
-operation_of Range = None
-operation_of In = None
-operation_of NotIn = None
-operation_of And = None
-operation_of Or = None
+abbrev pub operator_of : BinaryOperator → Option Operator
+operator_of Plus = Some sum
+operator_of Minus = Some difference
+operator_of Equal = Some (compare equal)
+operator_of NotEqual = Some (compare not_equal)
+operator_of Less = Some (compare less)
+operator_of AtMost = Some (compare at_most)
+operator_of Greater = Some (compare greater)
+operator_of AtLeast = Some (compare at_least)
+operator_of Times = None
+operator_of Div = None
+operator_of Mod = None
+operator_of Inter = None
+operator_of Union = None
+operator_of Range = None
+operator_of In = None
+operator_of NotIn = None
+operator_of And = None
+operator_of Or = None
 
-abbrev pub applied : Option Operation → Expression → Expression → Expression
+abbrev pub applied : Option Operator → Expression → Expression → Expression
 applied None a b = unbuilt
-applied (Some operation) a b = apply operation a b
+applied (Some operator) a b = apply operator a b
 
 -- each name is the model's: there are no routines
 abbrev pub expression_step : Expr-F Expression → Expression
@@ -56,7 +56,7 @@ expression_step (Integer n) = number n
 expression_step (Text t) = text t
 expression_step (Truth b) = truth b
 expression_step (Named n) = variable Model n
-expression_step (Binary op a b) = applied (operation_of op) a b
+expression_step (Binary op a b) = applied (operator_of op) a b
 expression_step _ = unbuilt
 
 abbrev pub expression : Expr → Expression
@@ -75,13 +75,13 @@ procedure line called all =
     else (if bytes_eq (codes "write") called then write line false all else unbuilt_effect)
 
 abbrev pub assignment : ℕ → Reference → Assignment → Expression → Effect
-assignment line (target.Name n) operator.Set e = assign line Model n e
-assignment line (target.Name n) operator.Add e = change line sum Model n e
-assignment line (target.Name n) operator.Take e = change line difference Model n e
-assignment line (target.Cell n all) how e = unbuilt_effect
-assignment line (target.Field n field) how e = unbuilt_effect
-assignment line (target.CellField n all field) how e = unbuilt_effect
-assignment line target.Returned how e = unbuilt_effect
+assignment line (target.Name n) how.Set e = assign line Model n e
+assignment line (target.Name n) how.Add e = change line sum Model n e
+assignment line (target.Name n) how.Take e = change line difference Model n e
+assignment line (target.Cell n all) by e = unbuilt_effect
+assignment line (target.Field n field) by e = unbuilt_effect
+assignment line (target.CellField n all field) by e = unbuilt_effect
+assignment line target.Returned by e = unbuilt_effect
 
 abbrev pub block : List Effect → Block
 block [] = no_more
@@ -138,7 +138,7 @@ abbrev mutual
   names_after names (if_ line all) = names_in_branches names all
   names_after names (while_ line e body) = names_after names body
   names_after names (do_ all) = names_from names all
-  names_after names (change line operation scope n e) = names
+  names_after names (change line operator scope n e) = names
   names_after names (write line newline all) = names
   names_after names (perform line routine all) = names
   names_after names (break_ line) = names
@@ -161,7 +161,7 @@ variables_of all = names_from [] all
 
 -- before its first assignment a variable is 0: each is an integer
 abbrev pub zeros : List Name → List Value
-zeros names = map (λ n. One (Int (pos 0))) names
+zeros names = replicate (length names) (One (Int (pos 0)))
 
 -- statements as a model, whose variables are those that they assign to
 abbrev pub program_of : Block → Program

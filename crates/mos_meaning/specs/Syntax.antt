@@ -4,7 +4,7 @@
 use Rattle.std.specs.Prelude.{ℕ, ℤ, Bool, List, Option}
 use Rattle.mos_names.specs.NameLists.{Name}
 use Rattle.mos_value.specs.Values.{Value}
-use Rattle.mos_value.specs.Answers.{Operation}
+use Rattle.mos_value.specs.Answers.{Operator}
 use Rattle.run_state.specs.HubFunctions.{HubFunction}
 use Rattle.run_state.specs.Parameters.{Parameter}
 
@@ -21,7 +21,8 @@ mutual
     truth : Bool → Expression
     variable : Scope → Name → Expression
     index : Name → Expression  -- a name that a `sum` binds
-    apply : Operation → Expression → Expression → Expression
+    apply : Operator → Expression → Expression → Expression
+    range_of : (first last : Expression) → Expression  -- `first..last`
     sum_over : (index : Name) (set condition body : Expression) → Expression  -- `sum(index in set | condition) body`
     invoke : (routine : ℕ) → Arguments → Expression
     ask_hub : HubFunction → Arguments → Expression
@@ -42,7 +43,7 @@ mutual
   -- a statement, with the line of its first piece
   pub data Effect : Type 0 where
     assign : (line : ℕ) → Scope → Name → Expression → Effect
-    change : (line : ℕ) → Operation → Scope → Name → Expression → Effect  -- `+=` and `-=`
+    change : (line : ℕ) → Operator → Scope → Name → Expression → Effect  -- `+=` and `-=`
     write : (line : ℕ) (newline : Bool) → Shown → Effect
     perform : (line routine : ℕ) → Arguments → Effect  -- a procedure
     if_ : (line : ℕ) → Branches → Effect

@@ -7,14 +7,14 @@ use Rattle.mos_text.specs.declared.scalar.Scalar.{Scalar}
 use Rattle.mos_text.specs.declared.scalar.Scalar.TheVariants.{Int, Bool as Truth, Str}
 use Rattle.mos_names.specs.NameLists.{Name, place_of}
 use Rattle.mos_value.specs.Values.{Value, One, Place, members_of}
-use Rattle.mos_value.specs.Answers.{Operation, sum, answer}
+use Rattle.mos_value.specs.Answers.{between, sum, range, answer}
 use Rattle.mos_value.specs.Answers as how
 use Rattle.run_state.specs.Stops.{Stop, Failed, Stuck, Lost}
 use Rattle.run_state.specs.State.{World, State, Out, Gave, Halts, bind, or_stop, answered, had, tick}
 use Rattle.run_state.specs.Calls.{ask}
 use Rattle.run_state.specs.HubFunctions.{HubFunction, Calling, Makes, Refuses, Unfit, call_of, value_of_reply}
 use Rattle.run_state.specs.Places.{load, Argument, ByValue, ByPlace}
-use Rattle.mos_meaning.specs.Syntax.{Scope, Own, Model, Expression, number, text, truth, variable, index, apply, sum_over, invoke, ask_hub, unbuilt, Arguments, no_argument, by_value, by_place}
+use Rattle.mos_meaning.specs.Syntax.{Scope, Own, Model, Expression, number, text, truth, variable, index, apply, range_of, sum_over, invoke, ask_hub, unbuilt, Arguments, no_argument, by_value, by_place}
 
 -- the names of the variables, the routine's that runs and the model's; the place of each is by its place
 -- among them
@@ -89,7 +89,7 @@ abbrev pub sums : World → (Scalar → State → Out Value) → (Scalar → Sta
 sums w condition body [] sofar s = Gave sofar s
 sums w condition body (x ∷ xs) sofar s =
     ticking w s (λ s1. bind (condition x s1) (λ c s2. on_truth c s2
-    (bind (body x s2) (λ v s3. bind (answered (answer sum (sofar ∷ v ∷ [])) s3) (λ total s4. sums w condition body xs total s4)))
+    (bind (body x s2) (λ v s3. bind (answered (answer (between sum) (sofar ∷ v ∷ [])) s3) (λ total s4. sums w condition body xs total s4)))
     (sums w condition body xs sofar s2)))
 
 abbrev mutual
@@ -99,8 +99,10 @@ abbrev mutual
   value_of w call names (truth b) env s = Gave (One (Truth b)) s
   value_of w call names (variable scope n) env s = loaded (place_in names env scope n) s
   value_of w call names (index n) env s = or_stop Lost (bound_in env.bound n) s
-  value_of w call names (apply operation a b) env s =
-      bind (value_of w call names a env s) (λ x s1. bind (value_of w call names b env s1) (λ y s2. answered (answer operation (x ∷ y ∷ [])) s2))
+  value_of w call names (apply operator a b) env s =
+      bind (value_of w call names a env s) (λ x s1. bind (value_of w call names b env s1) (λ y s2. answered (answer (between operator) (x ∷ y ∷ [])) s2))
+  value_of w call names (range_of a b) env s =
+      bind (value_of w call names a env s) (λ x s1. bind (value_of w call names b env s1) (λ y s2. answered (answer range (x ∷ y ∷ [])) s2))
   value_of w call names (sum_over i set condition body) env s =
       bind (value_of w call names set env s) (λ v s1. bind (or_stop Stuck (members_of v) s1) (λ xs s2.
       sums w (λ x. value_of w call names condition (with_index i x env)) (λ x. value_of w call names body (with_index i x env)) xs (One (Int (pos 0))) s2))

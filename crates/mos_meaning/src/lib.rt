@@ -6,7 +6,9 @@
 #![tactic(auto)]
 
 mod examples;
+mod laws;
 
 pub use examples::{
     courses, forms_to_come, hello_follows, meanings, meanings_of_loops, refused_lines,
 };
+pub use laws::working_models;

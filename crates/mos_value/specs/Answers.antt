@@ -27,11 +27,15 @@ pub data Comparison : Type 0 where
   greater : Comparison
   at_least : Comparison
 
+-- an operator between two values
+pub data Operator : Type 0 where
+  sum : Operator
+  difference : Operator
+  compare : Comparison → Operator
+
 -- an operator or a function
 pub data Operation : Type 0 where
-  sum : Operation
-  difference : Operation
-  compare : Comparison → Operation
+  between : Operator → Operation
   range : Operation  -- the integers from one to another
   show : Operation  -- the printed form, as a text
 
@@ -94,12 +98,12 @@ printed (Event class value) = codes "event " ++ signed_decimal class ++ codes " 
 
 -- what an operator or function makes of values, in the order in which they are written
 abbrev pub answer : Operation → List Value → Result
-answer sum (One (Int a) ∷ One (Int b) ∷ []) = integer (a +ℤ b)
-answer sum _ = Sticks
-answer difference (One (Int a) ∷ One (Int b) ∷ []) = integer (a -ℤ b)
-answer difference _ = Sticks
-answer (compare how) (One a ∷ One b ∷ []) = truth (compared how a b)
-answer (compare how) _ = Sticks
+answer (between sum) (One (Int a) ∷ One (Int b) ∷ []) = integer (a +ℤ b)
+answer (between sum) _ = Sticks
+answer (between difference) (One (Int a) ∷ One (Int b) ∷ []) = integer (a -ℤ b)
+answer (between difference) _ = Sticks
+answer (between (compare how)) (One a ∷ One b ∷ []) = truth (compared how a b)
+answer (between (compare how)) _ = Sticks
 answer range (One (Int a) ∷ One (Int b) ∷ []) = Gives (Range a b)
 answer range _ = Sticks
 answer show (One value ∷ []) = text (printed value)

@@ -4,19 +4,19 @@ use Rattle.std.specs.Prelude.{◌≡◌, [], ◌∷◌, Some, pos, negsuc, true,
 use Rattle.mos_text.specs.declared.fault_kind.FaultKind.TheVariants.{Overflow}
 use Rattle.mos_text.specs.declared.scalar.Scalar.TheVariants.{Int, Bool as Truth, Str}
 use Rattle.mos_value.specs.Values.{One, Range, members_of}
-use Rattle.mos_value.specs.Answers.{Gives, Faults, Sticks, sum, difference, compare, less, show, answer}
+use Rattle.mos_value.specs.Answers.{Gives, Faults, Sticks, between, sum, difference, compare, less, show, answer}
 
 -- the least integer is had as a difference, and one less is not
 abbrev pub LeastInteger : Type 0
 LeastInteger =
-    map (answer difference)
+    map (answer (between difference))
     ((One (Int (negsuc 2147483646)) ∷ One (Int (pos 1)) ∷ []) ∷ (One (Int (negsuc 2147483647)) ∷ One (Int (pos 1)) ∷ []) ∷ [])
     ≡ Gives (One (Int (negsuc 2147483647))) ∷ Faults Overflow ∷ []
 
 -- texts compare by bytes, and have no sum
 abbrev pub TextsCompare : Type 0
 TextsCompare =
-    map (λ operation. answer operation (One (Str (codes "ab")) ∷ One (Str (codes "b")) ∷ [])) (compare less ∷ sum ∷ [])
+    map (λ operation. answer operation (One (Str (codes "ab")) ∷ One (Str (codes "b")) ∷ [])) (between (compare less) ∷ between sum ∷ [])
     ≡ Gives (One (Truth true)) ∷ Sticks ∷ []
 
 -- a range has its members in ascending order, and none where it ends before it begins
