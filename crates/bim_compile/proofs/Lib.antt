@@ -1,12 +1,7 @@
-pub mod Leads
 pub mod Standing
+pub mod Leads
+pub mod Stores
+pub mod Lands
 pub mod EndLemmas
 pub mod ExpressionRuns
-pub mod Passes
-pub mod Effects
-pub mod Rules
-pub mod Course
-pub mod SizeLemmas
-pub mod NeverStuck
-pub mod PlainImages
-pub mod WorkingModels
+pub mod StatementRuns
