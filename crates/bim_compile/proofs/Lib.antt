@@ -5,3 +5,9 @@ pub mod Lands
 pub mod EndLemmas
 pub mod ExpressionRuns
 pub mod StatementRuns
+pub mod RightCode
+pub mod Followed
+pub mod SizeLemmas
+pub mod KeptRules
+pub mod CourseLemmas
+pub mod BuiltModels

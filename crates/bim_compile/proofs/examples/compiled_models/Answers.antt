@@ -1,6 +1,5 @@
 -- by computing
 use Rattle.std.proofs.Common.{refl}
-use Rattle.bim_compile.proofs.StatementRuns.{block_runs}
 use Rattle.bim_compile.proofs.examples.compiled_models.Goals as goal
 
 pub returns : goal.returns
