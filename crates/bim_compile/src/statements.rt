@@ -321,7 +321,7 @@ fn emit_assignment(
     let Reference::Name(name) = target else {
         unreachable!()
     };
-    let slot = names.place(name) as u32;
+    let slot = names.place(name.text()) as u32;
     draft.put(line, Instruction::Tick)?;
     emit_expression(alloc, draft, names, line, value)?;
     match operator {
