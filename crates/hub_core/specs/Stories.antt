@@ -1,6 +1,6 @@
 -- What a hub says of a lane's calls under the lock: each a call of a run, or of the lane for itself.
 
-use Rattle.std.specs.Prelude.{◌≡◌, ℕ, true, false, List, [], ◌∷◌, Option, Some, None, IsTrue, ◌⊎◌}
+use Rattle.std.specs.Prelude.{◌≡◌, ℕ, true, false, List, Option, Some, None, IsTrue, ◌⊎◌}
 use Rattle.job_calls.specs.declared.entry.Entry.{Entry}
 use Rattle.job_calls.specs.declared.reply.Answer.TheVariants as answer
 use Rattle.job_calls.specs.declared.reply.Reply.TheVariants.{Halt}

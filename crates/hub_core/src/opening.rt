@@ -29,7 +29,9 @@ fn have_file_names(files: &[Listed]) -> bool
 fn is_among(name: &Listed, files: &[Listed]) -> bool
     ensures { result ≡ list_any (λ file. bytes_eq file.name name.now.name) files.now }
 {
-    files.iter().any(|file| file.name.as_bytes() == name.name.as_bytes())
+    files
+        .iter()
+        .any(|file| file.name.as_bytes() == name.name.as_bytes())
 }
 
 fn are_distinct(files: &[Listed]) -> bool

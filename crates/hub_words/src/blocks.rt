@@ -49,10 +49,7 @@ fn written_at(place: usize, journal: &[Entry]) -> Option<(u32, &SharedBlob)>
 }
 
 /// What was last written under this name, and the place of the entry that wrote it.
-pub(crate) fn last_written<'a>(
-    name: &Text,
-    journal: &'a [Entry],
-) -> Option<(u32, &'a SharedBlob)>
+pub(crate) fn last_written<'a>(name: &Text, journal: &'a [Entry]) -> Option<(u32, &'a SharedBlob)>
     requires { length journal.now < 2 ^ 31 }
     ensures { MatchOption result (blocks.last_written name.now journal.now ≡ None) (λ w. blocks.last_written name.now journal.now ≡ Some record { place = w.0; bytes = w.1.now }) }
 {

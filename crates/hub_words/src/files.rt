@@ -78,7 +78,11 @@ fn listed<'a>(source: bool, name: &Text, files: &'a [Listed]) -> Option<&'a List
 {
     files.iter().find(|file| {
         file.name.as_bytes() == name.as_bytes()
-            && if source { is_source(&file.name) } else { is_data(&file.name) }
+            && if source {
+                is_source(&file.name)
+            } else {
+                is_data(&file.name)
+            }
     })
 }
 
