@@ -1,7 +1,8 @@
 //! The files that the job was opened with.
-ghost use Rattle.std.specs.Prelude.{◌≡◌, ℕ, ◌<◌, ◌^◌, ◌&&◌, [], length, find, position, IfSome, option_copied, bytes_eq, if◌then◌else◌};
+ghost use Rattle.std.specs.Prelude.{◌≡◌, ℕ, ◌<◌, ◌^◌, [], length, find, position, IfSome, option_copied, bytes_eq};
 ghost use Rattle.std.specs.Option.{option_map_or};
 ghost use Rattle.job_calls.specs.Files as listing;
+ghost use Rattle.hub_words.specs.Fronts.{has_name};
 ghost use Rattle.job_calls.specs.Runs.{Opening, opening_of};
 
 use job_calls::{Call, Entry, Listed};
@@ -74,7 +75,7 @@ fn is_data(name: &Text) -> bool
 
 /// The listed file of this name, if it is a source, or if it is a data file.
 fn listed<'a>(source: bool, name: &Text, files: &'a [Listed]) -> Option<&'a Listed>
-    ensures { option_copied result ≡ find (λ file. bytes_eq file.name name.now && (if source then listing.is_source file.name else listing.is_data file.name)) files.now }
+    ensures { option_copied result ≡ find (has_name source name.now) files.now }
 {
     files.iter().find(|file| {
         file.name.as_bytes() == name.as_bytes()
