@@ -28,7 +28,10 @@ too_large_line name = about name (codes ": too large\n")
 abbrev pub read_fault_line : List ℕ → List ℕ
 read_fault_line name = about name (codes ": read fault\n")
 
+-- the rule that is broken, at the end of the line
+unfoldable pub rule_text : ℕ → List ℕ
+rule_text rule = codes ", rule " ++ decimal rule ++ codes "\n"
+
 -- an image or an order file is not accepted: the byte at fault, and the rule that it breaks
 unfoldable pub bad_input_line : List ℕ → ℕ → ℕ → List ℕ
-bad_input_line name at rule =
-    about name (codes ": bad input at ") ++ decimal at ++ codes ", rule " ++ decimal rule ++ codes "\n"
+bad_input_line name at rule = about name (codes ": bad input at ") ++ decimal at ++ rule_text rule

@@ -1,6 +1,6 @@
 -- Worked examples of the text of a report and of error lines.
 
-use Rattle.std.specs.Prelude.{◌≡◌, [], ◌∷◌, Some, None, pos, negsuc, true, map, codes}
+use Rattle.std.specs.Prelude.{◌≡◌, [], ◌∷◌, ◌++◌, Some, None, pos, negsuc, true, map, codes}
 use Rattle.mos_text.specs.declared.fault_kind.FaultKind.TheVariants.{Overflow}
 use Rattle.mos_text.specs.declared.kind.Kind.TheVariants.{Syntax, Module}
 use Rattle.job_calls.specs.declared.call.Call.TheVariants.{Finish, Run, Send, Write, PipeOpen}
@@ -15,7 +15,16 @@ use Rattle.hub_text.specs.ReportText.{report_text}
 
 -- its report
 abbrev pub HelloReport : Type 0
-HelloReport = report_text hello_entries hello_runs ≡ codes "mosel report 1\nrun 0 hello.mos ok 0 ticks 1 steps 8 out 6\nhello\n\njournal 4\n0 0 - Open 1 10000000 \"\" hello.mos:41 -> opened\n1 0 - Claim -> claimed 0\n2 0 0 Finish ok 0 -> unit\n3 0 - Claim -> done\nend\n"
+HelloReport =
+    report_text hello_entries hello_runs
+    ≡ codes "mosel report 1\n"
+    ++ codes "run 0 hello.mos ok 0 ticks 1 steps 8 out 6\nhello\n\n"
+    ++ codes "journal 4\n"
+    ++ codes "0 0 - Open 1 10000000 \"\" hello.mos:41 -> opened\n"
+    ++ codes "1 0 - Claim -> claimed 0\n"
+    ++ codes "2 0 0 Finish ok 0 -> unit\n"
+    ++ codes "3 0 - Claim -> done\n"
+    ++ codes "end\n"
 
 -- some calls, and what is written of them
 abbrev pub CallTexts : Type 0

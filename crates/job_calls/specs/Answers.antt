@@ -8,7 +8,6 @@ use Rattle.job_calls.specs.declared.call.Call.TheVariants.{Open, Claim, Quit, Fi
 use Rattle.job_calls.specs.declared.call.Way.TheVariants.{Reads, Writes}
 use Rattle.job_calls.specs.declared.reply.Answer.{Answer}
 use Rattle.job_calls.specs.declared.reply.Answer.TheVariants.{Ready, NotYet, Shut}
-use Rattle.job_calls.specs.declared.reply.Reply.{Reply}
 use Rattle.job_calls.specs.declared.reply.Reply.TheVariants.{Opened, Claimed, Done, Code, Loaded, Started, Took, Seen, Nothing, Flag, Queued, Lost, Number, Found, Session, Bytes, PipeEnd, Halt, Fault}
 use Rattle.job_calls.specs.declared.reply.Reply.TheVariants as reply
 use Rattle.job_calls.specs.declared.entry.Entry.{Entry}
@@ -26,9 +25,11 @@ abbrev pub first_row : List (Bool × Answer) → Answer → Answer
 first_row [] last = last
 first_row (row ∷ rows) last = if row.0 then row.1 else first_row rows last
 
+-- the call meets a fault of the hub
 abbrev pub fault : FaultKind → Answer
 fault kind = Ready (Fault kind)
 
+-- the call is accepted, and nothing is told
 abbrev pub acknowledge : Answer
 acknowledge = Ready reply.Unit
 
@@ -63,6 +64,7 @@ run_rows journal model =
     ∷ (not (nat_lt (length (live_runs journal)) (lanes_of journal)), fault kind.NoLane)
     ∷ []
 
+-- else it is started
 abbrev pub run_answer : List Entry → ℕ → Answer
 run_answer journal model = first_row (run_rows journal model) (Ready (Started (run_count journal)))
 
@@ -103,6 +105,7 @@ send_answer journal (Some receiver) =
 abbrev pub unload_rows : List Entry → ℕ → List (Bool × Answer)
 unload_rows journal model = (is_live_run (current_run model journal) journal, fault kind.Busy) ∷ []
 
+-- else it is unloaded
 abbrev pub unload_answer : List Entry → ℕ → Answer
 unload_answer journal model = first_row (unload_rows journal model) acknowledge
 
@@ -116,6 +119,7 @@ read_answer None None = fault kind.NoFile
 abbrev pub reader_rows : List Entry → List ℕ → List (Bool × Answer)
 reader_rows journal name = (is_some (holder Reads name journal), fault kind.PipeBusy) ∷ []
 
+-- else the reader has it
 abbrev pub reader_answer : List Entry → List ℕ → Answer
 reader_answer journal name = first_row (reader_rows journal name) (Ready (Session (record { 0 = length journal })))
 
@@ -132,6 +136,7 @@ abbrev pub join_answer : Option ℕ → Answer
 join_answer None = NotYet
 join_answer (Some place) = Ready (Session (record { 0 = place }))
 
+-- else it waits for a reader that no writer has joined, and joins it
 abbrev pub writer_answer : List Entry → List ℕ → Answer
 writer_answer journal name = first_row (writer_rows journal name) (join_answer (session name journal))
 
@@ -142,6 +147,7 @@ put_rows journal name bytes =
     ∷ (nat_lt 4096 (length (untaken name journal) + length bytes), NotYet)
     ∷ []
 
+-- else they are put
 abbrev pub put_answer : List Entry → List ℕ → List ℕ → Answer
 put_answer journal name bytes = first_row (put_rows journal name bytes) acknowledge
 
@@ -152,6 +158,7 @@ pipe_rows journal name =
     ∷ (is_ended name journal, Ready PipeEnd)
     ∷ []
 
+-- else it waits
 abbrev pub pipe_answer : List Entry → List ℕ → Answer
 pipe_answer journal name = first_row (pipe_rows journal name) NotYet
 
@@ -194,6 +201,7 @@ stop_rows journal run call =
     ∷ (is_full journal call, fault kind.HubFull)
     ∷ []
 
+-- the calls of a run
 abbrev pub answer_to_run : List Entry → Option ℕ → Call → Answer
 answer_to_run journal None call = NotYet
 answer_to_run journal (Some run) call = first_row (stop_rows journal run call) (table_answer journal run call)
@@ -206,5 +214,6 @@ open_answer journal lane run (Finish end) = acknowledge
 open_answer journal lane run Claim = claim_answer journal lane
 open_answer journal lane run call = answer_to_run journal run call
 
+-- nothing is answered once the job was ended before its time
 abbrev pub answer_of : List Entry → ℕ → Option ℕ → Call → Answer
 answer_of journal lane run call = if has_quit journal then Shut else open_answer journal lane run call

@@ -17,6 +17,7 @@ receiver_of before run (Send to class value) (Queued receiver) = Some receiver
 receiver_of before (Some run) (Finish end) reply = parent_of run before
 receiver_of before run call reply = None
 
+-- this entry makes an event for run r
 abbrev pub comes_to : ℕ → Moment → Bool
 comes_to r m = is_run r (receiver_of m.before m.entry.run m.entry.call m.entry.reply)
 

@@ -1,22 +1,21 @@
 -- The legal journals: those that one hub, asked by one lane after the other, can have written.
 
-use Rattle.std.specs.Prelude.{◌≡◌, ℕ, ◌≤◌, List, [], ◌∷◌, ◌++◌, Option, Some, None, ◌||◌, length, IsTrue, All, ◌≢◌}
+use Rattle.std.specs.Prelude.{◌≡◌, ◌≤◌, List, [], ◌∷◌, ◌++◌, Option, Some, None, ◌||◌, length, IsTrue, All, ◌≢◌}
 use Rattle.std.specs.List.{list_all}
-use Rattle.mos_text.specs.FileName.{is_file_name}
+use Rattle.mos_text.specs.FileName.{is_file_name, is_source_name, is_image_name}
 use Rattle.job_calls.specs.declared.reply.Answer.TheVariants.{Ready}
 use Rattle.job_calls.specs.declared.reply.Reply.TheVariants.{Opened}
 use Rattle.job_calls.specs.declared.entry.Entry.{Entry}
 use Rattle.job_calls.specs.declared.entry.Listed.{Listed}
 use Rattle.job_calls.specs.Words.{own_entries}
 use Rattle.job_calls.specs.Runs.{Opening, opening, opening_of}
-use Rattle.job_calls.specs.Files.{is_source, is_image}
 use Rattle.job_calls.specs.Answers.{answer_of}
 use Rattle.job_calls.specs.Fitting.{fits}
 
 -- the first of the files can be the master: a source that is accepted, or an image
 abbrev pub IsMaster : List Listed → Type 0
 IsMaster [] = ⊥
-IsMaster (file ∷ files) = IsTrue (is_source file.name || is_image file.name) × (file.code ≡ 0)
+IsMaster (file ∷ files) = IsTrue (is_source_name file.name || is_image_name file.name) × (file.code ≡ 0)
 
 -- no name is that of a later file
 abbrev pub HaveDistinctNames : List Listed → Type 0
@@ -34,6 +33,7 @@ pub record CanOpen (o : Opening) : Type 0 where
   pub names : IsTrue (list_all (λ file. is_file_name file.name) o.files)
   pub distinct : HaveDistinctNames o.files
 
+-- there is such an opening
 abbrev pub OpensSo : Option Opening → Type 0
 OpensSo None = ⊥
 OpensSo (Some o) = CanOpen o
@@ -55,6 +55,7 @@ abbrev pub FollowOn : List Entry → List Entry → Type 0
 FollowOn before [] = Unit {0}
 FollowOn before (e ∷ es) = Follows before e × FollowOn (before ++ e ∷ []) es
 
+-- an opening, and entries that follow it, one by one
 abbrev pub IsLegal : List Entry → Type 0
 IsLegal [] = ⊥
 IsLegal (e ∷ es) = IsOpening e × FollowOn (e ∷ []) es

@@ -7,8 +7,8 @@ pub mod Events
 pub mod Blocks
 pub mod Pipes
 pub mod Weights
+pub mod Fitting
 pub mod Replies
 pub mod Answers
-pub mod Fitting
 pub mod Legal
 pub mod HelloJournal

@@ -66,6 +66,7 @@ parent_of k journal = last_given (λ e. option_and_then (λ start. start.parent)
 abbrev pub is_live : ℕ → List Entry → Bool
 is_live k journal = nat_lt k (run_count journal) && not (is_finished k journal)
 
+-- the runs that are live, in order
 abbrev pub live_runs : List Entry → List ℕ
 live_runs journal = filter (λ k. is_live k journal) (range_with_len 0 (run_count journal))
 

@@ -29,11 +29,13 @@ pub record Opening : Type 0 where
   pub params : List ℕ
   pub files : List Listed
 
+-- what the call says, where it is an `Open`
 abbrev pub opening_of : Call → Option Opening
 opening_of (Open lanes budget params files) =
     Some record { lanes = lanes; budget = budget; params = params; files = files }
 opening_of _ = None
 
+-- what entry 0 says
 abbrev pub opening : List Entry → Option Opening
 opening [] = None
 opening (e ∷ es) = opening_of e.call
@@ -51,6 +53,7 @@ start_by caller (Run model params) (Started run) =
     Some record { run = run; model = model; params = params; parent = caller }
 start_by caller call reply = None
 
+-- the run that an entry starts
 abbrev pub start_of : Entry → Option Start
 start_of e = start_by e.run e.call e.reply
 
@@ -87,12 +90,15 @@ params_of (suc k) journal =
 abbrev pub acts_of : ℕ → List Entry → List Entry
 acts_of k journal = filter (λ e. is_run k e.run && not (is_finish e.call)) journal
 
+-- its calls
 abbrev pub calls_of : ℕ → List Entry → List Call
 calls_of k journal = map (λ e. e.call) (acts_of k journal)
 
+-- and what they were answered
 abbrev pub replies_of : ℕ → List Entry → List Reply
 replies_of k journal = map (λ e. e.reply) (acts_of k journal)
 
+-- how a call says that a run has ended
 abbrev pub finish : Call → Option End
 finish (Finish end) = Some end
 finish _ = None

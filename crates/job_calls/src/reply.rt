@@ -1,3 +1,4 @@
+//! What the hub answers.
 ghost use Rattle.std.specs.Prelude.{◌≡◌, ◌<◌, ◌^◌, All, IfOk, IsOk, IsTrue};
 ghost use Rattle.job_calls.specs.Replies.{InRange, is_plain};
 

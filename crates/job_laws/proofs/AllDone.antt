@@ -1,6 +1,6 @@
 -- Where each lane was told that the job is done, each run was given to a lane and has finished.
 
-use Rattle.std.proofs.Common.{◌≡◌, ◌≢◌, ◌≤◌, ◌<◌, ℕ, zero, suc, ◌+◌, Bool, true, false, ◌&&◌, ◌||◌, List, [], ◌∷◌, ◌++◌, Option, Some, None, refl, sym, ap, ◌∙◌, subst, inl, inr, ◌⊎◌, nat_eq, length, arith}
+use Rattle.std.proofs.Common.{◌≡◌, ◌≢◌, ◌≤◌, ◌<◌, ℕ, zero, suc, ◌+◌, Bool, true, false, ◌&&◌, ◌||◌, List, [], ◌∷◌, ◌++◌, Option, Some, None, refl, sym, ap, ◌∙◌, subst, inl, inr, ◌⊎◌, nat_eq, arith}
 use Rattle.std.specs.Prelude.{if◌then◌else◌}
 use Rattle.std.specs.List.{list_any}
 use Rattle.std.proofs.lemmas.Bool.{eq-eqb, eqb-true}
@@ -15,7 +15,7 @@ use Rattle.job_calls.specs.Files.{lanes_of}
 use Rattle.job_calls.specs.Models.{asks}
 use Rattle.job_calls.specs.Answers.{stop_rows, table_answer}
 use Rattle.job_calls.specs.Fitting.{held_after, held_run}
-use Rattle.job_calls.specs.Legal.{IsLegal, IsOpening, Follows}
+use Rattle.job_calls.specs.Legal.{IsLegal, Follows}
 use Rattle.job_laws.specs.Lanes.{EndsDone}
 use Rattle.job_laws.proofs.Growing.{legal_grow}
 use Rattle.job_laws.proofs.Lists.{none_some, some_is}
@@ -63,8 +63,8 @@ free_at_end = own_grow IsFreeAtEnd
     (λ h. absurd h)
     (λ e o h. absurd (false_true (sym (ap is_done o.reply) ∙ h.1)))
     (λ log e legal p f h.
-      held-snoc (own_entries e.lane log) e
-      ∙ (done_now log e.lane e.run e.call e.reply (entering log e f) (done_last (own_entries e.lane log) e h).1).free)
+    held-snoc (own_entries e.lane log) e
+    ∙ (done_now log e.lane e.run e.call e.reply (entering log e f) (done_last (own_entries e.lane log) e h).1).free)
 
 -- a run that was given to a lane has finished, or the lane holds it
 abbrev EndsOrHolds : ℕ → List Entry → Type 0
@@ -159,8 +159,8 @@ given_more : (log : List Entry) (e : Entry) → AllGiven log → is_started e.re
 given_more log e p none = (
   finished-snoc 0 log e ∙ ap (λ b. b || (is_run 0 e.run && is_finish e.call)) p.0,
   λ k less.
-    let same : run_count (log ++ e ∷ []) ≡ run_count log + 0 = starts-snoc log e ∙ ap (λ b. run_count log + as_number b) none in
-    claimed-snoc k log e ∙ ap (λ b. b || claims k e.reply) (p.1 k (omega (arith, less, same))),
+      let same : run_count (log ++ e ∷ []) ≡ run_count log + 0 = starts-snoc log e ∙ ap (λ b. run_count log + as_number b) none in
+      claimed-snoc k log e ∙ ap (λ b. b || claims k e.reply) (p.1 k (omega (arith, less, same))),
 )
 
 done_step : (log : List Entry) (e : Entry) → IsDoneForGood log → Follows log e → IsDoneForGood (log ++ e ∷ [])
@@ -198,5 +198,5 @@ all_end journal h ends k less =
     let free = free_at_end lane.0 journal h (ends lane.0 (omega (arith, is, l))) in (
       given,
       filtered_any (λ (x : Entry). is_run k x.run && is_finish x.call) (λ (x : Entry). nat_eq x.lane lane.0) journal
-      (finished_by k (own_entries lane.0 journal) free (ends_or_holds k lane.0 journal h lane.2)),
+          (finished_by k (own_entries lane.0 journal) free (ends_or_holds k lane.0 journal h lane.2)),
     )

@@ -1,9 +1,9 @@
 -- A legal journal has fewer than 1,100,000 entries: behind the millionth each run is given once, is told to end once and
 -- ends once, each lane is told once that the job is done, and the job is ended once.
 
-use Rattle.std.proofs.Common.{◌≡◌, ◌≢◌, ◌≤◌, ◌<◌, ℕ, suc, zero, ◌+◌, Bool, true, false, not, ◌&&◌, ◌||◌, List, [], ◌∷◌, ◌++◌, Option, Some, None, refl, sym, ap, ◌∙◌, subst, inl, inr, ◌⊎◌, nat_eq, nat_lt, length, length-append, cond, arith}
+use Rattle.std.proofs.Common.{◌≡◌, ◌≢◌, ◌≤◌, ◌<◌, ℕ, suc, zero, ◌+◌, Bool, true, false, not, ◌||◌, List, [], ◌∷◌, ◌++◌, Option, Some, None, refl, sym, ap, ◌∙◌, subst, inl, inr, ◌⊎◌, nat_eq, nat_lt, length, length-append, cond, arith}
 use Rattle.std.specs.Prelude.{count_by, is_some, if◌then◌else◌}
-use Rattle.std.proofs.lemmas.Bool.{eqb-true, eq-eqb, lt-ltb, le-ltb, ltb-true, ltb-false, eqb-false}
+use Rattle.std.proofs.lemmas.Bool.{eqb-true, lt-ltb, le-ltb, ltb-true, ltb-false, eqb-false}
 use Rattle.std.proofs.lemmas.Bool.Decides.{eqb_tells}
 use Rattle.std.proofs.lemmas.List.Sums.{fold-append}
 use Rattle.job_calls.specs.declared.call.Call.{Call}
@@ -20,6 +20,7 @@ use Rattle.job_calls.specs.Answers.{stop_rows, table_answer, is_full}
 use Rattle.job_calls.specs.Fitting.{held_after, held_run, exchange_of, is_over, is_for_lane, below_lanes}
 use Rattle.job_calls.specs.Legal.{IsLegal, IsOpening, OpensSo, Follows}
 use Rattle.job_laws.proofs.Growing.{legal_induct}
+use Rattle.job_laws.proofs.Lists.{none_some}
 use Rattle.job_laws.proofs.Outcomes as outcome
 use Rattle.job_laws.proofs.Outcomes.{Outcome, run_outcome, is_idle, false_true}
 use Rattle.job_laws.proofs.Entering as enter
@@ -272,9 +273,6 @@ starts-snoc log e = let c = count-snoc (λ (x : Entry). is_started x.reply) log 
 pub claimed-snoc : (k : ℕ) (log : List Entry) (e : Entry) → is_claimed k (log ++ e ∷ []) ≡ (is_claimed k log || claims k e.reply)
 claimed-snoc k log e = any-snoc (λ (x : Entry). claims k x.reply) log e
 
-none_is_some : (k : ℕ) → None ≡ Some k → ⊥
-none_is_some k e = false_true (ap is_some e)
-
 abbrev unwrap : Option ℕ → ℕ
 unwrap None = 0
 unwrap (Some k) = k
@@ -293,7 +291,7 @@ least_by log g all from many k le go false is e =
 
 pub least : (log : List Entry) (g : ℕ) → ((k : ℕ) → is_claimed k log ≡ nat_lt k g) → (from many k : ℕ) → from ≤ g
     → first_unclaimed log from many ≡ Some k → (k ≡ g) × (g < from + many)
-least log g all from zero k le e = absurd (none_is_some k e)
+least log g all from zero k le e = none_some k e
 least log g all from (suc many) k le e =
     least_by log g all from many k le (λ l q. least log g all (from + 1) many k l q) (is_claimed from log) refl e
 

@@ -1,7 +1,7 @@
 -- The sessions of pipes: what was put and taken in each, and that nothing is put behind its end.
 
 use Rattle.std.proofs.Common.{◌≡◌, ℕ, Bool, true, false, ◌||◌, List, [], ◌∷◌, ◌++◌, Option, Some, None, refl, sym, ap, ◌∙◌, subst, length, length-append, arith, append_assoc, append-nil}
-use Rattle.std.specs.Prelude.{is_some, is_none, if◌then◌else◌}
+use Rattle.std.specs.Prelude.{is_none, if◌then◌else◌}
 use Rattle.std.specs.List.{list_any}
 use Rattle.std.specs.Str.{bytes_eq}
 use Rattle.std.proofs.Math.Seq.{drop-append-add}
@@ -20,7 +20,7 @@ use Rattle.job_calls.specs.Pipes.{opened_session, opens, closes, holder, session
 use Rattle.job_calls.specs.Fitting.{held_run, exchange_of, holds, ends_fit}
 use Rattle.job_calls.specs.Legal.{IsLegal, Follows, FollowOn}
 use Rattle.job_laws.specs.Truth.{SaysTrue}
-use Rattle.job_laws.specs.Order.{IsSession, PipesInOrder, PipesWhole, is_pipe_end}
+use Rattle.job_laws.specs.Order.{IsSession, is_pipe_end}
 use Rattle.job_laws.proofs.Growing.{legal_more, legal_split}
 use Rattle.job_laws.proofs.Lists.{none_some, any_cut}
 use Rattle.job_laws.proofs.Counts.{any-snoc}

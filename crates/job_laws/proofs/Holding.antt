@@ -12,7 +12,7 @@ use Rattle.job_calls.specs.declared.call.Way.TheVariants.{Reads, Writes}
 use Rattle.job_calls.specs.declared.reply.Reply.{Reply}
 use Rattle.job_calls.specs.declared.reply.Reply.TheVariants.{Session, Unit as Accepted}
 use Rattle.job_calls.specs.declared.entry.Entry.{Entry}
-use Rattle.job_calls.specs.Words.{is_run, own_entries}
+use Rattle.job_calls.specs.Words.{is_run}
 use Rattle.job_calls.specs.Pipes.{is_way, opened_session, opens, lets_go, closes, holder_after, holder, had_writer}
 use Rattle.job_calls.specs.Fitting.{exchange_of, holds_after, holds}
 use Rattle.job_calls.specs.Legal.{IsLegal, IsOpening, Follows}

@@ -1,6 +1,6 @@
 -- Lanes and their runs: each run is of the one lane that was given it, and ends before its lane does.
 
-use Rattle.std.proofs.Common.{◌≡◌, ◌≢◌, ◌≤◌, ◌<◌, ℕ, zero, suc, ◌+◌, Bool, true, false, not, ◌&&◌, ◌||◌, List, [], ◌∷◌, ◌++◌, Option, Some, None, refl, sym, ap, ◌∙◌, subst, inl, inr, ◌⊎◌, nat_eq, cond, length, arith, append-nil}
+use Rattle.std.proofs.Common.{◌≡◌, ◌≢◌, ◌≤◌, ◌<◌, ℕ, Bool, true, false, not, ◌&&◌, ◌||◌, List, [], ◌∷◌, ◌++◌, Option, Some, None, refl, sym, ap, ◌∙◌, subst, inl, inr, ◌⊎◌, nat_eq, cond, length, arith, append_assoc, append-nil}
 use Rattle.std.specs.Prelude.{count_by, filter, map, if◌then◌else◌}
 use Rattle.std.specs.List.{list_any}
 use Rattle.std.proofs.lemmas.Bool.{eq-eqb, eqb-true, le-ltb}
@@ -9,26 +9,24 @@ use Rattle.std.proofs.lemmas.List.Elements.{filter-append}
 use Rattle.std.proofs.lemmas.List.Folds.{list_any-append}
 use Rattle.job_calls.specs.declared.call.Call.{Call}
 use Rattle.job_calls.specs.declared.call.Call.TheVariants.{Open, Claim, Finish}
-use Rattle.job_calls.specs.declared.end.End.{End}
 use Rattle.job_calls.specs.declared.reply.Answer.TheVariants.{Ready}
 use Rattle.job_calls.specs.declared.reply.Reply.{Reply}
-use Rattle.job_calls.specs.declared.reply.Reply.TheVariants.{Opened, Done, Halt, Unit as Accepted}
+use Rattle.job_calls.specs.declared.reply.Reply.TheVariants.{Opened, Halt}
 use Rattle.job_calls.specs.declared.entry.Entry.{Entry}
 use Rattle.job_calls.specs.Moments.{moments, moments_from}
-use Rattle.job_calls.specs.Words.{is_run, is_quit, is_finish, is_claim, is_done, is_started, claims, own_entries, has_quit, run_count, is_claimed, is_finished, first_unclaimed, unclaimed}
-use Rattle.job_calls.specs.Runs.{opening_of, last_given, later, acts_of, finish, finish_of}
+use Rattle.job_calls.specs.Words.{is_run, is_quit, is_finish, claims, own_entries, has_quit, run_count, is_claimed, is_finished}
+use Rattle.job_calls.specs.Runs.{opening_of, last_given, later, finish}
 use Rattle.job_calls.specs.Files.{lanes_of}
 use Rattle.job_calls.specs.Models.{asks, is_asked}
 use Rattle.job_calls.specs.Answers.{stop_rows, table_answer}
-use Rattle.job_calls.specs.Fitting.{held_after, held_run, exchange_of}
+use Rattle.job_calls.specs.Fitting.{held_after, held_run}
 use Rattle.job_calls.specs.Legal.{IsLegal, IsOpening, OpensSo, Follows}
-use Rattle.job_laws.specs.Lanes.{IsOfLane, EndsDone}
+use Rattle.job_laws.specs.Lanes.{IsOfLane}
 use Rattle.job_laws.specs.Order.{StopsWhenAsked}
 use Rattle.job_laws.proofs.Growing.{legal_grow, legal_cut, IsCut, opens as cut_opens, follows as cut_follows, moments_from-append}
 use Rattle.job_laws.proofs.Lists.{none_some, some_is, later_none}
-use Rattle.job_laws.proofs.Counts.{any-snoc, as_number, AllBelow, AtMostOnce, once_more, once_same, own-cons-same, own-cons-other, own-snoc-same, own-snoc-other}
-use Rattle.job_laws.proofs.Outcomes as outcome
-use Rattle.job_laws.proofs.Outcomes.{Outcome, run_outcome, by_rows, reply_of, false_true}
+use Rattle.job_laws.proofs.Counts.{AllBelow, AtMostOnce, once_more, once_same, own-cons-same, own-cons-other, own-snoc-same, own-snoc-other}
+use Rattle.job_laws.proofs.Outcomes.{run_outcome, by_rows, reply_of, false_true}
 use Rattle.job_laws.proofs.Entering as enter
 use Rattle.job_laws.proofs.Entering.{Entering, entering, and_true, or_false, is_run-some}
 use Rattle.job_laws.proofs.Bound as bound
@@ -95,7 +93,7 @@ was_held = own_grow IsHeldGiven
     (λ r q. none_some r q)
     (λ e o r q. none_some r (sym (ap (λ k. held_after None e.call k) o.reply ∙ opened_holds e.call o.opened) ∙ q))
     (λ log e h g f r q. claimed-snoc r (own_entries e.lane log) e
-      ∙ held_given log e.lane e.run e.call e.reply g (entering log e f) r (sym (held-snoc (own_entries e.lane log) e) ∙ q))
+    ∙ held_given log e.lane e.run e.call e.reply g (entering log e f) r (sym (held-snoc (own_entries e.lane log) e) ∙ q))
 
 filtered_by : (p q : Entry → Bool) (x : Entry) (xs : List Entry) (b : Bool) → list_any p (cond b (x ∷ filter q xs) (filter q xs)) ≡ true
     → (list_any p (filter q xs) ≡ true → list_any p xs ≡ true) → (p x || list_any p xs) ≡ true
@@ -332,10 +330,10 @@ none_own p n (e ∷ es) all h =
     let here = or_false (p e) (list_any p (own_entries e.lane es)) (ap (list_any p) (sym (own-cons-same e es)) ∙ h e.lane all.0) in
     ap (λ b. b || list_any p es) here.0
     ∙ none_own p n es all.1 (λ l less.
-      elim (eqb_tells e.lane l) [
-        | inl q ↦ subst (λ m. list_any p (own_entries m es) ≡ false) q.1 here.1
-        | inr q ↦ ap (list_any p) (sym (own-cons-other l e es q.1)) ∙ h l less
-      ])
+    elim (eqb_tells e.lane l) [
+      | inl q ↦ subst (λ m. list_any p (own_entries m es) ≡ false) q.1 here.1
+      | inr q ↦ ap (list_any p) (sym (own-cons-other l e es q.1)) ∙ h l less
+    ])
 
 -- and what somebody has some lane has
 pub some_own : (p : Entry → Bool) (n : ℕ) (es : List Entry) → AllBelow n es → list_any p es ≡ true
@@ -347,9 +345,13 @@ some_own p n (e ∷ es) all h =
       | inr w ↦
           let s = some_own p n es all.1 w in
           elim (eqb_tells e.lane s.0) [
-            | inl q ↦ (s.0, s.1, subst (λ m. list_any p (own_entries m (e ∷ es)) ≡ true) q.1
-                (ap (list_any p) (own-cons-same e es)
-                ∙ ap (λ b. p e || b) (subst (λ m. list_any p (own_entries m es) ≡ true) (sym q.1) s.2) ∙ or_yes (p e)))
+            | inl q ↦ (
+              s.0,
+              s.1,
+              subst (λ m. list_any p (own_entries m (e ∷ es)) ≡ true) q.1
+                  (ap (list_any p) (own-cons-same e es)
+                  ∙ ap (λ b. p e || b) (subst (λ m. list_any p (own_entries m es) ≡ true) (sym q.1) s.2) ∙ or_yes (p e)),
+            )
             | inr q ↦ (s.0, s.1, ap (list_any p) (own-cons-other s.0 e es q.1) ∙ s.2)
           ]
     ]
@@ -394,3 +396,11 @@ stays_asked journal more k asked =
           ∙ ap (λ b. b || list_any (asks k) (moments_from journal more)) w)
           ∙ or_yes (is_finished 0 (journal ++ more))
     ]
+
+-- a run is told so from the entry on by which it was asked
+pub asked_stops : (before between after : List Entry) (ask e : Entry) (k : ℕ) → IsLegal (before ++ ask ∷ between ++ e ∷ after)
+    → is_asked k (before ++ ask ∷ []) ≡ true → e.run ≡ Some k → (e.reply ≡ Halt) ⊎ (is_finish e.call ≡ true)
+asked_stops before between after ask e k h asked q =
+    let journal = before ++ ask ∷ between ++ e ∷ after in
+    stops_when_asked journal h (before ++ ask ∷ between) after e k refl q
+    (subst (λ log. is_asked k log ≡ true) (append_assoc before (ask ∷ []) between) (stays_asked (before ++ ask ∷ []) between k asked))

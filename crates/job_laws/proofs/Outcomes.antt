@@ -96,14 +96,6 @@ is_ready _ = false
 idle_by : (log : List Entry) (run : ℕ) (call : Call) (x reply : Reply) → is_idle x ≡ true → CanFit call x → Ready x ≡ Ready reply → Outcome log run call reply
 idle_by log run call x reply is can e = subst (Outcome log run call) (ap reply_of e) (idle call x is can)
 
--- a reply that fits where it is in range
-ranged : {A B D : Type 0} → A → B → D → D
-ranged a b d = d
-
--- a fault that only the hub knows of
-hub_fault : {A B D E : Type 0} → E → A → B → D → E
-hub_fault e a b d = e
-
 granted_by : (log : List Entry) (run : ℕ) (call : Call) (reply : Reply) → is_granted call ≡ true → Ready Accepted ≡ Ready reply → Outcome log run call reply
 granted_by log run call reply is e = subst (Outcome log run call) (ap reply_of e) (granted call is)
 
@@ -119,20 +111,20 @@ not_false true e = refl
 not_false false e = sym e
 
 load_by : (log : List Entry) (run : ℕ) (file : List ℕ) (o : Option ℕ) (reply : Reply) → image_source file log ≡ o → load_answer log o ≡ Ready reply → Outcome log run (Load file) reply
-load_by log run file None reply q e = idle_by log run (Load file) _ reply refl (hub_fault (omega arith)) e
+load_by log run file None reply q e = idle_by log run (Load file) _ reply refl (λ a b r. (refl, r)) e
 load_by log run file (Some source) reply q e = subst (Outcome log run (Load file)) (ap reply_of e) (loaded file source q)
 
 run_by : (log : List Entry) (run model : ℕ) (params : List ℕ) (reply : Reply)
     → InRows (run_rows log model) (Ready (Started (run_count log))) (Ready reply) → Outcome log run (Run model params) reply
 run_by log run model params reply h =
     elim h [
-      | inl w ↦ idle_by log run (Run model params) _ reply refl (hub_fault (omega arith)) w.1
+      | inl w ↦ idle_by log run (Run model params) _ reply refl (λ a b r. (refl, r)) w.1
       | inr w ↦ elim w.1 [
-        | inl v ↦ idle_by log run (Run model params) _ reply refl (hub_fault (omega arith)) v.1
+        | inl v ↦ idle_by log run (Run model params) _ reply refl (λ a b r. (refl, r)) v.1
         | inr v ↦ elim v.1 [
-          | inl u ↦ idle_by log run (Run model params) _ reply refl (hub_fault (omega arith)) u.1
+          | inl u ↦ idle_by log run (Run model params) _ reply refl (λ a b r. (refl, r)) u.1
           | inr u ↦ elim u.1 [
-            | inl t ↦ idle_by log run (Run model params) _ reply refl (hub_fault (omega arith)) t.1
+            | inl t ↦ idle_by log run (Run model params) _ reply refl (λ a b r. (refl, r)) t.1
             | inr t ↦ subst (Outcome log run (Run model params)) (ap reply_of t.1)
                 (started model params (not_false (is_loaded model log) w.0) (not_false (nat_lt (run_count log) 4096) u.0))
           ]
@@ -145,38 +137,38 @@ wait_by log run None reply e = not_yet log run Wait reply e
 wait_by log run (Some place) reply e = granted_by log run Wait reply refl e
 
 next_by : (log : List Entry) (run : ℕ) (o : Option Event) (reply : Reply) → front run log ≡ o → take_answer o ≡ Ready reply → Outcome log run Next reply
-next_by log run None reply q e = idle_by log run Next _ reply refl ranged e
+next_by log run None reply q e = idle_by log run Next _ reply refl (λ a b r. (refl, r)) e
 next_by log run (Some event) reply q e = subst (Outcome log run Next) (ap reply_of e) (next_took event q)
 
 drop_by : (log : List Entry) (run : ℕ) (o : Option Event) (reply : Reply) → front run log ≡ o → take_answer o ≡ Ready reply → Outcome log run Drop reply
-drop_by log run None reply q e = idle_by log run Drop _ reply refl ranged e
+drop_by log run None reply q e = idle_by log run Drop _ reply refl (λ a b r. (refl, r)) e
 drop_by log run (Some event) reply q e = subst (Outcome log run Drop) (ap reply_of e) (drop_took event q)
 
 peek_by : (log : List Entry) (run : ℕ) (o : Option Event) (reply : Reply) → peek_answer o ≡ Ready reply → Outcome log run Peek reply
-peek_by log run None reply e = idle_by log run Peek _ reply refl ranged e
-peek_by log run (Some event) reply e = idle_by log run Peek _ reply refl ranged e
+peek_by log run None reply e = idle_by log run Peek _ reply refl (λ a b r. (refl, r)) e
+peek_by log run (Some event) reply e = idle_by log run Peek _ reply refl (λ a b r. (refl, r)) e
 
 send_rows_by : (log : List Entry) (run : ℕ) (to : Option ℕ) (class value : ℤ) (receiver : ℕ) (reply : Reply)
     → InRows (send_rows log receiver) (Ready (Queued receiver)) (Ready reply) → Outcome log run (Send to class value) reply
 send_rows_by log run to class value receiver reply h =
     elim h [
-      | inl w ↦ idle_by log run (Send to class value) _ reply refl ranged w.1
+      | inl w ↦ idle_by log run (Send to class value) _ reply refl (λ a b r. (refl, r)) w.1
       | inr w ↦ elim w.1 [
-        | inl v ↦ idle_by log run (Send to class value) _ reply refl (hub_fault (omega arith)) v.1
+        | inl v ↦ idle_by log run (Send to class value) _ reply refl (λ a b r. (refl, r)) v.1
         | inr v ↦ subst (Outcome log run (Send to class value)) (ap reply_of v.1) (queued to class value receiver)
       ]
     ]
 
 send_by : (log : List Entry) (run : ℕ) (to : Option ℕ) (class value : ℤ) (receiver : Option ℕ) (reply : Reply)
     → send_answer log receiver ≡ Ready reply → Outcome log run (Send to class value) reply
-send_by log run to class value None reply e = idle_by log run (Send to class value) _ reply refl ranged e
+send_by log run to class value None reply e = idle_by log run (Send to class value) _ reply refl (λ a b r. (refl, r)) e
 send_by log run to class value (Some receiver) reply e =
     send_rows_by log run to class value receiver reply (by_rows (send_rows log receiver) (Ready (Queued receiver)) (Ready reply) e)
 
 unload_by : (log : List Entry) (run model : ℕ) (reply : Reply) → InRows (unload_rows log model) (Ready Accepted) (Ready reply) → Outcome log run (Unload model) reply
 unload_by log run model reply h =
     elim h [
-      | inl w ↦ idle_by log run (Unload model) _ reply refl (hub_fault (omega arith)) w.1
+      | inl w ↦ idle_by log run (Unload model) _ reply refl (λ a b r. (refl, r)) w.1
       | inr w ↦ granted_by log run (Unload model) reply refl w.1
     ]
 
@@ -184,13 +176,13 @@ read_by : (log : List Entry) (run : ℕ) (name : List ℕ) (o : Option Written) 
     → last_written name log ≡ o → data_of name log ≡ file → read_answer o file ≡ Ready reply → Outcome log run (Read name) reply
 read_by log run name (Some write) file reply q d e = subst (Outcome log run (Read name)) (ap reply_of e) (found_write name write q)
 read_by log run name None (Some bytes) reply q d e = subst (Outcome log run (Read name)) (ap reply_of e) (found_file name bytes q d)
-read_by log run name None None reply q d e = idle_by log run (Read name) _ reply refl (hub_fault (omega arith)) e
+read_by log run name None None reply q d e = idle_by log run (Read name) _ reply refl (λ a b r. (refl, r)) e
 
 reader_by : (log : List Entry) (run : ℕ) (name : List ℕ) (reply : Reply)
     → InRows (reader_rows log name) (Ready (Session (record { 0 = length log }))) (Ready reply) → Outcome log run (PipeOpen name Reads) reply
 reader_by log run name reply h =
     elim h [
-      | inl w ↦ idle_by log run (PipeOpen name Reads) _ reply refl (hub_fault (omega arith)) w.1
+      | inl w ↦ idle_by log run (PipeOpen name Reads) _ reply refl (λ a b r. (refl, r)) w.1
       | inr w ↦ subst (Outcome log run (PipeOpen name Reads)) (ap reply_of w.1) (reads name w.0)
     ]
 
@@ -204,7 +196,7 @@ writer_by : (log : List Entry) (run : ℕ) (name : List ℕ) (reply : Reply)
     → InRows (writer_rows log name) (join_answer (session name log)) (Ready reply) → Outcome log run (PipeOpen name Writes) reply
 writer_by log run name reply h =
     elim h [
-      | inl w ↦ idle_by log run (PipeOpen name Writes) _ reply refl (hub_fault (omega arith)) w.1
+      | inl w ↦ idle_by log run (PipeOpen name Writes) _ reply refl (λ a b r. (refl, r)) w.1
       | inr w ↦ elim w.1 [
         | inl v ↦ not_yet log run (PipeOpen name Writes) reply v.1
         | inr v ↦ elim v.1 [
@@ -218,7 +210,7 @@ put_by_rows : (log : List Entry) (run : ℕ) (name bytes : List ℕ) (reply : Re
     → InRows (put_rows log name bytes) (Ready Accepted) (Ready reply) → Outcome log run (PipePut name bytes) reply
 put_by_rows log run name bytes reply h =
     elim h [
-      | inl w ↦ idle_by log run (PipePut name bytes) _ reply refl (hub_fault (omega arith)) w.1
+      | inl w ↦ idle_by log run (PipePut name bytes) _ reply refl (λ a b r. (refl, r)) w.1
       | inr w ↦ elim w.1 [
         | inl v ↦ not_yet log run (PipePut name bytes) reply v.1
         | inr v ↦ subst (Outcome log run (PipePut name bytes)) (ap reply_of v.1) (put name bytes w.0)
@@ -245,11 +237,11 @@ outcome log run Wait reply e = wait_by log run (first_event run log) reply e
 outcome log run Next reply e = next_by log run (front run log) reply refl e
 outcome log run Drop reply e = drop_by log run (front run log) reply refl e
 outcome log run Peek reply e = peek_by log run (front run log) reply e
-outcome log run IsEmpty reply e = idle_by log run IsEmpty _ reply refl ranged e
+outcome log run IsEmpty reply e = idle_by log run IsEmpty _ reply refl (λ a b r. (refl, r)) e
 outcome log run (Send to class value) reply e =
     send_by log run to class value (target log run to) reply e
-outcome log run (Status model) reply e = idle_by log run (Status model) _ reply refl ranged e
-outcome log run (ExitCode model) reply e = idle_by log run (ExitCode model) _ reply refl ranged e
+outcome log run (Status model) reply e = idle_by log run (Status model) _ reply refl (λ a b r. (refl, r)) e
+outcome log run (ExitCode model) reply e = idle_by log run (ExitCode model) _ reply refl (λ a b r. (refl, r)) e
 outcome log run (Stop model) reply e = granted_by log run (Stop model) reply refl e
 outcome log run (Unload model) reply e = unload_by log run model reply (by_rows (unload_rows log model) (Ready Accepted) (Ready reply) e)
 outcome log run (Read name) reply e = read_by log run name (last_written name log) (data_of name log) reply refl refl e
@@ -271,40 +263,40 @@ halt_fits (Open lanes budget params files) a b r = absurd (false_true (sym a))
 halt_fits Claim a b r = absurd (false_true (sym a))
 halt_fits Quit a b r = absurd (false_true (sym a))
 halt_fits (Finish end) a b r = absurd (false_true (sym b))
-halt_fits call a b r = tt
+halt_fits call a b r = (refl, r)
 
 full_fits : (call : Call) → CanFit call (Fault HubFull)
 full_fits (Open lanes budget params files) a b r = absurd (false_true (sym a))
 full_fits Claim a b r = absurd (false_true (sym a))
 full_fits Quit a b r = absurd (false_true (sym a))
 full_fits (Finish end) a b r = absurd (false_true (sym b))
-full_fits call a b r = omega arith
+full_fits call a b r = (refl, r)
 
 granted_fits : (call : Call) → is_granted call ≡ true → CanFit call Accepted
-granted_fits Wait e a b r = tt
-granted_fits (Stop model) e a b r = tt
-granted_fits (Unload model) e a b r = tt
-granted_fits (Write name bytes) e a b r = tt
-granted_fits (PipeClose name) e a b r = tt
+granted_fits Wait e a b r = (refl, r)
+granted_fits (Stop model) e a b r = (refl, r)
+granted_fits (Unload model) e a b r = (refl, r)
+granted_fits (Write name bytes) e a b r = (refl, r)
+granted_fits (PipeClose name) e a b r = (refl, r)
 granted_fits call e a b r = absurd (false_true e)
 
 -- an answer fits
 pub can_fit : (log : List Entry) (run : ℕ) (call : Call) (reply : Reply) → Outcome log run call reply → CanFit call reply
 can_fit log run _ _ (idle call reply is can) = can
 can_fit log run _ _ (granted call is) = granted_fits call is
-can_fit log run _ _ (compiled src dst) = ranged
-can_fit log run _ _ (loaded file source q) = ranged
-can_fit log run _ _ (started model params is less) = ranged
-can_fit log run _ _ (next_took event q) = ranged
-can_fit log run _ _ (drop_took event q) = ranged
-can_fit log run _ _ (queued to class value receiver) = ranged
-can_fit log run _ _ (found_write name write q) = ranged
-can_fit log run _ _ (found_file name bytes q d) = ranged
-can_fit log run _ _ (reads name q) = ranged
-can_fit log run _ _ (joins name place a b d s) = ranged
-can_fit log run _ _ (put name bytes j) = ranged
-can_fit log run _ _ (took_all name) = ranged
-can_fit log run _ _ (ended name a b) = ranged
+can_fit log run _ _ (compiled src dst) = λ a b r. (refl, r)
+can_fit log run _ _ (loaded file source q) = λ a b r. (refl, r)
+can_fit log run _ _ (started model params is less) = λ a b r. (refl, r)
+can_fit log run _ _ (next_took event q) = λ a b r. (refl, r)
+can_fit log run _ _ (drop_took event q) = λ a b r. (refl, r)
+can_fit log run _ _ (queued to class value receiver) = λ a b r. (refl, r)
+can_fit log run _ _ (found_write name write q) = λ a b r. (refl, r)
+can_fit log run _ _ (found_file name bytes q d) = λ a b r. (refl, r)
+can_fit log run _ _ (reads name q) = λ a b r. (refl, r)
+can_fit log run _ _ (joins name place a b d s) = λ a b r. (refl, r)
+can_fit log run _ _ (put name bytes j) = λ a b r. (refl, r)
+can_fit log run _ _ (took_all name) = λ a b r. (refl, r)
+can_fit log run _ _ (ended name a b) = λ a b r. (refl, r)
 
 -- a run is told to stop, or that the journal is full, or what the table answers
 pub run_outcome : (log : List Entry) (run : ℕ) (call : Call) (reply : Reply) → answer_to_run log (Some run) call ≡ Ready reply → Outcome log run call reply

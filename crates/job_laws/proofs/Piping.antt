@@ -1,6 +1,6 @@
 -- The last write under a name, and what was put into a pipe and taken out of it.
 
-use Rattle.std.proofs.Common.{◌≡◌, ◌<◌, ℕ, ◌+◌, Bool, true, false, ◌||◌, List, [], ◌∷◌, ◌++◌, Option, Some, None, refl, sym, ap, ◌∙◌, subst, inl, inr, nat_lt, length, length-append, drop, arith, append_assoc, append-nil}
+use Rattle.std.proofs.Common.{◌≡◌, ◌<◌, ℕ, ◌+◌, Bool, true, false, ◌||◌, List, [], ◌∷◌, ◌++◌, Option, Some, None, refl, sym, ap, ◌∙◌, subst, length, length-append, drop, arith, append_assoc, append-nil}
 use Rattle.std.specs.Prelude.{slice_get, option_map, option_and_then, if◌then◌else◌}
 use Rattle.std.specs.Option.{option_map_or}
 use Rattle.std.specs.List.{list_any, enumerate_from}
@@ -18,7 +18,7 @@ use Rattle.job_calls.specs.declared.entry.Entry.{Entry}
 use Rattle.job_calls.specs.Runs.{later, last_given, opening_of}
 use Rattle.job_calls.specs.Blocks.{Written, writes, last_write, bytes_written, written_at, last_written}
 use Rattle.job_calls.specs.Pipes.{opens, session, in_session, put_by, taken_by, put_in, taken_in, untaken}
-use Rattle.job_calls.specs.Legal.{IsLegal, OpensSo, Follows}
+use Rattle.job_calls.specs.Legal.{IsLegal, OpensSo}
 use Rattle.job_laws.specs.Truth.{IsLastWrite}
 use Rattle.job_laws.proofs.Growing.{legal_induct}
 use Rattle.job_laws.proofs.Lists.{none_some, some_is, last_given-snoc, enumerate-snoc, get_behind}

@@ -1,23 +1,24 @@
 -- Runs and their sources: each run that was started comes from a source that was accepted, and keeps it.
 
-use Rattle.std.proofs.Common.{◌≡◌, ◌≢◌, ◌<◌, ◌≤◌, ℕ, zero, suc, ◌+◌, Bool, true, false, ◌&&◌, ◌||◌, List, [], ◌∷◌, ◌++◌, Option, Some, None, refl, sym, ap, ◌∙◌, subst, inl, inr, ◌⊎◌, nat_eq, nat_lt, length, arith, append_assoc, append-nil}
-use Rattle.std.specs.Prelude.{count_by, find, position, slice_get, option_map, option_and_then, unwrap_or, IsTrue, if◌then◌else◌}
+use Rattle.std.proofs.Common.{◌≡◌, ◌<◌, ℕ, zero, suc, ◌+◌, Bool, true, false, ◌&&◌, List, [], ◌∷◌, ◌++◌, Option, Some, None, refl, sym, ap, ◌∙◌, subst, inl, inr, ◌⊎◌, nat_eq, nat_lt, length, arith, append_assoc, append-nil}
+use Rattle.std.specs.Prelude.{count_by, find, position, slice_get, option_map, option_and_then, unwrap_or, if◌then◌else◌}
 use Rattle.std.specs.Option.{option_map_or}
 use Rattle.std.specs.List.{position_or_len}
 use Rattle.std.specs.Str.{bytes_eq}
 use Rattle.std.proofs.lemmas.Bool.{eq-eqb, ne_eqb, eqb-true, ltb-true, ltb-false}
 use Rattle.std.proofs.lemmas.List.Folds.{find_at}
 use Rattle.std.proofs.lemmas.Slice.Eq.{bytes_eq-Decides}
+use Rattle.mos_text.specs.FileName.{is_source_name}
 use Rattle.job_calls.specs.declared.call.Call.{Call}
-use Rattle.job_calls.specs.declared.call.Call.TheVariants.{Open, Claim, Compile, Run, Unload}
+use Rattle.job_calls.specs.declared.call.Call.TheVariants.{Compile, Run, Unload}
 use Rattle.job_calls.specs.declared.reply.Reply.{Reply}
 use Rattle.job_calls.specs.declared.reply.Reply.TheVariants.{Opened, Code, Loaded, Started, Unit as Accepted}
 use Rattle.job_calls.specs.declared.entry.Entry.{Entry}
 use Rattle.job_calls.specs.declared.entry.Listed.{Listed}
-use Rattle.job_calls.specs.Moments.{Moment, moments}
+use Rattle.job_calls.specs.Moments.{moments}
 use Rattle.job_calls.specs.Words.{is_started, run_count, unclaimed}
-use Rattle.job_calls.specs.Runs.{later, last_given, Opening, opening, opening_of, Start, start_by, start_of, start_of_run, loaded_source, source_of_model, source_started, source_of, params_of}
-use Rattle.job_calls.specs.Files.{is_source, is_image, files_of, code_of, file_at}
+use Rattle.job_calls.specs.Runs.{later, last_given, Opening, opening, opening_of, Start, start_by, start_of_run, loaded_source, source_of_model, source_started, source_of, params_of}
+use Rattle.job_calls.specs.Files.{files_of, code_of, file_at}
 use Rattle.job_calls.specs.Models.{compiled_to, compiled_from, image_source, loaded_count, loads, is_loaded}
 use Rattle.job_calls.specs.Legal.{IsLegal, IsOpening, IsMaster, OpensSo, Follows, FollowOn}
 use Rattle.job_laws.specs.Truth.{IsAccepted, HasSource}
@@ -28,7 +29,7 @@ use Rattle.job_laws.proofs.Outcomes.{Outcome, run_outcome, is_idle, false_true}
 use Rattle.job_laws.proofs.Entering as enter
 use Rattle.job_laws.proofs.Entering.{Entering, entering, and_true}
 use Rattle.job_laws.proofs.Counts.{as_number}
-use Rattle.job_laws.proofs.Bound.{RunCounts, run_counts, least, gives, starts-snoc}
+use Rattle.job_laws.proofs.Bound.{run_counts, least, gives, starts-snoc}
 
 -- the files of a journal that has an entry stay
 files_stay : (log : List Entry) (e : Entry) → IsLegal log → files_of (log ++ e ∷ []) ≡ files_of log
@@ -40,28 +41,28 @@ opening_stays [] e h = absurd h
 opening_stays (x ∷ xs) e h = refl
 
 -- where no file of the name is a source none is found, else the first of the name
-no_source : (src : List ℕ) (files : List Listed) → is_source src ≡ false
-    → find (λ (file : Listed). bytes_eq file.name src && is_source file.name) files ≡ None
+no_source : (src : List ℕ) (files : List Listed) → is_source_name src ≡ false
+    → find (λ (file : Listed). bytes_eq file.name src && is_source_name file.name) files ≡ None
 no_source src [] q = refl
 no_source src (x ∷ xs) q = by (bytes_eq x.name src) refl (no_source src xs q) where
-  by : (b : Bool) → bytes_eq x.name src ≡ b → find (λ (file : Listed). bytes_eq file.name src && is_source file.name) xs ≡ None
-      → (if b && is_source x.name then Some x else find (λ (file : Listed). bytes_eq file.name src && is_source file.name) xs) ≡ None
+  by : (b : Bool) → bytes_eq x.name src ≡ b → find (λ (file : Listed). bytes_eq file.name src && is_source_name file.name) xs ≡ None
+      → (if b && is_source_name x.name then Some x else find (λ (file : Listed). bytes_eq file.name src && is_source_name file.name) xs) ≡ None
   by true is rest =
-      ap (λ b. if b then Some x else find (λ (file : Listed). bytes_eq file.name src && is_source file.name) xs)
-      (ap is_source ((bytes_eq-Decides x.name src).0 is) ∙ q) ∙ rest
+      ap (λ b. if b then Some x else find (λ (file : Listed). bytes_eq file.name src && is_source_name file.name) xs)
+      (ap is_source_name ((bytes_eq-Decides x.name src).0 is) ∙ q) ∙ rest
   by false is rest = rest
 
-first_source : (src : List ℕ) (files : List Listed) → is_source src ≡ true
-    → find (λ (file : Listed). bytes_eq file.name src && is_source file.name) files ≡ find (λ (file : Listed). bytes_eq file.name src) files
+first_source : (src : List ℕ) (files : List Listed) → is_source_name src ≡ true
+    → find (λ (file : Listed). bytes_eq file.name src && is_source_name file.name) files ≡ find (λ (file : Listed). bytes_eq file.name src) files
 first_source src [] q = refl
 first_source src (x ∷ xs) q = by (bytes_eq x.name src) refl (first_source src xs q) where
   by : (b : Bool) → bytes_eq x.name src ≡ b
-      → find (λ (file : Listed). bytes_eq file.name src && is_source file.name) xs ≡ find (λ (file : Listed). bytes_eq file.name src) xs
-      → (if b && is_source x.name then Some x else find (λ (file : Listed). bytes_eq file.name src && is_source file.name) xs)
+      → find (λ (file : Listed). bytes_eq file.name src && is_source_name file.name) xs ≡ find (λ (file : Listed). bytes_eq file.name src) xs
+      → (if b && is_source_name x.name then Some x else find (λ (file : Listed). bytes_eq file.name src && is_source_name file.name) xs)
       ≡ (if b then Some x else find (λ (file : Listed). bytes_eq file.name src) xs)
   by true is rest =
-      ap (λ b. if b then Some x else find (λ (file : Listed). bytes_eq file.name src && is_source file.name) xs)
-      (ap is_source ((bytes_eq-Decides x.name src).0 is) ∙ q)
+      ap (λ b. if b then Some x else find (λ (file : Listed). bytes_eq file.name src && is_source_name file.name) xs)
+      (ap is_source_name ((bytes_eq-Decides x.name src).0 is) ∙ q)
   by false is rest = rest
 
 -- a file that is found has the name
@@ -88,7 +89,7 @@ at_place src files source q =
 one_not : ◌≡◌ {A = ℕ} 1 0 → ⊥
 one_not e = absurd (omega (arith, e))
 
-accepted_file : (log : List Entry) (src : List ℕ) (source : ℕ) (o : Option Listed) → is_source src ≡ true
+accepted_file : (log : List Entry) (src : List ℕ) (source : ℕ) (o : Option Listed) → is_source_name src ≡ true
     → find (λ (file : Listed). bytes_eq file.name src) (files_of log) ≡ o → option_map_or (λ (file : Listed). file.code) o 1 ≡ 0
     → slice_get (files_of log) source ≡ o → IsAccepted log source
 accepted_file log src source None is q code at = absurd (one_not code)
@@ -96,10 +97,10 @@ accepted_file log src source (Some file) is q code at = record {
   file = file;
   listed = at;
   code = code;
-  named = ap is_source (found_name src (files_of log) file q) ∙ is;
+  named = ap is_source_name (found_name src (files_of log) file q) ∙ is;
 }
 
-accepted_by : (log : List Entry) (src : List ℕ) (source : ℕ) (b : Bool) → is_source src ≡ b → code_of src log ≡ 0
+accepted_by : (log : List Entry) (src : List ℕ) (source : ℕ) (b : Bool) → is_source_name src ≡ b → code_of src log ≡ 0
     → file_at src log ≡ Some source → IsAccepted log source
 accepted_by log src source true is code at =
     accepted_file log src source (find (λ (file : Listed). bytes_eq file.name src) (files_of log)) is refl
@@ -172,7 +173,7 @@ compiled_first e o file src q =
 
 compiled_step : (log : List Entry) (e : Entry) → IsLegal log → IsCompiled log → Follows log e → IsCompiled (log ++ e ∷ [])
 compiled_step log e h p f file src q =
-    let stays = ap (λ files. option_map_or (λ (x : Listed). x.code) (find (λ (x : Listed). bytes_eq x.name src && is_source x.name) files) 1) (files_stay log e h) in
+    let stays = ap (λ files. option_map_or (λ (x : Listed). x.code) (find (λ (x : Listed). bytes_eq x.name src && is_source_name x.name) files) 1) (files_stay log e h) in
     elim (later_is (compiled_from file log) (compiled_to file e.call e.reply) src
     (sym (last_given-snoc (λ (x : Entry). compiled_to file x.call x.reply) log e) ∙ q)) [
       | inl w ↦ stays ∙ p file src w
@@ -185,7 +186,7 @@ is_compiled = legal_grow IsCompiled compiled_first compiled_step
 image_by : (log : List Entry) (file : List ℕ) (o : Option (List ℕ)) (source : ℕ) → IsLegal log → compiled_from file log ≡ o
     → option_and_then (λ src. file_at src log) o ≡ Some source → IsAccepted log source
 image_by log file None source h q r = none_some source r
-image_by log file (Some src) source h q r = accepted_by log src source (is_source src) refl (is_compiled log h file src q) r
+image_by log file (Some src) source h q r = accepted_by log src source (is_source_name src) refl (is_compiled log h file src q) r
 
 -- an image was made of a source that was accepted
 pub image_accepted : (log : List Entry) (file : List ℕ) (source : ℕ) → IsLegal log → image_source file log ≡ Some source → IsAccepted log source
@@ -231,12 +232,12 @@ loaded_has m (x ∷ xs) e = by (last_given (λ (y : Entry). loads m y.call y.rep
       let l = later_some s.0 (source_of_model m xs) in
       (l.0, ap (λ o. later o (source_of_model m xs)) s.1 ∙ l.1)
 
-or_false : (o : Option Bool) → unwrap_or o false ≡ true → o ≡ Some true
-or_false None e = absurd (false_true e)
-or_false (Some b) e = ap Some e
+unwrap_true : (o : Option Bool) → unwrap_or o false ≡ true → o ≡ Some true
+unwrap_true None e = absurd (false_true e)
+unwrap_true (Some b) e = ap Some e
 
 model_source : (m : ℕ) (log : List Entry) → is_loaded m log ≡ true → (source : ℕ) × (source_of_model m log ≡ Some source)
-model_source m log is = loaded_has m log (or_false (last_given (λ (e : Entry). loads m e.call e.reply) log) is)
+model_source m log is = loaded_has m log (unwrap_true (last_given (λ (e : Entry). loads m e.call e.reply) log) is)
 
 -- and the source was accepted
 abbrev AreModelsAccepted : List Entry → Type 0

@@ -12,7 +12,7 @@ use Rattle.job_calls.specs.declared.reply.Reply.TheVariants as reply
 use Rattle.job_calls.specs.Words.{own_entries}
 use Rattle.job_calls.specs.Runs.{opening}
 use Rattle.job_calls.specs.Fitting.{fits}
-use Rattle.job_laws.specs.HubExamples.{alone, by_run, begun, child_runs, piped}
+use Rattle.job_laws.specs.HubExamples.{alone, by_run, child_is_loaded, child_runs, pipe_is_open}
 
 -- the call may be made behind these entries
 abbrev pub fits_behind : List Entry → ℕ → Option ℕ → Call → Bool
@@ -22,6 +22,7 @@ fits_behind journal lane run call = fits (opening journal) (own_entries lane jou
 abbrev pub NoneFits : List Entry → List (ℕ × Option ℕ × Call) → Type 0
 NoneFits journal calls = list_any (λ c. fits_behind journal c.0 c.1 c.2) calls ≡ false
 
+-- a run ends with code 0
 abbrev pub ends : Call
 ends = Finish (end.Code (pos 0))
 
@@ -42,7 +43,7 @@ UnfitCalls = NoneFits (child_runs 2) (
 
 -- a run that was started but not claimed calls nothing, and its lane only claims
 abbrev pub UnclaimedRun : Type 0
-UnclaimedRun = NoneFits (begun 2 ++ by_run 0 0 (Run 1 []) (Started 1) ∷ []) ((1, Some 1, Wait) ∷ (0, Some 1, Wait) ∷ (1, None, Wait) ∷ [])
+UnclaimedRun = NoneFits (child_is_loaded 2 ++ by_run 0 0 (Run 1 []) (Started 1) ∷ []) ((1, Some 1, Wait) ∷ (0, Some 1, Wait) ∷ (1, None, Wait) ∷ [])
 
 -- a run that has finished calls nothing
 abbrev pub FinishedRun : Type 0
@@ -57,23 +58,25 @@ LaneIsDone = NoneFits (
     ∷ alone 1 Claim Done
     ∷ []) ((1, None, Claim) ∷ [])
 
--- a run that was told to stop, or met a fault of the hub, only finishes
-abbrev pub halted : List Entry
-halted = child_runs 2 ++ by_run 0 0 (Stop 1) reply.Unit ∷ by_run 1 1 Wait Halt ∷ []
+-- a run that was told to stop
+abbrev pub told_to_stop : List Entry
+told_to_stop = child_runs 2 ++ by_run 0 0 (Stop 1) reply.Unit ∷ by_run 1 1 Wait Halt ∷ []
 
-abbrev pub faulted : List Entry
-faulted = begun 1 ++ by_run 0 0 (Run 1 []) (Fault NoLane) ∷ []
+-- and so one that met a fault
+abbrev pub met_a_fault : List Entry
+met_a_fault = child_is_loaded 1 ++ by_run 0 0 (Run 1 []) (Fault NoLane) ∷ []
 
+-- neither waits, and both may finish
 abbrev pub OnlyFinishes : Type 0
 OnlyFinishes =
-    NoneFits halted ((1, Some 1, Wait) ∷ [])
-    × NoneFits faulted ((0, Some 0, Wait) ∷ [])
-    × (fits_behind halted 1 (Some 1) ends ≡ true)
-    × (fits_behind faulted 0 (Some 0) ends ≡ true)
+    NoneFits told_to_stop ((1, Some 1, Wait) ∷ [])
+    × NoneFits met_a_fault ((0, Some 0, Wait) ∷ [])
+    × (fits_behind told_to_stop 1 (Some 1) ends ≡ true)
+    × (fits_behind met_a_fault 0 (Some 0) ends ≡ true)
 
 -- the reader puts nothing, the writer takes nothing, and nobody closes a pipe of which it holds no end
 abbrev pub PipesOfOthers : Type 0
-PipesOfOthers = NoneFits piped (
+PipesOfOthers = NoneFits pipe_is_open (
     (1, Some 1, PipePut (codes "p") (codes "a"))
     ∷ (0, Some 0, PipeTake (codes "p"))
     ∷ (0, Some 0, PipePut (codes "q") (codes "a"))
@@ -83,7 +86,7 @@ PipesOfOthers = NoneFits piped (
 
 -- an end that was closed is held no more
 abbrev pub ClosedEnd : Type 0
-ClosedEnd = NoneFits (piped ++ by_run 0 0 (PipeClose (codes "p")) reply.Unit ∷ []) (
+ClosedEnd = NoneFits (pipe_is_open ++ by_run 0 0 (PipeClose (codes "p")) reply.Unit ∷ []) (
     (0, Some 0, PipePut (codes "p") (codes "a"))
     ∷ (0, Some 0, PipeClose (codes "p"))
     ∷ [])

@@ -14,22 +14,25 @@ use Rattle.job_calls.specs.declared.reply.Reply.TheVariants.{Opened, Claimed, Do
 use Rattle.job_calls.specs.declared.reply.Reply.TheVariants as reply
 use Rattle.job_calls.specs.Answers.{answer_of}
 
--- what a lane calls for itself, and for a run
+-- what a lane calls for itself
 abbrev pub alone : ℕ → Call → Reply → Entry
 alone lane call reply = record { lane = lane; run = None; call = call; reply = reply }
 
+-- and for a run
 abbrev pub by_run : ℕ → ℕ → Call → Reply → Entry
 by_run lane run call reply = record { lane = lane; run = Some run; call = call; reply = reply }
 
--- a master and a child
+-- a master
 abbrev pub master_file : Listed
 master_file = record { name = codes "m.mos"; bytes = codes "model \"m\""; code = 0 }
 
+-- and a child
 abbrev pub child_file : Listed
 child_file = record { name = codes "c.mos"; bytes = codes "model \"c\""; code = 0 }
 
-abbrev pub begun : ℕ → List Entry
-begun lanes =
+-- the child is compiled and loaded
+abbrev pub child_is_loaded : ℕ → List Entry
+child_is_loaded lanes =
     alone 0 (Open lanes 10000000 [] (master_file ∷ child_file ∷ [])) Opened
     ∷ alone 0 Claim (Claimed 0 0 [])
     ∷ by_run 0 0 (Compile (codes "c.mos") (codes "c.bim")) (Code 0)
@@ -39,7 +42,7 @@ begun lanes =
 -- the child runs on lane 1
 abbrev pub child_runs : ℕ → List Entry
 child_runs lanes =
-    begun lanes
+    child_is_loaded lanes
     ++ by_run 0 0 (Run 1 (codes "N=3")) (Started 1)
     ∷ alone 1 Claim (Claimed 1 1 (codes "N=3"))
     ∷ []
@@ -60,7 +63,7 @@ waits_for_child =
 -- no lane is free for a child on one lane; the master may then only finish
 abbrev pub no_lane_is_free : List Entry
 no_lane_is_free =
-    begun 1
+    child_is_loaded 1
     ++ by_run 0 0 (Run 1 []) (Fault NoLane)
     ∷ by_run 0 0 (Finish (end.Fault NoLane)) reply.Unit
     ∷ alone 0 Claim Done
@@ -95,8 +98,8 @@ reads_last_write =
     ∷ []
 
 -- both ends of the pipe p are open
-abbrev pub piped : List Entry
-piped =
+abbrev pub pipe_is_open : List Entry
+pipe_is_open =
     child_runs 2
     ++ by_run 1 1 (PipeOpen (codes "p") Reads) (Session (record { 0 = 6 }))
     ∷ by_run 0 0 (PipeOpen (codes "p") Writes) (Session (record { 0 = 6 }))
@@ -105,7 +108,7 @@ piped =
 -- what was put is taken whole, and then the pipe is at its end, once its writer has closed
 abbrev pub takes_whole : List Entry
 takes_whole =
-    piped
+    pipe_is_open
     ++ by_run 0 0 (PipePut (codes "p") (codes "ab")) reply.Unit
     ∷ by_run 0 0 (PipePut (codes "p") (codes "c")) reply.Unit
     ∷ by_run 0 0 (PipeClose (codes "p")) reply.Unit
@@ -116,13 +119,13 @@ takes_whole =
 -- a pipe that holds 4,096 bytes takes no more, until they are taken
 abbrev pub FullPipeWaits : Type 0
 FullPipeWaits =
-    (answer_of (piped ++ by_run 0 0 (PipePut (codes "p") (replicate 4096 0)) reply.Unit ∷ []) 0 (Some 0) (PipePut (codes "p") (0 ∷ [])) ≡ NotYet)
-    × (answer_of piped 0 (Some 0) (PipePut (codes "p") (replicate 4096 0)) ≡ Ready reply.Unit)
+    (answer_of (pipe_is_open ++ by_run 0 0 (PipePut (codes "p") (replicate 4096 0)) reply.Unit ∷ []) 0 (Some 0) (PipePut (codes "p") (0 ∷ [])) ≡ NotYet)
+    × (answer_of pipe_is_open 0 (Some 0) (PipePut (codes "p") (replicate 4096 0)) ≡ Ready reply.Unit)
 
 -- a reader that was stopped leaves a broken pipe
 abbrev pub reader_stops : List Entry
 reader_stops =
-    piped
+    pipe_is_open
     ++ by_run 0 0 (Stop 1) reply.Unit
     ∷ by_run 1 1 (PipeTake (codes "p")) Halt
     ∷ by_run 1 1 (Finish end.Stopped) reply.Unit

@@ -1,7 +1,7 @@
 -- Order in a legal journal: events are taken as they came, bytes leave a pipe as they were put, and a run that is
 -- asked to stop calls nothing more.
 
-use Rattle.std.specs.Prelude.{◌≡◌, ◌≢◌, ℕ, Bool, true, false, ◌&&◌, List, ◌∷◌, ◌++◌, Some, ◌⊎◌, filter, map}
+use Rattle.std.specs.Prelude.{◌≡◌, ◌≢◌, ℕ, Bool, true, false, ◌&&◌, List, [], ◌∷◌, ◌++◌, Some, ◌⊎◌, filter, map}
 use Rattle.std.specs.List.{list_any}
 use Rattle.std.specs.Str.{bytes_eq}
 use Rattle.job_calls.specs.declared.call.Call.{Call}
@@ -14,6 +14,7 @@ use Rattle.job_calls.specs.Words.{is_run, is_finish}
 use Rattle.job_calls.specs.Models.{is_asked}
 use Rattle.job_calls.specs.Events.{arrivals, is_took}
 use Rattle.job_calls.specs.Pipes.{opens, put_in, taken_in}
+use Rattle.job_calls.specs.Legal.{IsLegal}
 
 -- the place of the event that an entry took
 abbrev pub place_taken : Reply → ℕ
@@ -72,3 +73,9 @@ StopsWhenAsked journal =
 abbrev pub StaysAsked : Type 0
 StaysAsked =
     (journal more : List Entry) (k : ℕ) → is_asked k journal ≡ true → is_asked k (journal ++ more) ≡ true
+
+-- after an entry by which a run was asked to stop, its next entry is answered `Halt` or is its `Finish`
+abbrev pub AskedStops : Type 0
+AskedStops =
+    (before between after : List Entry) (ask e : Entry) (k : ℕ) → IsLegal (before ++ ask ∷ between ++ e ∷ after)
+    → is_asked k (before ++ ask ∷ []) ≡ true → e.run ≡ Some k → (e.reply ≡ Halt) ⊎ (is_finish e.call ≡ true)

@@ -14,15 +14,17 @@ use Rattle.job_calls.specs.declared.reply.Answer.TheVariants.{Ready, NotYet, Shu
 use Rattle.job_calls.specs.declared.reply.Reply.TheVariants.{Opened, Claimed, Done, Code, Started, Took, Seen, Nothing, Flag, Lost, Number, Found, Session, Bytes, PipeEnd, Halt, Fault}
 use Rattle.job_calls.specs.declared.reply.Reply.TheVariants as reply
 use Rattle.job_calls.specs.Answers.{answer_of}
-use Rattle.job_laws.specs.HubExamples.{alone, by_run, master_file, child_file, begun, child_runs, piped}
+use Rattle.job_laws.specs.HubExamples.{alone, by_run, master_file, child_file, child_is_loaded, child_runs, pipe_is_open}
 
--- a source that is not accepted, and a data file
+-- a source that is not accepted
 abbrev pub bad_file : Listed
 bad_file = record { name = codes "bad.mos"; bytes = codes "modle"; code = 2 }
 
+-- and a data file
 abbrev pub data_file : Listed
 data_file = record { name = codes "d.dat"; bytes = codes "x: 1"; code = 0 }
 
+-- a job with both
 abbrev pub with_data : List Entry
 with_data =
     alone 0 (Open 1 10000000 [] (master_file ∷ child_file ∷ bad_file ∷ data_file ∷ [])) Opened
@@ -56,7 +58,7 @@ NothingToRun =
 -- a model from its load to its unload, with what is seen of its end
 abbrev pub model_goes : List Entry
 model_goes =
-    begun 2
+    child_is_loaded 2
     ++ by_run 0 0 (Status 1) (Number (pos 1))
     ∷ by_run 0 0 (Run 1 []) (Started 1)
     ∷ by_run 0 0 (Status 1) (Number (pos 2))
@@ -78,9 +80,11 @@ model_goes =
 abbrev pub asked_after : Call → End → Answer
 asked_after call end = answer_of (child_runs 2 ++ by_run 1 1 (Finish end) reply.Unit ∷ []) 0 (Some 0) call
 
+-- one end of each kind
 abbrev pub some_ends : List End
 some_ends = end.Code (pos 9) ∷ end.Fault Overflow ∷ end.Spent ∷ end.Stopped ∷ end.NoMemory ∷ []
 
+-- these numbers, as answers
 abbrev pub numbers : List ℕ → List Answer
 numbers ns = map (λ n. Ready (Number (pos n))) ns
 
@@ -103,7 +107,7 @@ AllIsShut =
 -- a run that was stopped before it was claimed is claimed, and then told so
 abbrev pub stopped_unclaimed : List Entry
 stopped_unclaimed =
-    begun 2
+    child_is_loaded 2
     ++ by_run 0 0 (Run 1 []) (Started 1)
     ∷ by_run 0 0 (Stop 1) reply.Unit
     ∷ alone 1 Claim (Claimed 1 1 [])
@@ -115,7 +119,7 @@ stopped_unclaimed =
 -- and so is one that was not claimed when the master ended
 abbrev pub master_ends_first : List Entry
 master_ends_first =
-    begun 2
+    child_is_loaded 2
     ++ by_run 0 0 (Run 1 []) (Started 1)
     ∷ by_run 0 0 (Finish (end.Code (pos 0))) reply.Unit
     ∷ alone 0 Claim (Claimed 1 1 [])
@@ -139,26 +143,27 @@ reads_after_writes =
 abbrev pub EndsAreBusy : Type 0
 EndsAreBusy =
     (answer_of (child_runs 2) 0 (Some 0) (PipeOpen (codes "p") Writes) ≡ NotYet)
-    × (answer_of piped 0 (Some 0) (PipeOpen (codes "p") Reads) ≡ Ready (Fault PipeBusy))
-    × (answer_of piped 1 (Some 1) (PipeOpen (codes "p") Writes) ≡ Ready (Fault PipeBusy))
-    × (answer_of (piped ++ by_run 0 0 (PipeClose (codes "p")) reply.Unit ∷ []) 0 (Some 0) (PipeOpen (codes "p") Writes) ≡ NotYet)
+    × (answer_of pipe_is_open 0 (Some 0) (PipeOpen (codes "p") Reads) ≡ Ready (Fault PipeBusy))
+    × (answer_of pipe_is_open 1 (Some 1) (PipeOpen (codes "p") Writes) ≡ Ready (Fault PipeBusy))
+    × (answer_of (pipe_is_open ++ by_run 0 0 (PipeClose (codes "p")) reply.Unit ∷ []) 0 (Some 0) (PipeOpen (codes "p") Writes) ≡ NotYet)
 
--- an empty block is none, and 4,097 bytes never go in at once
+-- an empty block is none
 abbrev pub empty_block : List Entry
 empty_block =
-    piped
+    pipe_is_open
     ++ by_run 0 0 (PipePut (codes "p") []) reply.Unit
     ∷ by_run 0 0 (PipeClose (codes "p")) reply.Unit
     ∷ by_run 1 1 (PipeTake (codes "p")) PipeEnd
     ∷ []
 
+-- nor do 4,097 bytes ever go in at once
 abbrev pub TooManyBytes : Type 0
-TooManyBytes = answer_of piped 0 (Some 0) (PipePut (codes "p") (replicate 4097 0)) ≡ NotYet
+TooManyBytes = answer_of pipe_is_open 0 (Some 0) (PipePut (codes "p") (replicate 4097 0)) ≡ NotYet
 
--- the reader has begun another session, which the old writer has no part in
+-- the reader has child_is_loaded another session, which the old writer has no part in
 abbrev pub read_anew : List Entry
 read_anew =
-    piped
+    pipe_is_open
     ++ by_run 0 0 (PipePut (codes "p") (codes "ab")) reply.Unit
     ∷ by_run 1 1 (PipeClose (codes "p")) reply.Unit
     ∷ by_run 1 1 (PipeOpen (codes "p") Reads) (Session (record { 0 = 10 }))

@@ -2,6 +2,7 @@
 
 use Rattle.std.specs.Prelude.{◌≡◌, ◌<◌, ℕ, ℤ, pos, false, true, List, ◌∷◌, ◌++◌, Option, Some, None, ◌⊎◌, length, slice_get, codes}
 use Rattle.std.specs.List.{list_any}
+use Rattle.mos_text.specs.FileName.{is_source_name}
 use Rattle.job_calls.specs.declared.call.Call.{Call}
 use Rattle.job_calls.specs.declared.call.Call.TheVariants.{Claim, Finish, Load, Send, Read, Write, PipeTake}
 use Rattle.job_calls.specs.declared.end.End.{End}
@@ -10,7 +11,7 @@ use Rattle.job_calls.specs.declared.reply.Reply.TheVariants.{Claimed, Loaded, To
 use Rattle.job_calls.specs.declared.entry.Entry.{Entry}
 use Rattle.job_calls.specs.declared.entry.Listed.{Listed}
 use Rattle.job_calls.specs.Runs.{source_of, params_of}
-use Rattle.job_calls.specs.Files.{is_source, files_of, data_of}
+use Rattle.job_calls.specs.Files.{files_of, data_of}
 use Rattle.job_calls.specs.Models.{parent_of, exit_code}
 use Rattle.job_calls.specs.Blocks.{writes}
 use Rattle.job_calls.specs.Pipes.{in_session, put_in, taken_in}
@@ -70,7 +71,7 @@ pub record IsAccepted (journal : List Entry) (source : ℕ) : Type 0 where
   pub file : Listed
   pub listed : slice_get (files_of journal) source ≡ Some file
   pub code : file.code ≡ 0
-  pub named : is_source file.name ≡ true
+  pub named : is_source_name file.name ≡ true
 
 -- run k can be carried out: it has a source and a parameter text, and the source is a file that was accepted, by its
 -- name a source, or the file that the job was opened with as master
@@ -80,7 +81,7 @@ pub record HasSource (journal : List Entry) (k source : ℕ) (params : List ℕ)
   pub params_is : params_of k journal ≡ Some params
   pub listed : slice_get (files_of journal) source ≡ Some file
   pub code : file.code ≡ 0
-  pub named : (k ≡ 0) ⊎ (is_source file.name ≡ true)
+  pub named : (k ≡ 0) ⊎ (is_source_name file.name ≡ true)
 
 -- what a reply says of the journal before it
 abbrev pub SaysTrue : List Entry → Option ℕ → Call → Reply → Type 0

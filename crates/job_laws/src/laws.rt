@@ -1,7 +1,7 @@
 //! What holds of every legal journal: functions that do nothing, whose contracts are the laws.
 ghost use Rattle.job_laws.specs.Truth.{RepliesAreTrue, ReadsOfFiles, ReadsOfBlocks, BlocksAreNotListed};
-ghost use Rattle.job_laws.specs.Order.{StaysAsked};
-ghost use Rattle.job_laws.specs.Lanes.{AnswersFit, ClaimedOnce, ClaimedBefore, OneLaneARun, AllEnd, NoQuit};
+ghost use Rattle.job_laws.specs.Order.{AskedStops, StaysAsked};
+ghost use Rattle.job_laws.specs.Lanes.{AnswersFit, RunsFit, ClaimedOnce, ClaimedBefore, OneLaneARun, AllEnd, NoQuit};
 ghost use Rattle.job_laws.specs.Growth.{FewEntries, FewFiles, Grows, MomentsGrow, RunsHaveSources, SourcesStay};
 ghost use Rattle.job_laws.specs.Laws.{LegalKeepsLaws};
 
@@ -10,11 +10,21 @@ pub fn answers_fit()
     ensures { AnswersFit }
 {}
 
+/// All that a run was answered fits what it called, where every reply can be held.
+pub fn runs_fit()
+    ensures { RunsFit }
+{}
+
 /// A run takes its events in the order in which they came, skips none and takes none twice; what is
 /// taken out of a pipe is what was put, all of it where the end was told; a run that was asked to
 /// stop is told so, and finishes.
 pub fn legal_keeps_laws()
     ensures { LegalKeepsLaws }
+{}
+
+/// After an entry by which a run was asked to stop, the run is told so and only finishes.
+pub fn asked_stops()
+    ensures { AskedStops }
 {}
 
 /// A run that was asked to stop is asked in every longer journal.

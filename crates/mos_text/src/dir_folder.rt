@@ -1,3 +1,4 @@
+//! The folder of the system, as a place that keeps files.
 ghost use Rattle.std.specs.Prelude.{◌≡◌, None};
 
 use crate::{Blob, Folder, Got, Stored, Text};

@@ -1,3 +1,4 @@
+//! Lists of named things: the first of a name, and what a folder in memory answers.
 ghost use Rattle.std.specs.Prelude.{◌≡◌, option_copied, ◌≢◌};
 ghost use Rattle.std.specs.Ordering.{nat_cmp};
 ghost use Rattle.std.specs.Cmp.Lexicographic.{slice_cmp};

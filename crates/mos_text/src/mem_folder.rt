@@ -1,3 +1,4 @@
+//! A folder in memory that fails at calls which are listed beforehand.
 ghost use Rattle.std.specs.Prelude.{◌≡◌, ◌≢◌, ◌↔◌, ◌≤◌, Some, None, OnOk, OnErr, option_copied};
 ghost use Rattle.std.specs.FinMap.{insert};
 ghost use Rattle.mos_text.specs.Content.{known_of, known_bytes, SameElsewhere, absent_if_unknown, files_of};

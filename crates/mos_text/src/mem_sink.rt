@@ -1,3 +1,4 @@
+//! A sink in memory that takes short pieces, and fails at writes which are listed beforehand.
 ghost use Rattle.std.specs.Prelude.{◌≡◌, ◌≢◌, ◌↔◌, ◌<◌, ◌≤◌, [], ◌++◌, Some, length};
 ghost use Rattle.mos_text.specs.Calls.{FailsNext, after_one, calls_of, one_more};
 ghost use Rattle.mos_text.specs.SinkBytes.{TakesSome, taken};

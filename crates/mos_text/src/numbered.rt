@@ -1,3 +1,4 @@
+//! Calls that are counted, some of which are to fail.
 ghost use Rattle.std.specs.Prelude.{◌≡◌, ◌↔◌, IsTrue, Contains};
 ghost use Rattle.mos_text.specs.Calls.{calls_of, after_one, FailsNext};
 

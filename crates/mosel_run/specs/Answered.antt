@@ -9,7 +9,7 @@ use Rattle.mos_text.specs.SinkBytes.{appended, AppendedPart}
 use Rattle.mos_text.specs.declared.kind.Kind.{Kind}
 use Rattle.mos_text.specs.declared.folder.Got.TheVariants.{Bytes, Missing as NotThere, TooLarge as TooLong}
 use Rattle.job_calls.specs.declared.end.End.{End}
-use Rattle.hub_text.specs.ErrorLines.{usage_line, verdict_line, missing_line, too_large_line, read_fault_line}
+use Rattle.job_calls.specs.ErrorLines.{usage_line, verdict_line, missing_line, too_large_line, read_fault_line}
 use Rattle.mos_words.specs.Words.{command_of}
 use Rattle.mos_words.specs.declared.words.commands.Command.TheVariants.{Run}
 use Rattle.mosel_run.specs.declared.jobs.Output.{Output}

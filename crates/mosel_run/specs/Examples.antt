@@ -8,7 +8,7 @@ use Rattle.job_calls.specs.declared.entry.Entry.{Entry}
 use Rattle.job_calls.specs.declared.reply.Reply.TheVariants.{Opened, Claimed, Code, Unit as Acknowledged}
 use Rattle.job_calls.specs.Runs.{Opening}
 use Rattle.job_calls.specs.Replies.{AllFit}
-use Rattle.job_calls.specs.HelloJournal.{hello_entries, hello_file, entry}
+use Rattle.job_calls.specs.ReportExamples.{hello_entries, hello_file, entry}
 use Rattle.bim_code.specs.Tables.{image_bytes}
 use Rattle.mos_meaning.specs.Examples.{hello, hello_image}
 use Rattle.mos_meaning.specs.Syntax.{statements_of}

@@ -7,7 +7,7 @@ use Rattle.job_calls.specs.declared.end.End.TheVariants as end
 use Rattle.job_calls.specs.declared.entry.Entry.{Entry}
 use Rattle.job_calls.specs.declared.run_line.RunLine.{RunLine}
 use Rattle.job_calls.specs.Runs.{finish_of}
-use Rattle.hub_text.specs.ReportText.{report_text}
+use Rattle.job_calls.specs.ReportText.{report_text}
 use Rattle.bim_code.specs.declared.image.Image.{Image}
 use Rattle.mosel_run.specs.declared.jobs.Output.{Output}
 use Rattle.mosel_run.specs.Jobs.{opening_on}

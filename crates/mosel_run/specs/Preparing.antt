@@ -5,7 +5,7 @@ use Rattle.mos_text.specs.Content.{known_of}
 use Rattle.mos_text.specs.Faults.{Rose}
 use Rattle.mos_text.specs.Gets.{Answers}
 use Rattle.mos_text.specs.declared.folder.Got.TheVariants.{Bytes, Missing as NotThere, TooLarge as TooLong}
-use Rattle.hub_text.specs.ErrorLines.{verdict_line, missing_line, too_large_line, read_fault_line}
+use Rattle.job_calls.specs.ErrorLines.{verdict_line, missing_line, too_large_line, read_fault_line}
 use Rattle.mosel_run.specs.declared.prepared.Prepared.{Prepared}
 use Rattle.mosel_run.specs.declared.prepared.Prepared.TheVariants.{Report, Line}
 use Rattle.mosel_run.specs.declared.status.Status.TheVariants.{Refused, Missing, TooLarge, FolderFault}

@@ -13,7 +13,7 @@ use Rattle.job_calls.specs.declared.run_line.RunLine.{RunLine}
 use Rattle.job_calls.specs.Words.{own_entries, has_quit, run_count, is_finished, is_claim, is_done}
 use Rattle.job_calls.specs.Runs.{Opening, opening, finish_of}
 use Rattle.job_calls.specs.Legal.{IsLegal}
-use Rattle.hub_text.specs.ReportText.{report_text}
+use Rattle.job_calls.specs.ReportText.{report_text}
 use Rattle.bim_code.specs.declared.image.Image.{Image}
 use Rattle.bim_code.specs.Limits.{FitsFields}
 use Rattle.mos_meaning.specs.Syntax.{statements_of}

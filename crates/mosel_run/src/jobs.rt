@@ -6,7 +6,7 @@ ghost use Rattle.bim_code.specs.Limits.{FitsFields};
 ghost use Rattle.bim_code.specs.Tables.{image_bytes};
 ghost use Rattle.bim_compile.specs.Means.{Means, NeverStuck};
 ghost use Rattle.bim_compile.specs.Plain.{IsPlain};
-ghost use Rattle.hub_text.specs.ReportText.{report_text};
+ghost use Rattle.job_calls.specs.ReportText.{report_text};
 ghost use Rattle.job_calls.specs.Runs.{finish_of};
 ghost use Rattle.mos_meaning.specs.MachineLaws.{KeepsTicks};
 ghost use Rattle.mos_meaning.specs.State.{Stuck};

@@ -7,7 +7,7 @@ use job_calls::Reply;
 use std::alloc::AllocError;
 
 /// A reply, without what follows from the call, the files and earlier entries.
-#[tactic(auto, unfolding(hub_text::specs::ReplyText::reply_text))]
+#[tactic(auto, unfolding(crate::specs::ReplyText::reply_text))]
 pub fn put_reply(out: &mut Vec<u8>, reply: &Reply) -> Result<(), AllocError>
     ensures { OnOk result (out.new.items ≡ out.old.items ++ reply_text reply.now) }
 {

@@ -1,5 +1,5 @@
 -- each entry fits and is answered by those before it, by computing
-use Rattle.std.proofs.Common.{refl, inl, arith}
+use Rattle.std.proofs.Common.{refl, arith}
 use Rattle.std.proofs.lemmas.List.Elements.{All-nil}
 use Rattle.mos_text.specs.FileName.{is_file_name}
 use Rattle.job_laws.proofs.journals.hello_journal.Goals as goal
