@@ -10,7 +10,7 @@ use Rattle.atomic_table.proofs.Lists.{at_map}
 use Rattle.hub_lock.specs.declared.mark.Mark.{Mark}
 use Rattle.hub_lock.specs.declared.rule.Part.{Part}
 use Rattle.hub_lock.specs.declared.rule.View.{View}
-use Rattle.hub_lock.specs.Words.{of, StartsWith}
+use Rattle.hub_lock.specs.Words.{entries_of, StartsWith}
 use Rattle.hub_lock.specs.Marks.{times, IsMarkOf}
 use Rattle.hub_lock.specs.Seats.{SeatState, turns}
 use Rattle.hub_lock.specs.Calls.{InOrder, HasOrder, IsEnd}
@@ -65,12 +65,12 @@ module _ {E : Type 0} where
       let parts : v.joined ≡ map part_by others = joined ∙ ap (map part_by) (sym (map-id sofar) ∙ each) in record {
         first = (
           subst (StartsWith log) seen whole.begins,
-          subst (λ (n : ℕ). of lane_of n log ≡ of lane_of n seat.seen) lane (subst (λ (xs : List E). of lane_of v.lane log ≡ of lane_of v.lane xs) seen whole.own),
+          subst (λ (n : ℕ). entries_of lane_of n log ≡ entries_of lane_of n seat.seen) lane (subst (λ (xs : List E). entries_of lane_of v.lane log ≡ entries_of lane_of v.lane xs) seen whole.own),
         );
         rest = λ k d lt.
             let other = get_or others k d in
             let part = whole.parts k (part_by other) (ap (λ (xs : List (Part E)). get_elem? xs k) parts ∙ at_map part_by others k other (elem_here others k d lt)) in
-            (part.0, subst (λ (n : ℕ). of lane_of n log ≡ of lane_of n other.seen) (sym (order k other (slice_get-get_or others k d lt))) part.1);
+            (part.0, subst (λ (n : ℕ). entries_of lane_of n log ≡ entries_of lane_of n other.seen) (sym (order k other (slice_get-get_or others k d lt))) part.1);
         no_more = λ lane lt. whole.unmade lane (omega arith);
         sounds = whole.sounds;
         order = orders lane_of sound seat others v log whole own parts;

@@ -5,7 +5,7 @@ use Rattle.std.proofs.lemmas.List.Sums.{sum_by-cons}
 use Rattle.std.proofs.lemmas.List.Elements.{filter-append, All-head, All-tail}
 use mathlib.Core.Option.{some, some-injective, some-ne-none}
 use lib.ListN.{get_elem?}
-use Rattle.hub_lock.specs.Words.{of, StartsWith}
+use Rattle.hub_lock.specs.Words.{entries_of, StartsWith}
 
 module _ {A : Type 0} (f : A → ℕ) where
   -- a sum after a change of one part
@@ -58,34 +58,34 @@ append_nil_left [] ys e = refl
 append_nil_left (x ∷ xs) ys e = let h : length ((x ∷ xs) ++ ys) ≡ 0 = ap length e in absurd (omega arith)
 
 module _ {E : Type 0} (lane_of : E → ℕ) where
-  pub of-append : (lane : ℕ) (xs ys : List E) → of lane_of lane (xs ++ ys) ≡ of lane_of lane xs ++ of lane_of lane ys
+  pub of-append : (lane : ℕ) (xs ys : List E) → entries_of lane_of lane (xs ++ ys) ≡ entries_of lane_of lane xs ++ entries_of lane_of lane ys
   of-append lane xs ys = filter-append (λ e. eqb (lane_of e) lane) xs ys
 
   -- an entry of another lane adds nothing
-  pub of-other : (lane : ℕ) (xs : List E) (e : E) → lane_of e ≢ lane → of lane_of lane (xs ++ e ∷ []) ≡ of lane_of lane xs
-  of-other lane xs e ne = of-append lane xs (e ∷ []) ∙ ap (λ (b : Bool). of lane_of lane xs ++ cond b (e ∷ []) []) (ne_eqb (lane_of e) lane ne) ∙ append-nil (of lane_of lane xs)
+  pub of-other : (lane : ℕ) (xs : List E) (e : E) → lane_of e ≢ lane → entries_of lane_of lane (xs ++ e ∷ []) ≡ entries_of lane_of lane xs
+  of-other lane xs e ne = of-append lane xs (e ∷ []) ∙ ap (λ (b : Bool). entries_of lane_of lane xs ++ cond b (e ∷ []) []) (ne_eqb (lane_of e) lane ne) ∙ append-nil (entries_of lane_of lane xs)
 
-  pub of-own : (lane : ℕ) (xs : List E) (e : E) → lane_of e ≡ lane → of lane_of lane (xs ++ e ∷ []) ≡ of lane_of lane xs ++ e ∷ []
-  of-own lane xs e is = of-append lane xs (e ∷ []) ∙ ap (λ (b : Bool). of lane_of lane xs ++ cond b (e ∷ []) []) (eq-eqb (lane_of e) lane is)
+  pub of-own : (lane : ℕ) (xs : List E) (e : E) → lane_of e ≡ lane → entries_of lane_of lane (xs ++ e ∷ []) ≡ entries_of lane_of lane xs ++ e ∷ []
+  of-own lane xs e is = of-append lane xs (e ∷ []) ∙ ap (λ (b : Bool). entries_of lane_of lane xs ++ cond b (e ∷ []) []) (eq-eqb (lane_of e) lane is)
 
   -- a list of entries of one lane
-  pub of-all : (lane : ℕ) (xs : List E) → All (λ e. lane_of e ≡ lane) xs → of lane_of lane xs ≡ xs
+  pub of-all : (lane : ℕ) (xs : List E) → All (λ e. lane_of e ≡ lane) xs → entries_of lane_of lane xs ≡ xs
   of-all lane [] h = refl
-  of-all lane (x ∷ xs) h = ap (λ (b : Bool). cond b (x ∷ of lane_of lane xs) (of lane_of lane xs)) (eq-eqb (lane_of x) lane (All-head (λ e. lane_of e ≡ lane) x xs h)) ∙ ap (λ (l : List E). x ∷ l) (of-all lane xs (All-tail (λ e. lane_of e ≡ lane) x xs h))
+  of-all lane (x ∷ xs) h = ap (λ (b : Bool). cond b (x ∷ entries_of lane_of lane xs) (entries_of lane_of lane xs)) (eq-eqb (lane_of x) lane (All-head (λ e. lane_of e ≡ lane) x xs h)) ∙ ap (λ (l : List E). x ∷ l) (of-all lane xs (All-tail (λ e. lane_of e ≡ lane) x xs h))
 
-  pub of-none : (lane other : ℕ) → lane ≢ other → (xs : List E) → All (λ e. lane_of e ≡ lane) xs → of lane_of other xs ≡ []
+  pub of-none : (lane other : ℕ) → lane ≢ other → (xs : List E) → All (λ e. lane_of e ≡ lane) xs → entries_of lane_of other xs ≡ []
   of-none lane other ne [] h = refl
   of-none lane other ne (x ∷ xs) h = let is = All-head (λ e. lane_of e ≡ lane) x xs h in
-      ap (λ (b : Bool). cond b (x ∷ of lane_of other xs) (of lane_of other xs)) (ne_eqb (lane_of x) other (λ e. ne (sym is ∙ e))) ∙ of-none lane other ne xs (All-tail (λ e. lane_of e ≡ lane) x xs h)
+      ap (λ (b : Bool). cond b (x ∷ entries_of lane_of other xs) (entries_of lane_of other xs)) (ne_eqb (lane_of x) other (λ e. ne (sym is ∙ e))) ∙ of-none lane other ne xs (All-tail (λ e. lane_of e ≡ lane) x xs h)
 
   -- what came after has no entry of a lane whose entries had all been seen
-  pub of-between : (lane : ℕ) (log seen between : List E) → log ≡ seen ++ between → of lane_of lane log ≡ of lane_of lane seen → of lane_of lane between ≡ []
+  pub of-between : (lane : ℕ) (log seen between : List E) → log ≡ seen ++ between → entries_of lane_of lane log ≡ entries_of lane_of lane seen → entries_of lane_of lane between ≡ []
   of-between lane log seen between e own =
-      append_cancel_left (of lane_of lane seen) (of lane_of lane between) [] (sym (of-append lane seen between) ∙ ap (of lane_of lane) (sym e) ∙ own ∙ sym (append-nil (of lane_of lane seen)))
+      append_cancel_left (entries_of lane_of lane seen) (entries_of lane_of lane between) [] (sym (of-append lane seen between) ∙ ap (entries_of lane_of lane) (sym e) ∙ own ∙ sym (append-nil (entries_of lane_of lane seen)))
 
   -- what is seen of a list has no entry of a lane of which the list has none
-  pub unseen : (lane : ℕ) (log seen : List E) → StartsWith log seen → of lane_of lane log ≡ [] → of lane_of lane seen ≡ []
-  unseen lane log seen s none = append_nil_left (of lane_of lane seen) (of lane_of lane s.0) (sym (of-append lane seen s.0) ∙ ap (of lane_of lane) (sym s.1) ∙ none)
+  pub unseen : (lane : ℕ) (log seen : List E) → StartsWith log seen → entries_of lane_of lane log ≡ [] → entries_of lane_of lane seen ≡ []
+  unseen lane log seen s none = append_nil_left (entries_of lane_of lane seen) (entries_of lane_of lane s.0) (sym (of-append lane seen s.0) ∙ ap (entries_of lane_of lane) (sym s.1) ∙ none)
 
 module _ {E : Type 0} where
   pub starts_longer : (log seen more : List E) → StartsWith log seen → StartsWith (log ++ more) seen

@@ -13,8 +13,8 @@ use Rattle.hub_lock.specs.declared.mark.Mark.{Mark}
 use Rattle.hub_lock.specs.declared.rule.Part.{Part}
 use Rattle.hub_lock.specs.declared.rule.View.{View}
 use Rattle.hub_lock.specs.Marks.{mark, times, IsOrder, IsMarkOf}
-use Rattle.hub_lock.specs.Inner.Rule.{alive, turns_of, times_of, HasMarks, HasTurns}
-use Rattle.hub_lock.specs.Inner.Steps.{both, spent, part_of}
+use Rattle.hub_lock.specs.Inner.Rule.{is_alive, turns_of, times_of, HasMarks, HasTurns}
+use Rattle.hub_lock.specs.Inner.Steps.{after_join, spent_view, part_of}
 use Rattle.hub_lock.proofs.Lists.{sum_by-set_at, sum_by-one, at_pushed}
 
 -- the order once an entry was counted at the last of `total` turns
@@ -56,14 +56,14 @@ all_last P [] x h = All-head P x [] h
 all_last P (y ∷ ys) x h = all_last P ys x (All-tail P y (ys ++ x ∷ []) h)
 
 -- a ticket stands once with its own mark
-times_own : (ticket found : ℕ) → times ticket (mark ticket found ∷ []) ≡ 1
-times_own ticket found = sum_by-cons (λ (x : Mark). cond (eqb x.ticket ticket) 1 0) (mark ticket found) [] ∙ ap (λ (b : Bool). cond b 1 0 + 0) (eq-eqb ticket ticket refl)
+times_own : (ticket_at found : ℕ) → times ticket_at (mark ticket_at found ∷ []) ≡ 1
+times_own ticket_at found = sum_by-cons (λ (x : Mark). cond (eqb x.ticket ticket_at) 1 0) (mark ticket_at found) [] ∙ ap (λ (b : Bool). cond b 1 0 + 0) (eq-eqb ticket_at ticket_at refl)
 
-times_other : (ticket other found : ℕ) → other ≢ ticket → times ticket (mark other found ∷ []) ≡ 0
-times_other ticket other found ne = sum_by-cons (λ (x : Mark). cond (eqb x.ticket ticket) 1 0) (mark other found) [] ∙ ap (λ (b : Bool). cond b 1 0 + 0) (ne_eqb other ticket ne)
+times_other : (ticket_at other found : ℕ) → other ≢ ticket_at → times ticket_at (mark other found ∷ []) ≡ 0
+times_other ticket_at other found ne = sum_by-cons (λ (x : Mark). cond (eqb x.ticket ticket_at) 1 0) (mark other found) [] ∙ ap (λ (b : Bool). cond b 1 0 + 0) (ne_eqb other ticket_at ne)
 
-times_push : (ticket : ℕ) (ms : List Mark) (m : Mark) → times ticket (ms ++ m ∷ []) ≡ times ticket ms + times ticket (m ∷ [])
-times_push ticket ms m = let a = sum_by_push (λ (x : Mark). cond (eqb x.ticket ticket) 1 0) ms m in let b = sum_by_push (λ (x : Mark). cond (eqb x.ticket ticket) 1 0) [] m in omega arith
+times_push : (ticket_at : ℕ) (ms : List Mark) (m : Mark) → times ticket_at (ms ++ m ∷ []) ≡ times ticket_at ms + times ticket_at (m ∷ [])
+times_push ticket_at ms m = let a = sum_by_push (λ (x : Mark). cond (eqb x.ticket ticket_at) 1 0) ms m in let b = sum_by_push (λ (x : Mark). cond (eqb x.ticket ticket_at) 1 0) [] m in omega arith
 
 module _ {E : Type 0} where
   -- the marks of a view are of more turns
@@ -74,7 +74,7 @@ module _ {E : Type 0} where
   )
 
   -- one view changes, and with it perhaps the order and the number of turns
-  turns_set : (total count total' count' : ℕ) (views : List (View E)) (h : HasTurns total count views) (at' : ℕ → ℕ) (id : ℕ) (v w : View E) → get_elem? views id ≡ some v → alive w.stage ≡ true
+  turns_set : (total count total' count' : ℕ) (views : List (View E)) (h : HasTurns total count views) (at' : ℕ → ℕ) (id : ℕ) (v w : View E) → get_elem? views id ≡ some v → is_alive w.stage ≡ true
       → total ≤ total' → ((turn : ℕ) → turn < total → at' turn ≡ h.at turn) → IsOrder at' → ((turn : ℕ) → total' ≤ turn → at' turn ≡ count')
       → turns_of w + total ≡ turns_of v + total'
       → ((turn n : ℕ) → n + times_of turn v ≡ sum_by (times_of turn) views + times_of turn w → (turn < total' → n ≡ 1) × (total' ≤ turn → n ≡ 0))
@@ -92,13 +92,13 @@ module _ {E : Type 0} where
         (λ (x : (j ≢ id) × (get_elem? views j ≡ some u)). more_marks h.at at' total total' le same u (h.marks j u x.1))
         (at_set views id j w u e);
     gone = λ j u e none. ⊎_elim
-        (λ (x : (j ≡ id) × (w ≡ u)). absurd (true≢false (sym live ∙ ap (λ (z : View E). alive z.stage) x.1 ∙ none)))
+        (λ (x : (j ≡ id) × (w ≡ u)). absurd (true≢false (sym live ∙ ap (λ (z : View E). is_alive z.stage) x.1 ∙ none)))
         (λ (x : (j ≢ id) × (get_elem? views j ≡ some u)). h.gone j u x.1 none)
         (at_set views id j w u e);
   }
 
   -- the view has the marks that it had
-  pub turns_stay : (total count : ℕ) (views : List (View E)) → HasTurns total count views → (id : ℕ) (v w : View E) → get_elem? views id ≡ some v → alive w.stage ≡ true → w.marks ≡ v.marks → w.joined ≡ v.joined
+  pub turns_stay : (total count : ℕ) (views : List (View E)) → HasTurns total count views → (id : ℕ) (v w : View E) → get_elem? views id ≡ some v → is_alive w.stage ≡ true → w.marks ≡ v.marks → w.joined ≡ v.joined
       → HasTurns total count (set views id w)
   turns_stay total count views h id v w at live same joined =
       let number : turns_of w ≡ turns_of v = ap (λ (ms : List Mark). length ms + sum_by (λ (p : Part E). length p.marks) w.joined) same ∙ ap (λ (ps : List (Part E)). length v.marks + sum_by (λ (p : Part E). length p.marks) ps) joined in
@@ -108,7 +108,7 @@ module _ {E : Type 0} where
       (let m = h.marks id v at in (subst (All (IsMarkOf h.at total)) (sym same) m.0, subst (All (λ (p : Part E). All (IsMarkOf h.at total) p.marks)) (sym joined) m.1))
 
   -- one turn more, which keeps its mark
-  pub turns_more : (total count : ℕ) (views : List (View E)) → HasTurns total count views → (id : ℕ) (v w : View E) → get_elem? views id ≡ some v → alive w.stage ≡ true → w.marks ≡ v.marks ++ mark total count ∷ [] → w.joined ≡ v.joined
+  pub turns_more : (total count : ℕ) (views : List (View E)) → HasTurns total count views → (id : ℕ) (v w : View E) → get_elem? views id ≡ some v → is_alive w.stage ≡ true → w.marks ≡ v.marks ++ mark total count ∷ [] → w.joined ≡ v.joined
       → HasTurns (total + 1) count (set views id w)
   turns_more total count views h id v w at live more joined =
       let new : Mark = mark total count in
@@ -126,7 +126,7 @@ module _ {E : Type 0} where
       ))
 
   -- an entry is counted at the last turn, which is the view's
-  pub turns_count : (last count : ℕ) (views : List (View E)) → HasTurns (last + 1) count views → (id : ℕ) (v w : View E) (before : List Mark) → get_elem? views id ≡ some v → alive w.stage ≡ true → w.marks ≡ v.marks → w.joined ≡ v.joined
+  pub turns_count : (last count : ℕ) (views : List (View E)) → HasTurns (last + 1) count views → (id : ℕ) (v w : View E) (before : List Mark) → get_elem? views id ≡ some v → is_alive w.stage ≡ true → w.marks ≡ v.marks → w.joined ≡ v.joined
       → v.marks ≡ before ++ mark last count ∷ [] → HasTurns (last + 1) (count + 1) (set views id w)
   turns_count last count views h id v w before at live same joined mine =
       let total : ℕ = last + 1 in
@@ -155,7 +155,7 @@ module _ {E : Type 0} where
       let b : sum_by (λ (p : Part E). f p.marks) v.joined ≡ 0 = ap (sum_by (λ (p : Part E). f p.marks)) alone in omega arith
 
   -- a new seat has no marks
-  pub turns_new : (total count : ℕ) (views : List (View E)) → HasTurns total count views → (b : View E) → alive b.stage ≡ true → b.marks ≡ [] → b.joined ≡ [] → HasTurns total count (views ++ b ∷ [])
+  pub turns_new : (total count : ℕ) (views : List (View E)) → HasTurns total count views → (b : View E) → is_alive b.stage ≡ true → b.marks ≡ [] → b.joined ≡ [] → HasTurns total count (views ++ b ∷ [])
   turns_new total count views h b live none alone =
       let nothing : (f : List Mark → ℕ) → f [] ≡ 0 → f b.marks + sum_by (λ (p : Part E). f p.marks) b.joined ≡ 0 = no_marks b none alone in
       let number : turns_of b ≡ 0 = nothing length refl in
@@ -173,33 +173,33 @@ module _ {E : Type 0} where
             (at_pushed views b u j e);
         gone = λ j u e q. ⊎_elim
             (λ (x : get_elem? views j ≡ some u). h.gone j u x q)
-            (λ (x : (j ≡ length views) × (b ≡ u)). absurd (true≢false (sym live ∙ ap (λ (z : View E). alive z.stage) x.1 ∙ q)))
+            (λ (x : (j ≡ length views) × (b ≡ u)). absurd (true≢false (sym live ∙ ap (λ (z : View E). is_alive z.stage) x.1 ∙ q)))
             (at_pushed views b u j e);
       }
 
   -- what is counted of a view that takes in another
-  sum_both : (f : List Mark → ℕ) (views : List (View E)) (id other : ℕ) (v w : View E) → get_elem? views id ≡ some v → get_elem? (set views id (both v w)) other ≡ some w → w.joined ≡ [] → f [] ≡ 0
-      → let g : View E → ℕ = λ (z : View E). f z.marks + sum_by (λ (p : Part E). f p.marks) z.joined in sum_by g (set (set views id (both v w)) other spent) ≡ sum_by g views
+  sum_both : (f : List Mark → ℕ) (views : List (View E)) (id other : ℕ) (v w : View E) → get_elem? views id ≡ some v → get_elem? (set views id (after_join v w)) other ≡ some w → w.joined ≡ [] → f [] ≡ 0
+      → let g : View E → ℕ = λ (z : View E). f z.marks + sum_by (λ (p : Part E). f p.marks) z.joined in sum_by g (set (set views id (after_join v w)) other spent_view) ≡ sum_by g views
   sum_both f views id other v w at at' alone zero_of =
       let h : Part E → ℕ = λ (p : Part E). f p.marks in
       let g : View E → ℕ = λ (z : View E). f z.marks + sum_by h z.joined in
-      let a = sum_by-set_at g views id v (both v w) at in
-      let b = sum_by-set_at g (set views id (both v w)) other w spent at' in
-      let taken : g (both v w) ≡ g v + f w.marks = let p = sum_by_push h v.joined (part_of w) in omega arith in
+      let a = sum_by-set_at g views id v (after_join v w) at in
+      let b = sum_by-set_at g (set views id (after_join v w)) other w spent_view at' in
+      let taken : g (after_join v w) ≡ g v + f w.marks = let p = sum_by_push h v.joined (part_of w) in omega arith in
       let given : g w ≡ f w.marks = let c : sum_by h w.joined ≡ 0 = ap (sum_by h) alone in omega arith in
-      let left : g spent ≡ 0 = no_marks spent refl refl f zero_of in omega arith
+      let left : g spent_view ≡ 0 = no_marks spent_view refl refl f zero_of in omega arith
 
   -- lane 0's seat takes in another, with its marks
-  pub turns_join : (total count : ℕ) (views : List (View E)) → HasTurns total count views → (id other : ℕ) (v w : View E) → get_elem? views id ≡ some v → other ≢ id → get_elem? (set views id (both v w)) other ≡ some w → alive v.stage ≡ true → w.joined ≡ []
-      → HasTurns total count (set (set views id (both v w)) other spent)
+  pub turns_join : (total count : ℕ) (views : List (View E)) → HasTurns total count views → (id other : ℕ) (v w : View E) → get_elem? views id ≡ some v → other ≢ id → get_elem? (set views id (after_join v w)) other ≡ some w → is_alive v.stage ≡ true → w.joined ≡ []
+      → HasTurns total count (set (set views id (after_join v w)) other spent_view)
   turns_join total count views h id other v w at two at' live alone =
-      let a : View E = both v w in
+      let a : View E = after_join v w in
       let there : get_elem? views other ≡ some w = sym (set_else views id other a two) ∙ at' in
       let m = h.marks id v at in
       let n = h.marks other w there in
       let P : Part E → Type 0 = λ (p : Part E). All (IsMarkOf h.at total) p.marks in
       let all : HasMarks h.at total a = (m.0, All-push P v.joined (part_of w) m.1 n.0) in
-      let none : HasMarks {E = E} h.at total spent = (All-nil (IsMarkOf h.at total), All-nil P) in record {
+      let none : HasMarks {E = E} h.at total spent_view = (All-nil (IsMarkOf h.at total), All-nil P) in record {
         at = h.at;
         order = h.order;
         leads = h.leads;
@@ -207,23 +207,23 @@ module _ {E : Type 0} where
         once = λ turn lt. sum_both (times turn) views id other v w at at' alone refl ∙ h.once turn lt;
         free = λ turn le. sum_both (times turn) views id other v w at at' alone refl ∙ h.free turn le;
         marks = λ j u e. ⊎_elim
-            (λ (x : (j ≡ other) × (spent ≡ u)). subst (HasMarks h.at total) x.1 none)
+            (λ (x : (j ≡ other) × (spent_view ≡ u)). subst (HasMarks h.at total) x.1 none)
             (λ (x : (j ≢ other) × (get_elem? (set views id a) j ≡ some u)). ⊎_elim
             (λ (y : (j ≡ id) × (a ≡ u)). subst (HasMarks h.at total) y.1 all)
             (λ (y : (j ≢ id) × (get_elem? views j ≡ some u)). h.marks j u y.1)
             (at_set views id j a u x.1))
-            (at_set (set views id a) other j spent u e);
+            (at_set (set views id a) other j spent_view u e);
         gone = λ j u e q. ⊎_elim
-            (λ (x : (j ≡ other) × (spent ≡ u)). (ap (λ (z : View E). z.marks) (sym x.1), ap (λ (z : View E). z.joined) (sym x.1)))
+            (λ (x : (j ≡ other) × (spent_view ≡ u)). (ap (λ (z : View E). z.marks) (sym x.1), ap (λ (z : View E). z.joined) (sym x.1)))
             (λ (x : (j ≢ other) × (get_elem? (set views id a) j ≡ some u)). ⊎_elim
-            (λ (y : (j ≡ id) × (a ≡ u)). absurd (true≢false (sym live ∙ ap (λ (z : View E). alive z.stage) y.1 ∙ q)))
+            (λ (y : (j ≡ id) × (a ≡ u)). absurd (true≢false (sym live ∙ ap (λ (z : View E). is_alive z.stage) y.1 ∙ q)))
             (λ (y : (j ≢ id) × (get_elem? views j ≡ some u)). h.gone j u y.1 q)
             (at_set views id j a u x.1))
-            (at_set (set views id a) other j spent u e);
+            (at_set (set views id a) other j spent_view u e);
       }
 
   -- where all other seats are spent, all turns are the one view's
-  pub turns_all : (total count : ℕ) (views : List (View E)) → HasTurns total count views → (id : ℕ) (v : View E) → get_elem? views id ≡ some v → ((j : ℕ) (u : View E) → j ≢ id → get_elem? views j ≡ some u → alive u.stage ≡ false)
+  pub turns_all : (total count : ℕ) (views : List (View E)) → HasTurns total count views → (id : ℕ) (v : View E) → get_elem? views id ≡ some v → ((j : ℕ) (u : View E) → j ≢ id → get_elem? views j ≡ some u → is_alive u.stage ≡ false)
       → (turns_of v ≡ total) × ((turn : ℕ) → turn < total → times_of turn v ≡ 1)
   turns_all total count views h id v at others =
       let nothing : (f : List Mark → ℕ) → f [] ≡ 0 → (j : ℕ) (u : View E) → j ≢ id → get_elem? views j ≡ some u → f u.marks + sum_by (λ (p : Part E). f p.marks) u.joined ≡ 0 = λ f zero_of j u ne e.

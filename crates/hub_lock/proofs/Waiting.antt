@@ -1,7 +1,7 @@
 -- Calls that are tried again: what they leave together.
 use Rattle.std.proofs.Common.{◌≡◌, ℕ, ◌≤◌, List, [], ◌++◌, refl, sym, subst, append-nil, arith}
 use Rattle.hub_lock.specs.declared.story.Story.{Ghosts}
-use Rattle.hub_lock.specs.Words.{of, StartsWith}
+use Rattle.hub_lock.specs.Words.{entries_of, StartsWith}
 use Rattle.hub_lock.specs.Seats.{SeatState, turns, first_entry, own_list, IsSameSeat}
 
 module _ {S C A H E : Type 0} (story : Ghosts S C A H E) where
@@ -9,7 +9,7 @@ module _ {S C A H E : Type 0} (story : Ghosts S C A H E) where
   pub record HasWaited (old now : SeatState E) : Type 0 where
     pub between : List E
     pub goes_on : now.seen ≡ old.seen ++ between
-    pub others : of story.lane_of old.lane between ≡ []
+    pub others : entries_of story.lane_of old.lane between ≡ []
     pub none_more : own_list story now ≡ own_list story old
     pub first : first_entry now ≡ first_entry old
     pub same : IsSameSeat old now

@@ -1,7 +1,7 @@
 -- What a call leaves, and what the end of a lock gives.
 use Rattle.std.specs.Prelude.{◌≡◌, ℕ, ◌+◌, ◌<◌, List, [], ◌∷◌, ◌++◌, length, All, sum_by, slice_get, Some}
 use Rattle.hub_lock.specs.declared.story.Story.{Ghosts}
-use Rattle.hub_lock.specs.Words.{of, StartsWith}
+use Rattle.hub_lock.specs.Words.{entries_of, StartsWith}
 use Rattle.hub_lock.specs.Marks.{times, FoundLast, IsOrder, IsMarkOf}
 use Rattle.hub_lock.specs.Seats.{SeatState, turns, first_entry, own_list}
 
@@ -17,7 +17,7 @@ module _ {S C A H E : Type 0} where
     pub between : List E
     pub entry : E
     pub goes_on : new.seen ≡ (old.seen ++ between) ++ entry ∷ []
-    pub others : of story.lane_of old.lane between ≡ []
+    pub others : entries_of story.lane_of old.lane between ≡ []
     pub own : story.lane_of entry ≡ old.lane
     pub one_more : own_list story new ≡ own_list story old ++ entry ∷ []
     pub first : first_entry new ≡ first_entry old
@@ -30,7 +30,7 @@ module _ {S C A H E : Type 0} where
       : Type 0 where
     pub between : List E
     pub goes_on : new.seen ≡ old.seen ++ between
-    pub others : of story.lane_of old.lane between ≡ []
+    pub others : entries_of story.lane_of old.lane between ≡ []
     pub none_more : own_list story new ≡ own_list story old
     pub first : first_entry new ≡ first_entry old
     pub counted : count ≡ length new.seen
@@ -41,7 +41,7 @@ module _ {S C A H E : Type 0} where
 module _ {E : Type 0} where
   -- the journal begins with what the seat has seen, and has no other entries of its lane
   abbrev pub IsIn : (E → ℕ) → SeatState E → List E → Type 0
-  IsIn lane_of seat log = StartsWith log seat.seen × (of lane_of seat.lane log ≡ of lane_of seat.lane seat.seen)
+  IsIn lane_of seat log = StartsWith log seat.seen × (entries_of lane_of seat.lane log ≡ entries_of lane_of seat.lane seat.seen)
 
   -- the other seats are those of lanes 1, 2 and so on, in this order
   abbrev pub InOrder : List (SeatState E) → Type 0
@@ -64,6 +64,6 @@ module _ {E : Type 0} where
       (log : List E) : Type 0 where
     pub first : IsIn lane_of seat log
     pub rest : All (λ other. IsIn lane_of other log) others
-    pub no_more : (lane : ℕ) → length others < lane → of lane_of lane log ≡ []
+    pub no_more : (lane : ℕ) → length others < lane → entries_of lane_of lane log ≡ []
     pub sounds : sound log
     pub order : HasOrder (seat ∷ others) (length log)

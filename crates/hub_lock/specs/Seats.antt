@@ -3,7 +3,7 @@ use Rattle.std.specs.Prelude.{◌≡◌, ℕ, List, length, Option, slice_get}
 use Rattle.atomic_table.specs.Seated.{TableId}
 use Rattle.hub_lock.specs.declared.mark.Mark.{Mark}
 use Rattle.hub_lock.specs.declared.story.Story.{Ghosts}
-use Rattle.hub_lock.specs.Words.{of}
+use Rattle.hub_lock.specs.Words.{entries_of}
 
 -- which lock it is, and how many seats it may have
 pub record KeepState : Type 0 where
@@ -60,4 +60,4 @@ module _ {E : Type 0} where
 module _ {S C A H E : Type 0} where
   -- the lane's own entries, all of which it has seen
   abbrev pub own_list : Ghosts S C A H E → SeatState E → List E
-  own_list story seat = of story.lane_of seat.lane seat.seen
+  own_list story seat = entries_of story.lane_of seat.lane seat.seen

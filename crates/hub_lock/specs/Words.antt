@@ -8,9 +8,9 @@ StartsWith {X} log seen = (rest : List X) × (log ≡ seen ++ rest)
 
 module _ {E : Type 0} where
   -- the entries of one lane
-  abbrev pub of : (E → ℕ) → ℕ → List E → List E
-  of lane_of lane log = filter (λ e. lane_of e == lane) log
+  abbrev pub entries_of : (E → ℕ) → ℕ → List E → List E
+  entries_of lane_of lane log = filter (λ e. lane_of e == lane) log
 
   -- no lane from this one on has an entry
   abbrev pub HasNoneFrom : (E → ℕ) → ℕ → List E → Type 0
-  HasNoneFrom lane_of least log = (lane : ℕ) → least ≤ lane → of lane_of lane log ≡ []
+  HasNoneFrom lane_of least log = (lane : ℕ) → least ≤ lane → entries_of lane_of lane log ≡ []

@@ -42,19 +42,19 @@ pub struct Rule<S> {
 }
 
 impl<S: Story> TableRule<Option<S>, View<S::Entry>, Snapshot<S>> for Rule<S> {
-    ghost use Rattle.hub_lock.specs.Inner.Rule.{HasJournal, starting};
+    ghost use Rattle.hub_lock.specs.Inner.Rule.{HasJournal, first_view};
 
     ghost holds = { λ _. HasJournal S.list S.lane_of S.sound };
 
-    ghost first = { λ about. starting (S.list about.value) };
+    ghost first = { λ about. first_view (S.list about.value) };
 }
 
 pub struct Draw;
 
 impl<S, E> Play<Option<S>, View<E>> for Draw {
-    ghost use Rattle.hub_lock.specs.Inner.Steps.{drew};
+    ghost use Rattle.hub_lock.specs.Inner.Steps.{DrawTells};
 
-    ghost then = { drew };
+    ghost then = { DrawTells };
 }
 
 pub struct Look<S> {
@@ -62,9 +62,9 @@ pub struct Look<S> {
 }
 
 impl<S: Story> Play<Option<S>, View<S::Entry>> for Look<S> {
-    ghost use Rattle.hub_lock.specs.Inner.Steps.{looked};
+    ghost use Rattle.hub_lock.specs.Inner.Steps.{LookTells};
 
-    ghost then = { looked S.list S.lane_of S.sound };
+    ghost then = { LookTells S.list S.lane_of S.sound };
 }
 
 pub struct Count<S> {
@@ -72,35 +72,35 @@ pub struct Count<S> {
 }
 
 impl<S: Story> Play<Option<S>, View<S::Entry>> for Count<S> {
-    ghost use Rattle.hub_lock.specs.Inner.Steps.{counted};
+    ghost use Rattle.hub_lock.specs.Inner.Steps.{CountTells};
 
-    ghost then = { counted S.list };
+    ghost then = { CountTells S.list };
 }
 
 pub struct Pass;
 
 impl<S, E> Play<Option<S>, View<E>> for Pass {
-    ghost use Rattle.hub_lock.specs.Inner.Steps.{passed};
+    ghost use Rattle.hub_lock.specs.Inner.Steps.{PassTells};
 
-    ghost then = { passed };
+    ghost then = { PassTells };
 }
 
 pub struct Deal;
 
 impl<E> Split<View<E>> for Deal {
-    ghost use Rattle.hub_lock.specs.Inner.Steps.{dealt, fresh};
+    ghost use Rattle.hub_lock.specs.Inner.Steps.{first_after_split, new_view};
 
-    ghost left = { dealt };
+    ghost left = { first_after_split };
 
-    ghost right = { fresh };
+    ghost right = { new_view };
 }
 
 pub struct Merge;
 
 impl<E> Join<View<E>> for Merge {
-    ghost use Rattle.hub_lock.specs.Inner.Steps.{both, spent};
+    ghost use Rattle.hub_lock.specs.Inner.Steps.{after_join, spent_view};
 
-    ghost both = { both };
+    ghost both = { after_join };
 
-    ghost spent = { spent };
+    ghost spent = { spent_view };
 }

@@ -1,6 +1,6 @@
 //! What a lock keeps: a value that stands for a list of entries, each of one lane.
 ghost use Rattle.std.specs.Prelude.{◌≡◌, ℕ, ◌^◌, ◌<◌, List, [], ◌∷◌, ◌++◌, length, slice_get, Option, Some, None, IfOk, IfErr, MatchResult};
-ghost use Rattle.hub_lock.specs.Words.{of};
+ghost use Rattle.hub_lock.specs.Words.{entries_of};
 
 /// A value that stands for a list of entries, to which each accepted call adds one.
 ///
@@ -33,7 +33,7 @@ pub trait Story: Drop {
 
     /// Answers the call and adds one entry of the lane, or refuses it and adds none.
     fn step(&mut self, lane: u32, call: Self::Call) -> Result<Self::Acted, Self::Held>
-        requires { allowed (slice_get (list self.old) 0) (of lane_of lane (list self.old)) lane call }
+        requires { allowed (slice_get (list self.old) 0) (entries_of lane_of lane (list self.old)) lane call }
         ensures answered { IfOk result (λ acted. (entry : Self.Entry)
             × (list self.new ≡ list self.old ++ entry ∷ [])
             × (lane_of entry ≡ lane)

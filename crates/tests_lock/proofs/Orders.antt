@@ -1,5 +1,5 @@
 -- Seats in the order of their lanes.
-use Rattle.std.proofs.Common.{◌≡◌, ℕ, zero, suc, ◌+◌, List, [], ◌∷◌, ◌++◌, length, slice_get, Option, Some, unwrap_or, ◌⊎◌, inl, inr, ⊎_elim, is_some, true, false, true≢false, refl, sym, ap, ◌∙◌, arith}
+use Rattle.std.proofs.Common.{◌≡◌, ℕ, zero, suc, ◌+◌, List, [], ◌∷◌, ◌++◌, length, slice_get, Option, Some, unwrap_or, ◌⊎◌, inl, inr, ⊎_elim, is_some, true≢false, refl, sym, ap, ◌∙◌, arith}
 use Rattle.hub_lock.specs.Seats.{SeatState}
 use Rattle.hub_lock.specs.Calls.{InOrder}
 

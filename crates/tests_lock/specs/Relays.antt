@@ -1,13 +1,13 @@
 -- What the calls of a relay mean: no lane comes twice in a row, and each call says how often its lane came.
 use Rattle.std.specs.Prelude.{◌≡◌, ℕ, ◌-◌, ◌^◌, List, length, Option, Some, slice_get}
-use Rattle.hub_lock.specs.Words.{of}
+use Rattle.hub_lock.specs.Words.{entries_of}
 use Rattle.hub_lock.specs.Seats.{SeatState, first_entry}
 use Rattle.tests_lock.specs.declared.relay.Early.{Early}
 use Rattle.tests_lock.specs.declared.relay.Early.TheVariants.{NotYet, Full, NoMemory}
 
 -- how often a lane came
 abbrev pub times : ℕ → List ℕ → ℕ
-times lane log = length (of (λ e. e) lane log)
+times lane log = length (entries_of (λ e. e) lane log)
 
 -- lane 0 began, and the call's number is how often the lane came
 abbrev pub Allows : Option ℕ → List ℕ → ℕ → ℕ → Type 0

@@ -2,9 +2,10 @@
 //! until another has acted.
 #![tactic(auto)]
 
-#[cfg(test)]
 mod relay;
 #[cfg(test)]
 mod relays;
 #[cfg(test)]
 mod tallies;
+
+pub use relay::{Early, Relay};

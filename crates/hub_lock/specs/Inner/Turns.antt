@@ -4,10 +4,10 @@ use Rattle.atomic_table.specs.declared.shared.Seat.{Seat}
 use Rattle.hub_lock.specs.declared.mark.Mark.{Mark}
 use Rattle.hub_lock.specs.declared.rule.Stage.TheVariants.{Holds}
 use Rattle.hub_lock.specs.declared.rule.View.{View}
-use Rattle.hub_lock.specs.Words.{of, StartsWith, HasNoneFrom}
+use Rattle.hub_lock.specs.Words.{entries_of, StartsWith, HasNoneFrom}
 use Rattle.hub_lock.specs.Marks.{IsOrder, mark}
 use Rattle.hub_lock.specs.Inner.Rule.{Joined, HasMarks, turns_of, times_of}
-use Rattle.hub_lock.specs.Inner.Steps.{holding}
+use Rattle.hub_lock.specs.Inner.Steps.{after_look}
 
 -- a seat of the lock's table
 abbrev pub Raw : Type 0 → Type 0 → Type 0
@@ -22,8 +22,8 @@ module _ {S E : Type 0} where
   pub record HasTurn (list : S → List E) (lane_of : E → ℕ) (sound : List E → Type 0) (old new : Raw S E) (story : S) : Type 0 where
     pub ticket : ℕ
     pub between : List E
-    pub after : new.me ≡ (holding old.me.0 ticket (old.me.0.seen ++ between), (0, None) ∷ [])
-    pub others : of lane_of old.me.0.lane between ≡ []
+    pub after : new.me ≡ (after_look old.me.0 ticket (old.me.0.seen ++ between), (0, None) ∷ [])
+    pub others : entries_of lane_of old.me.0.lane between ≡ []
     pub stands : list story ≡ old.me.0.seen ++ between
     pub sounds : sound (old.me.0.seen ++ between)
     pub unmade : old.me.0.lane ≡ 0 → HasNoneFrom lane_of old.me.0.made (old.me.0.seen ++ between)
@@ -48,7 +48,7 @@ module _ {S E : Type 0} where
 -- the journal at the end, of which lane 0's seat knows this, when all other seats are joined into it
 pub record IsWhole {E : Type 0} (lane_of : E → ℕ) (sound : List E → Type 0) (v : View E) (log : List E) : Type 0 where
   pub begins : StartsWith log v.seen
-  pub own : of lane_of v.lane log ≡ of lane_of v.lane v.seen
+  pub own : entries_of lane_of v.lane log ≡ entries_of lane_of v.lane v.seen
   pub parts : Joined lane_of log v.joined
   pub unmade : HasNoneFrom lane_of v.made log
   pub sounds : sound log

@@ -1,7 +1,7 @@
 //! How a table ends: all other seats are joined into lane 0's, and the story is taken out.
 ghost use Rattle.std.specs.Prelude.{◌≡◌, ◌+◌, [], length};
 ghost use Rattle.hub_lock.specs.declared.rule.Stage.TheVariants.{Idle};
-ghost use Rattle.hub_lock.specs.Inner.Steps.{both};
+ghost use Rattle.hub_lock.specs.Inner.Steps.{after_join};
 ghost use Rattle.hub_lock.specs.Inner.Turns.{IsSameRaw, IsWhole};
 
 use super::Lock;
@@ -18,7 +18,7 @@ impl<S: Story> Lock<S> {
         requires rests { (gone.me.0.stage ≡ Idle) × (gone.me.1 ≡ []) × (gone.me.0.joined ≡ []) }
         requires next { gone.me.0.lane ≡ length raw.old.me.0.joined + 1 }
         ensures same { IsSameRaw raw.old raw.new }
-        ensures view { raw.new.me ≡ (both raw.old.me.0 gone.me.0, []) }
+        ensures view { raw.new.me ≡ (after_join raw.old.me.0 gone.me.0, []) }
     {
         self.table.shared.join_seat::<Merge>(raw, gone);
     }

@@ -2,7 +2,7 @@
 //! the entry if there is one, and pass the turn.
 ghost use Rattle.std.specs.Prelude.{◌≡◌, [], ◌∷◌, Some, None};
 ghost use Rattle.hub_lock.specs.declared.rule.Stage.TheVariants.{Idle};
-ghost use Rattle.hub_lock.specs.Inner.Steps.{counting, passing};
+ghost use Rattle.hub_lock.specs.Inner.Steps.{after_count, after_pass};
 ghost use Rattle.hub_lock.specs.Inner.Turns.{IsSameRaw, HasTurn, HasSlot, HasMark, HasEntry};
 
 use super::Lock;
@@ -44,7 +44,7 @@ impl<S: Story> Lock<S> {
         requires slot { HasSlot raw.old None }
         requires same { S.list story ≡ raw.old.me.0.seen }
         ensures same { IsSameRaw raw.old raw.new }
-        ensures view { raw.new.me ≡ (passing raw.old.me.0, []) }
+        ensures view { raw.new.me ≡ (after_pass raw.old.me.0, []) }
     {
         self.give(raw, story);
         self.pass(raw);
@@ -57,7 +57,7 @@ impl<S: Story> Lock<S> {
         requires mark { HasMark raw.old }
         requires entry { HasEntry S.list S.lane_of S.sound raw.old story }
         ensures same { IsSameRaw raw.old raw.new }
-        ensures view { raw.new.me ≡ (passing (counting raw.old.me.0 (S.list story)), []) }
+        ensures view { raw.new.me ≡ (after_pass (after_count raw.old.me.0 (S.list story)), []) }
     {
         self.give(raw, story);
         self.table.shared.fetch_add::<Count<S>>(raw, COUNT, 1);
@@ -93,7 +93,7 @@ impl<S: Story> Lock<S> {
         requires own { raw.old.table_id ≡ self.now.table.shared.table_id }
         requires slot { (story : S) × HasSlot raw.old (Some story) × (S.list story ≡ raw.old.me.0.seen) }
         ensures same { IsSameRaw raw.old raw.new }
-        ensures view { raw.new.me ≡ (passing raw.old.me.0, []) }
+        ensures view { raw.new.me ≡ (after_pass raw.old.me.0, []) }
     {
         self.table.shared.fetch_add::<Pass>(raw, SERVING, 1);
     }

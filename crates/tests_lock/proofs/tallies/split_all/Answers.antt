@@ -1,4 +1,4 @@
-use Rattle.std.proofs.Common.{◌≡◌, ◌+◌, ◌∙◌, List, All, length, sym, subst, rules, arith}
+use Rattle.std.proofs.Common.{◌≡◌, ◌+◌, ◌∙◌, All, length, sym, subst, rules}
 use Rattle.std.proofs.lemmas.List.Elements.{All-push}
 use Rattle.hub_lock.specs.Seats.{SeatState, IsSeatOf}
 use Rattle.hub_lock.specs.Calls.{InOrder}
