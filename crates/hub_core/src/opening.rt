@@ -5,9 +5,8 @@ ghost use Rattle.mos_text.specs.FileName.{is_file_name};
 ghost use Rattle.job_calls.specs.Legal.{CanOpen, IsMaster, HaveDistinctNames};
 ghost use Rattle.hub_core.specs.Hubs.{opened_with};
 
-use hub_words::{is_image, is_source};
 use job_calls::Listed;
-use mos_text::is_file_name;
+use mos_text::{is_file_name, is_image_name, is_source_name};
 
 /// The first of the files can be the master.
 fn is_master(files: &[Listed]) -> bool
@@ -16,7 +15,7 @@ fn is_master(files: &[Listed]) -> bool
 {
     match files {
         [] => false,
-        [file, ..] => (is_source(&file.name) || is_image(&file.name)) && file.code == 0,
+        [file, ..] => (is_source_name(&file.name) || is_image_name(&file.name)) && file.code == 0,
     }
 }
 

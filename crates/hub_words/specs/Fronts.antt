@@ -3,7 +3,8 @@ use Rattle.std.specs.Prelude.{◌≡◌, ℕ, Bool, ◌&&◌, List, Option, Some
 use Rattle.job_calls.specs.declared.entry.Listed.{Listed}
 use Rattle.job_calls.specs.Blocks.{Written}
 use Rattle.job_calls.specs.Events.{Event}
-use Rattle.job_calls.specs.Files.{is_source, is_data}
+use Rattle.mos_text.specs.FileName.{is_source_name}
+use Rattle.job_calls.specs.Files.{is_data}
 use Rattle.hub_words.specs.declared.events.Event as found
 
 -- an event: its place, class and value
@@ -17,4 +18,4 @@ IsWritten written place bytes = written ≡ Some record { place = place; bytes =
 -- the file has this name and is a source, or else a data file
 abbrev pub has_name : Bool → List ℕ → Listed → Bool
 has_name source name file =
-    bytes_eq file.name name && (if source then is_source file.name else is_data file.name)
+    bytes_eq file.name name && (if source then is_source_name file.name else is_data file.name)

@@ -6,7 +6,7 @@ ghost use Rattle.hub_words.specs.Fronts.{has_name};
 ghost use Rattle.job_calls.specs.Runs.{Opening, opening_of};
 
 use job_calls::{Call, Entry, Listed};
-use mos_text::{SharedBlob, Text};
+use mos_text::{SharedBlob, Text, is_image_name, is_source_name};
 
 fn opened_files(call: &Call) -> &[Listed]
     ensures { result.now ≡ option_map_or (λ (o : Opening). o.files) (opening_of call.now) [] }
@@ -45,32 +45,10 @@ pub(crate) fn lanes_of(journal: &[Entry]) -> u32
     }
 }
 
-/// The name ends in these bytes.
-fn has_ending(ending: &[u8], name: &Text) -> bool
-    ensures { result ≡ listing.has_ending ending.now name.now }
-{
-    let bytes = name.as_bytes();
-    &bytes[bytes.len().saturating_sub(ending.len())..] == ending
-}
-
-/// The name is a source's.
-pub fn is_source(name: &Text) -> bool
-    ensures { result ≡ listing.is_source name.now }
-{
-    has_ending(b".mos", name)
-}
-
-/// The name is an image's.
-pub fn is_image(name: &Text) -> bool
-    ensures { result ≡ listing.is_image name.now }
-{
-    has_ending(b".bim", name)
-}
-
 fn is_data(name: &Text) -> bool
     ensures { result ≡ listing.is_data name.now }
 {
-    !is_source(name) && !is_image(name)
+    !is_source_name(name) && !is_image_name(name)
 }
 
 /// The listed file of this name, if it is a source, or if it is a data file.
@@ -80,7 +58,7 @@ fn listed<'a>(source: bool, name: &Text, files: &'a [Listed]) -> Option<&'a List
     files.iter().find(|file| {
         file.name.as_bytes() == name.as_bytes()
             && if source {
-                is_source(&file.name)
+                is_source_name(&file.name)
             } else {
                 is_data(&file.name)
             }

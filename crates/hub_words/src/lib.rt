@@ -18,5 +18,4 @@ mod weights;
 mod words;
 
 pub use events::{Event, exit_code};
-pub use files::{is_image, is_source};
 pub use lookups::Lookups;
