@@ -1,5 +1,5 @@
 //! Laws of sources, as contracts of calls that do nothing.
-ghost use Rattle.mos_source.specs.Laws.{HaveOneTree, HaveOneFault, HaveNotBoth, HaveOneOfBoth, TreesHaveTheirTexts};
+ghost use Rattle.mos_source.specs.Laws.{HaveOneTree, HaveOneFault, HaveNotBoth, HaveOneOfBoth};
 ghost use Rattle.mos_source.specs.Laws.{ProductionsReadOneWay, ProductionsTakeSources, ProductionsTakeNothingElse};
 ghost use Rattle.mos_source.specs.Laws.{AlternativesDiffer, ProductionsBreak, ProductionsBreakThere};
 
@@ -9,11 +9,6 @@ pub fn pieces_are_read_one_way()
     ensures one_fault { HaveOneFault }
     ensures not_both { HaveNotBoth }
     ensures one_of_both { HaveOneOfBoth }
-{}
-
-/// The names and texts of a tree are those of the pieces that spell it, in order.
-pub fn sources_have_their_texts()
-    ensures { TreesHaveTheirTexts }
 {}
 
 /// The productions of the grammar, each read with the number of blocks that are open, take the sources

@@ -6,17 +6,16 @@
 #![tactic(auto)]
 
 mod closing;
-mod discard;
+mod continuing;
 mod fault;
 mod frame;
+mod growing;
 mod laws;
 mod machine;
+mod opening;
 mod place;
 mod reader;
 
 pub use fault::PieceFault;
-pub use laws::{pieces_are_read_one_way, pieces_break_by_productions, sources_have_their_texts};
+pub use laws::{pieces_are_read_one_way, pieces_break_by_productions};
 pub use reader::source;
-
-#[cfg(test)]
-mod tests;
