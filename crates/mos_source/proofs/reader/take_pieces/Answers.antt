@@ -11,12 +11,12 @@ loop-piece-init c = refl
 pub loop-piece-preserved : goal.loop-piece-preserved
 loop-piece-preserved c =
     let turn = YieldsList-turn (YieldsList-from_vec {s = c.into_iter-piece-iterator.result} c.args.pieces.items (search rules) (search rules)) c.loop-piece.yielded c.loop-piece.piece-iterator c.loop-piece.yielded_by c.next.result c.next.new.self c.in-Some.piece c.in-Some.is c.next.ensures.steps in
-    run-next c.args.pieces.items c.loop-piece.yielded c.in-Some.piece (spec.stack_of c.loop-piece.stack.items) _ _ turn.0 turn.1 c.take_piece.ensures c.loop-piece.invariant
+    run-next c.args.pieces.items c.loop-piece.yielded c.in-Some.piece (spec.stack_of c.loop-piece.stack.items) (spec.stack_of c.take_piece.new.stack.items) _ turn.0 turn.1 c.in-Ok.ensures c.loop-piece.invariant
 
 pub returns-in-Err : goal.returns-in-Err
 returns-in-Err c =
     let turn = YieldsList-turn (YieldsList-from_vec {s = c.into_iter-piece-iterator.result} c.args.pieces.items (search rules) (search rules)) c.loop-piece.yielded c.loop-piece.piece-iterator c.loop-piece.yielded_by c.next.result c.next.new.self c.in-Some.piece c.in-Some.is c.next.ensures.steps in
-    run-wrong-next c.args.pieces.items c.loop-piece.yielded c.in-Some.piece (spec.stack_of c.loop-piece.stack.items) (spec.stack_of c.args.stack.now.items) _ c.in-Err.fault turn.0 turn.1 c.in-Err.ensures c.loop-piece.invariant
+    run-wrong-next c.args.pieces.items c.loop-piece.yielded c.in-Some.piece (spec.stack_of c.loop-piece.stack.items) _ (spec.stack_of c.take_piece.new.stack.items) c.in-Err.fault turn.0 turn.1 c.in-Err.ensures c.loop-piece.invariant
 
 pub returns : goal.returns
 returns c =
