@@ -1,13 +1,12 @@
 -- A run of the reader, piece by piece.
 
-use Rattle.std.proofs.Common.{◌≡◌, ℕ, ◌+◌, ◌<◌, List, [], ◌∷◌, ◌++◌, length, drop, get_or, Result, Ok, Err, Some, refl, sym, ◌∙◌, ap, subst, arith}
+use Rattle.std.proofs.Common.{◌≡◌, ℕ, ◌+◌, ◌<◌, List, [], ◌∷◌, ◌++◌, length, drop, get_or, Ok, Err, sym, ◌∙◌, ap, arith}
 use Rattle.std.proofs.lemmas.List.{at_drop_more, at_drop_all, length_push}
-use Rattle.mos_text.specs.declared.kind.Kind.{Kind}
 use Rattle.mos_tree.specs.declared.form.PieceForm.{PieceForm}
 use Rattle.mos_source.specs.declared.fault.PieceFault.{PieceFault}
 use Rattle.mos_source.specs.declared.fault.PieceFault.TheVariants as fault
 use Rattle.mos_source.specs.Sources.{limit}
-use Rattle.mos_source.specs.Machine.{Stack, step, Outcome, stopped, finished_tree, at_end, run, TakesOne, TakesAll}
+use Rattle.mos_source.specs.Machine.{Stack, step, Outcome, finished_tree, at_end, run, TakesOne, TakesAll}
 use Rattle.mos_source.proofs.Steps.{run-step}
 use Rattle.mos_source.proofs.Whole.{run-wrong}
 

@@ -7,9 +7,6 @@ use Rattle.mos_tree.specs.declared.declaration.BaseType.{BaseType}
 use Rattle.mos_tree.specs.declared.declaration.Parameter.{Parameter}
 use Rattle.mos_tree.specs.declared.declaration.FieldGroup.{FieldGroup}
 use Rattle.mos_tree.specs.declared.declaration.Item.TheVariants as i
-use Rattle.mos_tree.specs.declared.statement.Statement.{Statement}
-use Rattle.mos_tree.specs.declared.source.Head.{Head}
-use Rattle.mos_tree.specs.declared.source.Head.TheVariants as h
 use Rattle.mos_tree.specs.declared.source.RoutinePart.TheVariants as r
 use Rattle.mos_tree.specs.declared.source.Top.TheVariants as t
 use Rattle.mos_tree.specs.declared.form.Form.{Form}
@@ -23,7 +20,7 @@ use Rattle.mos_tree.specs.declared.form.Simple.TheVariants as simple
 use Rattle.mos_tree.specs.Forms.{piece}
 use Rattle.mos_tree.specs.Nodes.{nodes}
 use Rattle.mos_tree.specs.Sizes.{size_of_field, size_of_parameter, size_of_item, size_of_declared, size_of_statement, size_of_part, size_of_top, size_of_tree, size_of_simple, size_of_keyword, size_of_form, size_of_pieces}
-use Rattle.mos_source.specs.Statements.{Rows, Written, single, bare, if_, case_, forall_, while_, repeat_, do_, initializations, Block, nothing, then_one, Arms, no_arm, arm, Last, without, otherwise, Alternatives, no_alternative, alternative, arm_form, spell_rows, spell, spell_block, spell_arms, spell_last, spell_alternatives, statement_of, label_groups, first_line, arm_of, alternative_of, tree, trees, trees_of_arms, trees_of_last, trees_of_alternatives}
+use Rattle.mos_source.specs.Statements.{Written, single, bare, if_, case_, forall_, while_, repeat_, do_, initializations, Block, nothing, then_one, Arms, no_arm, arm, Last, without, otherwise, Alternatives, no_alternative, alternative, arm_form, spell_rows, spell, spell_block, spell_arms, spell_last, spell_alternatives, statement_of, label_groups, first_line, arm_of, alternative_of, tree, trees, trees_of_arms, trees_of_last, trees_of_alternatives}
 use Rattle.mos_source.specs.Sources.{Items, no_item, constant, variables, record_type, Parts, no_part, declares, states, Tops, no_top, sets, declares_top, defines, announces, states_top, Source, spell_parameter, spell_field, spell_items, spell_declarations, spell_parts, heading_form, end_form, spell_tops, spell_head, spell_source, items_of, declared, parts_of, tops_of, tree_of}
 use Rattle.mos_source.proofs.Sums.{sum-cons, sum-append, sum-push}
 use Rattle.mos_source.proofs.StatementSizes as form

@@ -152,7 +152,12 @@ fn add(alloc: Global, stack: &mut Vec<Frame>, part: Option<Part>) -> Result<bool
     }
 }
 
-fn continue_block(alloc: Global, stack: &mut Vec<Frame>, line: u32, form: Form) -> Result<bool, NoMemory>
+fn continue_block(
+    alloc: Global,
+    stack: &mut Vec<Frame>,
+    line: u32,
+    form: Form,
+) -> Result<bool, NoMemory>
     ensures { IfOk result (λ done. spec.continue_block line form (spec.stack_of stack.old.items) ≡ spec.kept_stack done (spec.stack_of stack.new.items)) }
 {
     match pop(stack) {

@@ -4,9 +4,7 @@ ghost use Rattle.mos_source.specs.Machine as spec;
 
 use crate::frame::{Frame, Part};
 use mos_text::let_go;
-use mos_tree::{
-    ConditionKeyword, Expr, Form, Heading, Keyword, Simple, Statement, Top,
-};
+use mos_tree::{ConditionKeyword, Expr, Form, Heading, Keyword, Simple, Statement, Top};
 use sqlite_items::Items;
 use std::alloc::Global;
 

@@ -80,9 +80,10 @@ fn top_role(kind: PieceKind) -> Option<Role>
     ensures { result ≡ spec.top_role kind }
 {
     match kind {
-        PieceKind::Parameters | PieceKind::Declarations | PieceKind::Procedure | PieceKind::Function => {
-            Some(Role::Opens)
-        }
+        PieceKind::Parameters
+        | PieceKind::Declarations
+        | PieceKind::Procedure
+        | PieceKind::Function => { Some(Role::Opens) }
         PieceKind::Forward => Some(Role::StandsAlone),
         PieceKind::EndModel => Some(Role::Closes),
         _ => None,

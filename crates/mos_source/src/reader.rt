@@ -14,11 +14,7 @@ use mos_tree::{PieceForm, Tree};
 use std::alloc::Global;
 
 /// Takes one piece, or says what is wrong with it.
-fn take_piece(
-    alloc: Global,
-    stack: &mut Vec<Frame>,
-    piece: PieceForm,
-) -> Result<(), PieceFault>
+fn take_piece(alloc: Global, stack: &mut Vec<Frame>, piece: PieceForm) -> Result<(), PieceFault>
     ensures { spec.TakesOne (spec.stack_of stack.old.items) piece (spec.stack_of stack.new.items) result }
 {
     let line = piece.line;

@@ -1,4 +1,4 @@
-use Rattle.std.proofs.Common.{rules, refl, length, sym, ◌∙◌}
+use Rattle.std.proofs.Common.{rules, refl}
 use Rattle.std.proofs.lemmas.Iterator.Adapters.{YieldsList-from_vec}
 use Rattle.std.proofs.lemmas.Iterator.Consumers.{YieldsList-turn, YieldsList-end}
 use Rattle.mos_source.specs.Machine as spec
