@@ -7,6 +7,7 @@
 mod blob;
 mod dir_folder;
 mod entries;
+mod failing_calls;
 mod fault_kind;
 mod file_name;
 mod folder;
@@ -16,7 +17,6 @@ mod limits;
 mod mem_folder;
 mod mem_sink;
 mod no_memory;
-mod numbered;
 mod out_sink;
 mod place;
 mod scalar;

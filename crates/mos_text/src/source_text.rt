@@ -6,8 +6,8 @@ use crate::{NoMemory, Text};
 use std::alloc::Global;
 use std::marker::Model;
 
-/// A name or a text of a source: at most 1,048,576 bytes, as a source has at most so many. A contract
-/// sees the list of its bytes, as that of a text.
+/// A name or a text of a source: at most 1,048,576 bytes, as a source has at most so many. A
+/// contract sees the list of its bytes, as that of a text.
 #[derive(Debug, Drop)]
 pub struct SourceText {
     text: Text,

@@ -1,5 +1,5 @@
-//! The tree of a source: what is written, form by form, without the brackets that only group; and what
-//! one piece of a source is, from which the tree is put together.
+//! The tree of a source: what is written, form by form, without the brackets that only group; and
+//! what one piece of a source is, from which the tree is put together.
 //!
 //! Each alternative of the grammar is a variant with its parts in order. Operators of one shape are
 //! one variant with an enum that names the operator. Each statement, heading and item has the line

@@ -16,7 +16,7 @@ pub use fault::ReadFault;
 use mos_check::{check, not_built};
 use mos_parse::parse;
 use mos_text::NoMemory;
-use mos_tree::{Tree, Verdict};
+use mos_tree::{Refusal, Tree};
 use size::is_in_size;
 use std::alloc::Global;
 
@@ -61,7 +61,7 @@ fn refuse_unbuilt(alloc: Global, tree: &Tree) -> Result<(), ReadFault>
     ensures wrong { IfErr result (IsJudged tree.now) }
 {
     match not_built(alloc, tree)? {
-        Some(verdict) => Err(fault_of(verdict)),
+        Some(refusal) => Err(fault_of(refusal)),
         None => Ok(()),
     }
 }
@@ -75,12 +75,12 @@ fn refuse_unchecked(alloc: Global, tree: &Tree) -> Result<(), ReadFault>
     Ok(())
 }
 
-fn fault_of(verdict: Verdict) -> ReadFault
-    ensures { result ≡ At verdict.line verdict.kind }
+fn fault_of(refusal: Refusal) -> ReadFault
+    ensures { result ≡ At refusal.line refusal.kind }
 {
     ReadFault::At {
-        line: verdict.line,
-        kind: verdict.kind,
+        line: refusal.line,
+        kind: refusal.kind,
     }
 }
 

@@ -29,7 +29,10 @@ impl From<SyntaxFault> for ReadFault {
 
     fn from(found: SyntaxFault) -> ReadFault {
         match found {
-            SyntaxFault::At { line, kind } => ReadFault::At { line, kind },
+            SyntaxFault::Refused(refusal) => ReadFault::At {
+                line: refusal.line,
+                kind: refusal.kind,
+            },
             SyntaxFault::NoMemory => ReadFault::NoMemory,
         }
     }
@@ -43,7 +46,10 @@ impl From<CheckFault> for ReadFault {
 
     fn from(found: CheckFault) -> ReadFault {
         match found {
-            CheckFault::At { line, kind } => ReadFault::At { line, kind },
+            CheckFault::Refused(refusal) => ReadFault::At {
+                line: refusal.line,
+                kind: refusal.kind,
+            },
             CheckFault::NoMemory => ReadFault::NoMemory,
         }
     }
