@@ -380,7 +380,8 @@ fn case_else_with(
     body: Items<Statement>,
     statement: Statement,
 ) -> Result<Option<Frame>, NoMemory>
-    ensures { IfOk result (λ frame. frame ≡ spec.case_else_with line value alternatives body statement) }
+    ensures { IfOk result (λ frame. frame
+        ≡ spec.case_else_with line value alternatives body statement) }
 {
     match one_more(body, statement) {
         Ok(body) => Ok(Some(Frame::CaseElse {

@@ -239,7 +239,8 @@ fn another_arm(
     arms: Items<Arm<Statement>>,
     last: Arm<Statement>,
 ) -> Result<Option<Frame>, NoMemory>
-    ensures { IfOk result (λ frame. frame ≡ spec.next_arm line (Form.Guarded word condition) first arms last) }
+    ensures { IfOk result (λ frame. frame
+        ≡ spec.next_arm line (Form.Guarded word condition) first arms last) }
 {
     if is_elif(word) {
         elif_arm(alloc, line, condition, first, arms, last)
@@ -260,7 +261,8 @@ fn else_arm(
     arms: Items<Arm<Statement>>,
     last: Arm<Statement>,
 ) -> Result<Option<Frame>, NoMemory>
-    ensures { IfOk result (λ frame. frame ≡ spec.next_arm line (Form.Keyword word) first arms last) }
+    ensures { IfOk result (λ frame. frame
+        ≡ spec.next_arm line (Form.Keyword word) first arms last) }
 {
     if is_else(word) {
         Ok(Some(Frame::IfElse {

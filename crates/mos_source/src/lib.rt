@@ -1,8 +1,8 @@
 //! Statements and sources: the tree of the pieces that spell one.
 //!
 //! What one piece is stands in a `Form`. A source is a list of such pieces; blocks stand in one
-//! another at most 100 deep, the model not counted. Pieces without a tree have a faulty piece, behind
-//! the longest run of pieces with which some source begins.
+//! another at most 100 deep, the model not counted. Pieces without a tree have a faulty piece,
+//! behind the longest run of pieces with which some source begins.
 #![tactic(auto)]
 
 mod closing;

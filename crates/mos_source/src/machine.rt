@@ -1,8 +1,8 @@
 //! The reader of pieces: a stack of the blocks that are open.
-ghost use Rattle.std.specs.Prelude.{◌≡◌, [], ◌∷◌, ◌<◌, ◌≤◌, length, reverse, true, IfOk, OnOk, MatchOption, Some, None};
+ghost use Rattle.std.specs.Prelude.{◌≡◌, [], ◌∷◌, ◌<◌, length, true, IfOk, OnOk, MatchOption};
 ghost use Rattle.mos_source.specs.Machine as spec;
 ghost use Rattle.mos_source.specs.Limits as limits;
-ghost use Rattle.mos_source.specs.Sources.{limit, jobs_module, no_implicit};
+ghost use Rattle.mos_source.specs.Sources.{limit};
 
 use crate::closing::{closed_by, is_loop, loop_with_body, with_part, with_statement};
 use crate::continuing::continued_by;
@@ -23,14 +23,17 @@ fn push(stack: &mut Vec<Frame>, frame: Frame) -> Result<(), NoMemory>
 
 /// Takes off the innermost block.
 fn pop(stack: &mut Vec<Frame>) -> Option<Frame>
-    ensures { MatchOption result ((spec.stack_of stack.old.items ≡ []) × (spec.stack_of stack.new.items ≡ [])) (λ frame. spec.stack_of stack.old.items ≡ frame ∷ spec.stack_of stack.new.items) }
+    ensures { MatchOption result
+        ((spec.stack_of stack.old.items ≡ []) × (spec.stack_of stack.new.items ≡ []))
+        (λ frame. spec.stack_of stack.old.items ≡ frame ∷ spec.stack_of stack.new.items) }
 {
     stack.pop()
 }
 
 /// Opens the block, if there is one.
 fn push_frame(stack: &mut Vec<Frame>, frame: Option<Frame>) -> Result<bool, NoMemory>
-    ensures { IfOk result (λ done. spec.push_frame frame (spec.stack_of stack.old.items) ≡ spec.kept_stack done (spec.stack_of stack.new.items)) }
+    ensures { IfOk result (λ done. spec.push_frame frame (spec.stack_of stack.old.items)
+        ≡ spec.kept_stack done (spec.stack_of stack.new.items)) }
 {
     match frame {
         Some(frame) => {
@@ -41,6 +44,7 @@ fn push_frame(stack: &mut Vec<Frame>, frame: Option<Frame>) -> Result<bool, NoMe
     }
 }
 
+/// Whether one statement ends the innermost block.
 fn top_is_loop(stack: &[Frame]) -> bool
     ensures { result ≡ spec.top_is_loop (spec.stack_of stack.now) }
 {
@@ -56,7 +60,8 @@ fn give_statement(
     stack: &mut Vec<Frame>,
     statement: Statement,
 ) -> Result<bool, NoMemory>
-    ensures { IfOk result (λ done. spec.give_statement statement (spec.stack_of stack.old.items) ≡ spec.kept_stack done (spec.stack_of stack.new.items)) }
+    ensures { IfOk result (λ done. spec.give_statement statement (spec.stack_of stack.old.items)
+        ≡ spec.kept_stack done (spec.stack_of stack.new.items)) }
 {
     match pop(stack) {
         Some(frame) => {
@@ -77,8 +82,11 @@ fn end_loop(
     statement: Statement,
 ) -> Result<Option<Statement>, NoMemory>
     requires { spec.top_is_loop (spec.stack_of stack.old.items) ≡ true }
-    ensures value { IfOk result (λ outer. spec.add_statement statement (spec.stack_of stack.old.items) ≡ spec.add_next outer (spec.stack_of stack.new.items)) }
-    ensures lower { length (spec.stack_of stack.new.items) < length (spec.stack_of stack.old.items) }
+    ensures value { IfOk result (λ outer.
+        spec.add_statement statement (spec.stack_of stack.old.items)
+        ≡ spec.add_next outer (spec.stack_of stack.new.items)) }
+    ensures lower { length (spec.stack_of stack.new.items)
+        < length (spec.stack_of stack.old.items) }
 {
     match pop(stack) {
         Some(frame) => loop_with_body(alloc, frame, statement),
@@ -95,7 +103,8 @@ fn add_statement(
     stack: &mut Vec<Frame>,
     statement: Statement,
 ) -> Result<bool, NoMemory>
-    ensures { IfOk result (λ done. spec.add_statement statement (spec.stack_of stack.old.items) ≡ spec.kept_stack done (spec.stack_of stack.new.items)) }
+    ensures { IfOk result (λ done. spec.add_statement statement (spec.stack_of stack.old.items)
+        ≡ spec.kept_stack done (spec.stack_of stack.new.items)) }
 {
     let mut statement = statement;
     while top_is_loop(stack) {
@@ -109,7 +118,8 @@ fn add_statement(
 
 /// Ends the source.
 fn end(stack: &mut Vec<Frame>, tree: Tree) -> Result<bool, NoMemory>
-    ensures { IfOk result (λ done. spec.end tree (spec.stack_of stack.old.items) ≡ spec.kept_stack done (spec.stack_of stack.new.items)) }
+    ensures { IfOk result (λ done. spec.end tree (spec.stack_of stack.old.items)
+        ≡ spec.kept_stack done (spec.stack_of stack.new.items)) }
 {
     match pop(stack) {
         None => {
@@ -126,7 +136,8 @@ fn end(stack: &mut Vec<Frame>, tree: Tree) -> Result<bool, NoMemory>
 
 /// Gives a part that is no statement to the innermost block.
 fn add_other(alloc: Global, stack: &mut Vec<Frame>, part: Part) -> Result<bool, NoMemory>
-    ensures { IfOk result (λ done. spec.add_other part (spec.stack_of stack.old.items) ≡ spec.kept_stack done (spec.stack_of stack.new.items)) }
+    ensures { IfOk result (λ done. spec.add_other part (spec.stack_of stack.old.items)
+        ≡ spec.kept_stack done (spec.stack_of stack.new.items)) }
 {
     match pop(stack) {
         Some(frame) => {
@@ -142,7 +153,8 @@ fn add_other(alloc: Global, stack: &mut Vec<Frame>, part: Part) -> Result<bool, 
 
 /// Gives the part, if there is one, to the innermost block.
 fn add(alloc: Global, stack: &mut Vec<Frame>, part: Option<Part>) -> Result<bool, NoMemory>
-    ensures { IfOk result (λ done. spec.add part (spec.stack_of stack.old.items) ≡ spec.kept_stack done (spec.stack_of stack.new.items)) }
+    ensures { IfOk result (λ done. spec.add part (spec.stack_of stack.old.items)
+        ≡ spec.kept_stack done (spec.stack_of stack.new.items)) }
 {
     match part {
         None => Ok(false),
@@ -158,7 +170,8 @@ fn continue_block(
     line: u32,
     form: Form,
 ) -> Result<bool, NoMemory>
-    ensures { IfOk result (λ done. spec.continue_block line form (spec.stack_of stack.old.items) ≡ spec.kept_stack done (spec.stack_of stack.new.items)) }
+    ensures { IfOk result (λ done. spec.continue_block line form (spec.stack_of stack.old.items)
+        ≡ spec.kept_stack done (spec.stack_of stack.new.items)) }
 {
     match pop(stack) {
         Some(frame) => {
@@ -173,7 +186,8 @@ fn continue_block(
 }
 
 fn close(alloc: Global, stack: &mut Vec<Frame>, line: u32, form: Form) -> Result<bool, NoMemory>
-    ensures { IfOk result (λ done. spec.close line form (spec.stack_of stack.old.items) ≡ spec.kept_stack done (spec.stack_of stack.new.items)) }
+    ensures { IfOk result (λ done. spec.close line form (spec.stack_of stack.old.items)
+        ≡ spec.kept_stack done (spec.stack_of stack.new.items)) }
 {
     match pop(stack) {
         Some(frame) => {
@@ -195,7 +209,8 @@ fn enter(
     line: u32,
     form: Form,
 ) -> Result<bool, NoMemory>
-    ensures { IfOk result (λ done. spec.enter role line form (spec.stack_of stack.old.items) ≡ spec.kept_stack done (spec.stack_of stack.new.items)) }
+    ensures { IfOk result (λ done. spec.enter role line form (spec.stack_of stack.old.items)
+        ≡ spec.kept_stack done (spec.stack_of stack.new.items)) }
 {
     match role {
         Role::Opens => {
@@ -286,7 +301,9 @@ fn take(
     line: u32,
     form: Form,
 ) -> Result<Option<Kind>, NoMemory>
-    ensures { IfOk result (λ wrong. spec.or_syntax (spec.enter role line form (spec.stack_of stack.old.items)) ≡ spec.outcome wrong (spec.stack_of stack.new.items)) }
+    ensures { IfOk result (λ wrong.
+        spec.or_syntax (spec.enter role line form (spec.stack_of stack.old.items))
+        ≡ spec.outcome wrong (spec.stack_of stack.new.items)) }
 {
     if enter(alloc, stack, role, line, form)? {
         Ok(None)
@@ -304,7 +321,9 @@ fn take_unless(
     line: u32,
     form: Form,
 ) -> Result<Option<Kind>, NoMemory>
-    ensures { IfOk result (λ wrong. spec.unless found (spec.enter role line form (spec.stack_of stack.old.items)) ≡ spec.outcome wrong (spec.stack_of stack.new.items)) }
+    ensures { IfOk result (λ wrong.
+        spec.unless found (spec.enter role line form (spec.stack_of stack.old.items))
+        ≡ spec.outcome wrong (spec.stack_of stack.new.items)) }
 {
     match found {
         Some(kind) => {
@@ -324,7 +343,9 @@ fn step_as(
     line: u32,
     form: Form,
 ) -> Result<Option<Kind>, NoMemory>
-    ensures { IfOk result (λ wrong. spec.step_as limit role line form (spec.stack_of stack.old.items) ≡ spec.outcome wrong (spec.stack_of stack.new.items)) }
+    ensures { IfOk result (λ wrong.
+        spec.step_as limit role line form (spec.stack_of stack.old.items)
+        ≡ spec.outcome wrong (spec.stack_of stack.new.items)) }
 {
     match broken(alloc, role, stack.len(), &form) {
         Ok(kind) => take_unless(alloc, stack, kind, role, line, form),
@@ -342,7 +363,8 @@ pub(crate) fn step(
     stack: &mut Vec<Frame>,
     piece: PieceForm,
 ) -> Result<Option<Kind>, NoMemory>
-    ensures { IfOk result (λ wrong. spec.step limit (spec.stack_of stack.old.items) piece ≡ spec.outcome wrong (spec.stack_of stack.new.items)) }
+    ensures { IfOk result (λ wrong. spec.step limit (spec.stack_of stack.old.items) piece
+        ≡ spec.outcome wrong (spec.stack_of stack.new.items)) }
 {
     let PieceForm { line, form } = piece;
     match role_at(place_of(stack), piece_kind_of(&form)) {

@@ -15,7 +15,8 @@ use std::alloc::Global;
 
 /// Takes one piece, or says what is wrong with it.
 fn take_piece(alloc: Global, stack: &mut Vec<Frame>, piece: PieceForm) -> Result<(), PieceFault>
-    ensures { spec.TakesOne (spec.stack_of stack.old.items) piece (spec.stack_of stack.new.items) result }
+    ensures { spec.TakesOne (spec.stack_of stack.old.items) piece
+        (spec.stack_of stack.new.items) result }
 {
     let line = piece.line;
     match step(alloc, stack, piece) {
@@ -34,7 +35,8 @@ fn take_pieces(
     stack: &mut Vec<Frame>,
     pieces: Vec<PieceForm>,
 ) -> Result<(), PieceFault>
-    ensures { spec.TakesAll (spec.stack_of stack.old.items) pieces.items (spec.stack_of stack.new.items) result }
+    ensures { spec.TakesAll (spec.stack_of stack.old.items) pieces.items
+        (spec.stack_of stack.new.items) result }
 {
     for piece in pieces {
         match take_piece(alloc, stack, piece) {
@@ -62,8 +64,8 @@ fn read(alloc: Global, pieces: Vec<PieceForm>) -> Result<Tree, PieceFault>
     }
 }
 
-/// The tree of the source that these pieces spell; or the line of the faulty piece, behind the longest
-/// run of pieces with which some source begins, and the kind of its fault.
+/// The tree of the source that these pieces spell; or the line of the faulty piece, behind the
+/// longest run of pieces with which some source begins, and the kind of its fault.
 pub fn source(alloc: Global, pieces: Vec<PieceForm>) -> Result<Tree, PieceFault>
     ensures found { IfOk result (IsTree pieces.items) }
     ensures only { (x : Source) → IsSource pieces.items x → Gives result (tree_of x) }
