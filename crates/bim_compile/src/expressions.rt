@@ -31,8 +31,8 @@ pub(crate) fn emit_expression(
     match written {
         Expr::Integer(number) => draft.put(Instruction::PushInt(*number)),
         Expr::Truth(truth) => draft.put(Instruction::PushBool(*truth)),
-        Expr::Text(text) => emit_text(alloc, draft, text),
-        Expr::Name(name) => draft.put(Instruction::LoadGlobal(names.place(name) as u32)),
+        Expr::Text(text) => emit_text(alloc, draft, text.text()),
+        Expr::Name(name) => draft.put(Instruction::LoadGlobal(names.place(name.text()) as u32)),
         Expr::Binary(operator, left, right) => {
             emit_expression(alloc, draft, names, left.get())?;
             emit_expression(alloc, draft, names, right.get())?;

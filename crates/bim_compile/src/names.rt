@@ -35,7 +35,7 @@ fn note_statement<'a>(names: &mut Names<'a>, statement: &'a Statement) -> Result
             target: Reference::Name(name),
             operator: Assignment::Set,
             ..
-        } => names.note(name),
+        } => names.note(name.text()),
         Statement::If {
             arms,
             otherwise,

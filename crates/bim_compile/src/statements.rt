@@ -315,7 +315,7 @@ fn emit_assignment(
     let Reference::Name(name) = target else {
         unreachable!()
     };
-    let slot = names.place(name) as u32;
+    let slot = names.place(name.text()) as u32;
     draft.put(Instruction::Tick)?;
     emit_expression(alloc, draft, names, value)?;
     match operator {

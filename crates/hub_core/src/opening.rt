@@ -5,8 +5,7 @@ ghost use Rattle.mos_text.specs.FileName.{is_file_name};
 ghost use Rattle.job_calls.specs.Legal.{CanOpen, IsMaster, HaveDistinctNames};
 ghost use Rattle.job_calls.specs.Runs.{Opening};
 
-use crate::files::{is_image, is_source};
-use crate::words::same;
+use hub_words::{is_image, is_source};
 use job_calls::Listed;
 use mos_text::is_file_name;
 
@@ -30,7 +29,7 @@ fn have_file_names(files: &[Listed]) -> bool
 fn is_among(name: &Listed, files: &[Listed]) -> bool
     ensures { result ≡ list_any (λ file. bytes_eq file.name name.now.name) files.now }
 {
-    files.iter().any(|file| same(&file.name, &name.name))
+    files.iter().any(|file| file.name.as_bytes() == name.name.as_bytes())
 }
 
 fn are_distinct(files: &[Listed]) -> bool

@@ -1,5 +1,5 @@
-//! What is asked of a source beyond its grammar: that each of its pieces is of a form that can be run
-//! today, that each name has a value before it is used, and that `break` and `next` stand in loops.
+//! What is asked of a source beyond its grammar: that each of its pieces is of a form that can be run,
+//! that each name has a value before it is used, and that `break` and `next` stand in loops.
 #![tactic(auto)]
 
 mod built;
@@ -10,6 +10,3 @@ mod unknown;
 pub use built::not_built;
 pub use form::{Form, form_of};
 pub use names::{CheckFault, check};
-
-#[cfg(test)]
-mod tests;

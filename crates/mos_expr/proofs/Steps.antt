@@ -10,7 +10,7 @@ use Rattle.mos_scan.specs.declared.token.TokenKind.{TokenKind}
 use Rattle.mos_scan.specs.declared.token.TokenKind.TheVariants as t
 use Rattle.mos_scan.specs.declared.reading.Word.{Word}
 use Rattle.mos_scan.specs.declared.reading.Word.TheVariants as w
-use Rattle.mos_expr.specs.Grammar.{Syntax, leaf, call, call_field, set, list, bracket, choice, convert, before, between, aggregate, counted, Over, level, level_before, level_body, binds, left_of, right_of, takes, height_over, spell_between, index_of}
+use Rattle.mos_expr.specs.Grammar.{Syntax, leaf, call, call_field, set, list, bracket, if_expr, convert, before, between, aggregate, counted, Over, level, level_before, level_body, binds, left_of, right_of, takes, height_over, spell_between, index_of}
 use Rattle.mos_expr.specs.Machine.{State, Settled, and_then, folds, room, fold, folded, stays, settled, placed, by_operator, at_frame, mode_behind, operator_of, after_key}
 use Rattle.mos_expr.specs.Reader.{step, read}
 use Rattle.mos_expr.specs.Operands as o
@@ -80,7 +80,7 @@ level-9 (call_field n xs f) = omega arith
 level-9 (set xs) = omega arith
 level-9 (list xs) = omega arith
 level-9 (bracket s) = omega arith
-level-9 (choice x y z) = omega arith
+level-9 (if_expr x y z) = omega arith
 level-9 (convert c s) = omega arith
 level-9 (aggregate g i s) = omega arith
 level-9 (counted i) = omega arith

@@ -1,4 +1,3 @@
-pub mod Both
 pub mod Bracketed
 pub mod Exactly
 pub mod Keyed
@@ -6,7 +5,8 @@ pub mod Listing
 pub mod Named
 pub mod Opening
 pub mod Parting
+pub mod Reads
 pub mod Routines
+pub mod Sizes
 pub mod Telling
-pub mod Texts
 pub mod Whole

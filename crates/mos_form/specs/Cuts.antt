@@ -1,4 +1,4 @@
--- Where the words of a piece part.
+-- As the code reads, apart from what the public clauses say: where the words of a piece part.
 
 use Rattle.std.specs.Prelude.{Bool, true, false, List, [], ◌∷◌, Option, Some, None}
 use Rattle.mos_tree.specs.declared.statement.Assignment.{Assignment}

@@ -10,7 +10,7 @@ ghost use Rattle.mos_typing.specs.Words as plain;
 ghost use Rattle.mos_form.specs.Cuts as spec;
 
 use mos_scan::{TokenKind, Word};
-use mos_text::Text;
+use mos_text::SourceText;
 use mos_tree::{Assignment, Direction};
 
 /// The first word, and the others.
@@ -59,7 +59,7 @@ pub(crate) fn enclosed(words: &[Word], opens: TokenKind, closes: TokenKind) -> O
 }
 
 /// The name that the word is.
-fn name_of(word: &Word) -> Option<&Text>
+fn name_of(word: &Word) -> Option<&SourceText>
     ensures { MatchOption result ((name : List ℕ) → word.now ≡ w.Name name → ⊥) (λ name. word.now ≡ w.Name name.now) }
 {
     match word {
@@ -69,7 +69,7 @@ fn name_of(word: &Word) -> Option<&Text>
 }
 
 /// The first word, where it is a name, and the others.
-pub(crate) fn first_name(words: &[Word]) -> Option<(&Text, &[Word])>
+pub(crate) fn first_name(words: &[Word]) -> Option<(&SourceText, &[Word])>
     ensures { MatchOption result ((name : List ℕ) (rest : List word_type) → words.now ≡ w.Name name ∷ rest → ⊥) (λ p. words.now ≡ w.Name p.0.now ∷ p.1.now) }
 {
     match first(words) {
@@ -89,7 +89,7 @@ pub(crate) fn first_key(words: &[Word]) -> Option<(TokenKind, &[Word])>
 }
 
 /// A part that ends in a field: the words between its brackets, and the field.
-pub(crate) fn before_field(words: &[Word]) -> Option<(&[Word], &Text)>
+pub(crate) fn before_field(words: &[Word]) -> Option<(&[Word], &SourceText)>
     ensures { MatchOption result ((inside : List word_type) (field : List ℕ) → words.now ≡ inside ++ w.Key t.CloseRound ∷ w.Key t.Dot ∷ w.Name field ∷ [] → ⊥) (λ p. words.now ≡ p.0.now ++ w.Key t.CloseRound ∷ w.Key t.Dot ∷ w.Name p.1.now ∷ []) }
 {
     let (word, before) = last(words)?;

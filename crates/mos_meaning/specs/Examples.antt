@@ -7,14 +7,14 @@ use Rattle.mos_text.specs.declared.fault_kind.FaultKind.TheVariants.{Overflow, B
 use Rattle.bim_code.specs.declared.image.Image.{Image}
 use Rattle.bim_code.specs.declared.instruction.Instruction.TheVariants.{Tick, PushInt, PushBool, PushText, Show, Write, Line, End}
 use Rattle.job_calls.specs.declared.run_line.RunLine.{RunLine}
-use Rattle.job_calls.specs.ReportExamples.{hello_entries, hello_runs}
+use Rattle.job_calls.specs.HelloJournal.{hello_entries, hello_runs}
 use Rattle.bim_code.specs.declared.instruction.Comparison.TheVariants.{Greater, AtLeast}
 use Rattle.mos_meaning.specs.State.{State, Outcome, Stop, Exited, Failed, Spent, Stuck, beginning}
 use Rattle.mos_meaning.specs.Syntax.{Block, done, first, assign, change, increase, decrease, write, choose, branch, otherwise, loop, group, leave, skip, nothing, one_more, number, text, truth, name, apply, plus, compare}
 use Rattle.mos_meaning.specs.Effects.{Ends}
 use Rattle.mos_meaning.specs.Meaning.{Body, routines, meaning_of, told_done}
 use Rattle.mos_meaning.specs.Machine.{course_of}
-use Rattle.mos_meaning.specs.Follows.{Model, FollowsSources}
+use Rattle.mos_meaning.specs.Follows.{Behaviour, behaviour_of, FollowsSources}
 
 abbrev pub told : List ℕ → ℕ → Stop → Outcome
 told output ticks stop = record { output = output; calls = []; ticks = ticks; stop = stop }
@@ -127,16 +127,16 @@ HelloCourse = course_of hello_image [] [] 10000000 ≡ record { outcome = told (
 abbrev pub HelloCourseSpent : Type 0
 HelloCourseSpent = course_of hello_image [] [] 0 ≡ record { outcome = told [] 0 Spent; steps = 1 }
 
-abbrev pub hello_models : List (Option Model)
-hello_models = Some record { statements = hello; image = hello_image } ∷ []
+abbrev pub hello_behaviours : List (Option Behaviour)
+hello_behaviours = Some (behaviour_of hello hello_image) ∷ []
 
 -- the run line of hello follows its source
 abbrev pub HelloFollows : Type 0
-HelloFollows = FollowsSources hello_entries hello_runs hello_models
+HelloFollows = FollowsSources hello_entries hello_runs hello_behaviours
 
 -- one run line is wanted for each run
 abbrev pub TooFewLines : Type 0
-TooFewLines = FollowsSources hello_entries [] hello_models → ⊥
+TooFewLines = FollowsSources hello_entries [] hello_behaviours → ⊥
 
 -- the run has to have an accepted source
 abbrev pub NoModel : Type 0
@@ -144,4 +144,4 @@ NoModel = FollowsSources hello_entries hello_runs (None ∷ []) → ⊥
 
 -- the run line has to name the source
 abbrev pub AnotherSource : Type 0
-AnotherSource = (line : RunLine) → line.source ≡ codes "other.mos" → FollowsSources hello_entries (line ∷ []) hello_models → ⊥
+AnotherSource = (line : RunLine) → line.source ≡ codes "other.mos" → FollowsSources hello_entries (line ∷ []) hello_behaviours → ⊥

@@ -1,7 +1,8 @@
--- A journal with its run lines follows its sources: each run's calls are those that its source
--- means, given the replies, and its line says what the source means and what its image does.
+-- A journal with its run lines follows its sources: each run's calls are those of the behaviour of its
+-- source, given the replies, and its line says how the run ended, what it wrote and what it took.
 
 use Rattle.std.specs.Prelude.{◌≡◌, ℕ, List, Option, Some, None, length, slice_get}
+use Rattle.job_calls.specs.declared.reply.Reply.{Reply}
 use Rattle.job_calls.specs.declared.entry.Entry.{Entry}
 use Rattle.job_calls.specs.declared.entry.Listed.{Listed}
 use Rattle.job_calls.specs.declared.end.End.{End}
@@ -16,12 +17,19 @@ use Rattle.bim_code.specs.declared.image.Image.{Image}
 use Rattle.mos_meaning.specs.State.{Stop, Exited, Failed, Spent, Stopped, Asking, Stuck}
 use Rattle.mos_meaning.specs.Syntax.{Block}
 use Rattle.mos_meaning.specs.Meaning.{meaning_of}
-use Rattle.mos_meaning.specs.Machine.{course_of}
+use Rattle.mos_meaning.specs.Machine.{Course, course_of}
 
--- an accepted source: its statements and its image
-pub record Model : Type 0 where
-  pub statements : Block
-  pub image : Image
+-- what a run does, by its parameter text, the replies to its calls and its budget of ticks; that of an
+-- image is `course_of image`
+abbrev pub Behaviour : Type 0
+Behaviour = List ℕ → List Reply → ℕ → Course
+
+-- the behaviour of a source: what its statements mean, with the steps that its image takes
+abbrev pub behaviour_of : Block → Image → Behaviour
+behaviour_of statements image params replies budget = record {
+  outcome = meaning_of statements params replies budget;
+  steps = (course_of image params replies budget).steps;
+}
 
 -- the end of a run that stopped so
 abbrev pub end_of : Stop → Option End
@@ -39,32 +47,32 @@ EndsSo (Some finish) line stop = (line ≡ Ended finish) × (end_of stop ≡ Som
 EndsSo None line (Asking call) = line ≡ Waiting call
 EndsSo None line _ = ⊥
 
--- a run whose source and parameter text are these
-pub record RunFollows (journal : List Entry) (o : Opening) (run : ℕ) (line : RunLine) (source : ℕ) (params : List ℕ) (file : Listed) (model : Model) : Type 0 where
+-- a run of this file took this course, and its line says so
+pub record RunFollows (journal : List Entry) (run : ℕ) (line : RunLine) (file : Listed) (course : Course) : Type 0 where
   pub named : line.source ≡ file.name
   pub replies_fit : AllFit (calls_of run journal) (replies_of run journal)
-  pub calls : calls_of run journal ≡ (meaning_of model.statements params (replies_of run journal) o.budget).calls
-  pub ends : EndsSo (finish_of run journal) line.end (meaning_of model.statements params (replies_of run journal) o.budget).stop
-  pub output : line.output ≡ (meaning_of model.statements params (replies_of run journal) o.budget).output
-  pub ticks : line.ticks ≡ (meaning_of model.statements params (replies_of run journal) o.budget).ticks
-  pub steps : line.steps ≡ (course_of model.image params (replies_of run journal) o.budget).steps
+  pub calls : calls_of run journal ≡ course.outcome.calls
+  pub ends : EndsSo (finish_of run journal) line.end course.outcome.stop
+  pub output : line.output ≡ course.outcome.output
+  pub ticks : line.ticks ≡ course.outcome.ticks
+  pub steps : line.steps ≡ course.steps
 
--- the run has a source that was accepted, and follows it
-pub record Follows (journal : List Entry) (o : Opening) (models : List (Option Model)) (run : ℕ) (line : RunLine) : Type 0 where
+-- the run has a file that can be run, and follows it
+pub record Follows (journal : List Entry) (o : Opening) (behaviours : List (Option Behaviour)) (run : ℕ) (line : RunLine) : Type 0 where
   pub source : ℕ
   pub params : List ℕ
   pub file : Listed
-  pub model : Model
+  pub behaviour : Behaviour
   pub source_is : source_of run journal ≡ Some source
   pub params_is : params_of run journal ≡ Some params
   pub file_is : slice_get o.files source ≡ Some file
-  pub model_is : slice_get models source ≡ Some (Some model)
-  pub follows : RunFollows journal o run line source params file model
+  pub behaviour_is : slice_get behaviours source ≡ Some (Some behaviour)
+  pub follows : RunFollows journal run line file (behaviour params (replies_of run journal) o.budget)
 
--- one line for each run, in order, each of which follows; `models` has, for each listed file, the
--- model that it is, where it is an accepted source
-pub record FollowsSources (journal : List Entry) (lines : List RunLine) (models : List (Option Model)) : Type 0 where
+-- one line for each run, in order, each of which follows; `behaviours` has one for each listed file, where
+-- it can be run
+pub record FollowsSources (journal : List Entry) (lines : List RunLine) (behaviours : List (Option Behaviour)) : Type 0 where
   pub opened : Opening
   pub opened_is : opening journal ≡ Some opened
   pub all_runs : length lines ≡ run_count journal
-  pub each : (run : ℕ) (line : RunLine) → slice_get lines run ≡ Some line → Follows journal opened models run line
+  pub each : (run : ℕ) (line : RunLine) → slice_get lines run ≡ Some line → Follows journal opened behaviours run line

@@ -1,14 +1,17 @@
--- Where words are cut: at a comma outside brackets, and at a colon.
+-- As the code reads, apart from what the public clauses say: where words are cut: at a comma
+-- outside brackets, and at a colon.
 
 use Rattle.std.specs.Prelude.{ℕ, ◌+◌, ◌-◌, Bool, true, false, ◌&&◌, if◌then◌else◌, nat_eq, List, [], ◌∷◌, ◌++◌, Option, Some, None}
 use Rattle.mos_scan.specs.declared.token.TokenKind.TheVariants as t
 use Rattle.mos_scan.specs.declared.reading.Word.{Word}
 use Rattle.mos_scan.specs.declared.reading.Word.TheVariants as w
 
+-- the word is a comma
 abbrev pub is_comma : Word → Bool
 is_comma (w.Key t.Comma) = true
 is_comma _ = false
 
+-- the word is a colon
 abbrev pub is_colon : Word → Bool
 is_colon (w.Key t.Colon) = true
 is_colon _ = false

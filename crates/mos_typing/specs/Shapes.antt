@@ -1,4 +1,5 @@
--- How the words of types are put together.
+-- As the code reads, apart from what the public clauses say: how the words of types are put
+-- together.
 
 use Rattle.std.specs.Prelude.{Bool, true, false, List, [], ◌∷◌, ◌++◌}
 use Rattle.mos_scan.specs.declared.token.TokenKind.TheVariants as t

@@ -16,14 +16,14 @@ pub use fault::ReadFault;
 use mos_check::{check, not_built};
 use mos_parse::parse;
 use mos_text::NoMemory;
-use mos_tree::{Tree, Verdict};
+use mos_tree::{Refusal, Tree};
 use size::is_in_size;
 use std::alloc::Global;
 
 /// The tree of a source, or why and where it is refused: at its first fault of tokens or grammar;
-/// where it has none, at its first piece of a form that cannot be run; and where all can, at the first
-/// that uses a name without a value, or leaves or continues a loop where there is none. A source has
-/// at most 1,048,576 bytes.
+/// where it has none, at its first piece of a form that cannot be run; and where all can, at the
+/// first that uses a name without a value, or leaves or continues a loop where there is none. A
+/// source has at most 1,048,576 bytes.
 pub fn read_source(alloc: Global, source: &[u8]) -> Result<Tree, ReadFault>
     requires { length source.now ≤ 1048576 }
     ensures tree { IfOk result (IsAccepted source.now) }
@@ -31,7 +31,8 @@ pub fn read_source(alloc: Global, source: &[u8]) -> Result<Tree, ReadFault>
 
     // What is true of the source is the answer, but for want of memory.
     ensures only_tree { (tree : tree_type) → IsAccepted source.now tree → GivesTree result tree }
-    ensures only_refusal { (line : ℕ) (kind : kind_type) → IsRefusedAt source.now line kind → GivesRefusal result line kind }
+    ensures only_refusal { (line : ℕ) (kind : kind_type)
+        → IsRefusedAt source.now line kind → GivesRefusal result line kind }
 
     ensures in_size { IfOk result (λ tree. IsInSize (statements_of tree)) }
 {
@@ -61,7 +62,7 @@ fn refuse_unbuilt(alloc: Global, tree: &Tree) -> Result<(), ReadFault>
     ensures wrong { IfErr result (IsJudged tree.now) }
 {
     match not_built(alloc, tree)? {
-        Some(verdict) => Err(fault_of(verdict)),
+        Some(refusal) => Err(fault_of(refusal)),
         None => Ok(()),
     }
 }
@@ -75,14 +76,11 @@ fn refuse_unchecked(alloc: Global, tree: &Tree) -> Result<(), ReadFault>
     Ok(())
 }
 
-fn fault_of(verdict: Verdict) -> ReadFault
-    ensures { result ≡ At verdict.line verdict.kind }
+fn fault_of(refusal: Refusal) -> ReadFault
+    ensures { result ≡ At refusal.line refusal.kind }
 {
     ReadFault::At {
-        line: verdict.line,
-        kind: verdict.kind,
+        line: refusal.line,
+        kind: refusal.kind,
     }
 }
-
-#[cfg(test)]
-mod tests;

@@ -1,12 +1,12 @@
 //! The file words of a command.
 ghost use Rattle.std.specs.Prelude.{◌≡◌, true, false, [], slice_index_or, IfOk, MatchOption};
 ghost use Rattle.std.specs.List.{list_all};
-ghost use Rattle.mos_text.specs.FileName.{is_file_name};
-ghost use Rattle.mos_words.specs.Words.{files, lacks_value, is_source_name, breaks_files};
+ghost use Rattle.mos_text.specs.FileName.{is_file_name, is_source_name};
+ghost use Rattle.mos_words.specs.CommandLine.{files, lacks_value, breaks_files};
 
 use crate::words::options::first_of;
 use crate::words::shape::{begins_with_dash, takes_next};
-use mos_text::{NoMemory, Text, is_file_name};
+use mos_text::{NoMemory, Text, is_file_name, is_source_name};
 use sqlite_items::Items;
 use std::alloc::Global;
 
@@ -76,12 +76,5 @@ fn are_file_names(named: &[Text]) -> bool
 fn are_source_names(named: &[Text]) -> bool
     ensures { result ≡ list_all is_source_name named.now }
 {
-    named.iter().all(|name| is_source_name(name.as_bytes()))
-}
-
-#[tactic(auto, unfolding(crate::specs::Words::is_source_name))]
-fn is_source_name(name: &[u8]) -> bool
-    ensures { result ≡ is_source_name name.now }
-{
-    &name[name.len().saturating_sub(4)..] == b".mos".as_slice()
+    named.iter().all(|name| is_source_name(name))
 }

@@ -114,7 +114,7 @@ fn behind_expression(room: u32, written: &Expr) -> Option<u32>
     let room = room.checked_sub(1)?;
     match written {
         Expr::Integer(number) => behind_number(room, *number),
-        Expr::Text(text) => behind_text(room, text),
+        Expr::Text(text) => behind_text(room, text.text()),
         Expr::Binary(_, left, right) => {
             let behind = behind_expression(room, left.get())?;
             behind_expression(behind, right.get())

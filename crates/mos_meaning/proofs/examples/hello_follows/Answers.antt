@@ -3,9 +3,9 @@ use Rattle.std.proofs.Common.{◌≡◌, ℕ, zero, suc, [], ◌∷◌, Some, No
 use Rattle.std.specs.Prelude.{slice_get}
 use Rattle.job_calls.specs.declared.run_line.RunLine.{RunLine}
 use Rattle.job_calls.specs.Runs.{Opening}
-use Rattle.job_calls.specs.ReportExamples.{hello_entries, hello_runs, hello_file}
-use Rattle.mos_meaning.specs.Examples.{hello, hello_image, hello_models}
-use Rattle.mos_meaning.specs.Follows.{Follows}
+use Rattle.job_calls.specs.HelloJournal.{hello_entries, hello_runs, hello_file}
+use Rattle.mos_meaning.specs.Examples.{hello, hello_image, hello_behaviours}
+use Rattle.mos_meaning.specs.Follows.{Follows, behaviour_of}
 use Rattle.mos_meaning.proofs.examples.hello_follows.Goals as goal
 
 abbrev opened : Opening
@@ -14,16 +14,16 @@ opened = record { lanes = 1; budget = 10000000; params = []; files = hello_file 
 inside : {A : Type 0} (x y : A) → Some x ≡ Some y → x ≡ y
 inside x y e = cc
 
-each : (run : ℕ) (line : RunLine) → slice_get hello_runs run ≡ Some line → Follows hello_entries opened hello_models run line
-each zero line e = subst (Follows hello_entries opened hello_models 0) (inside _ line e) record {
+each : (run : ℕ) (line : RunLine) → slice_get hello_runs run ≡ Some line → Follows hello_entries opened hello_behaviours run line
+each zero line e = subst (Follows hello_entries opened hello_behaviours 0) (inside _ line e) record {
   source = 0;
   params = [];
   file = hello_file;
-  model = record { statements = hello; image = hello_image };
+  behaviour = behaviour_of hello hello_image;
   source_is = refl;
   params_is = refl;
   file_is = refl;
-  model_is = refl;
+  behaviour_is = refl;
   follows = record {
     named = refl;
     replies_fit = tt;

@@ -3,8 +3,8 @@ use Rattle.std.proofs.Common.{◌≡◌, ℕ, List, [], ◌∷◌, Option, Some,
 use Rattle.std.specs.Prelude.{slice_get, codes}
 use Rattle.job_calls.specs.declared.entry.Listed.{Listed}
 use Rattle.job_calls.specs.Runs.{Opening}
-use Rattle.job_calls.specs.ReportExamples.{hello_file}
-use Rattle.mos_meaning.specs.Follows.{Model}
+use Rattle.job_calls.specs.HelloJournal.{hello_file}
+use Rattle.mos_meaning.specs.Follows.{Behaviour}
 use Rattle.mos_meaning.proofs.examples.refused_lines.Goals as goal
 
 inside : {A : Type 0} (x y : A) → Some x ≡ Some y → x ≡ y
@@ -16,10 +16,10 @@ returns-clause-too_few c = λ h. let e = h.all_runs in absurd (omega (arith, e))
 pub returns-clause-no_model : goal.returns-clause-no_model
 returns-clause-no_model c = λ h.
     let f = h.each 0 _ refl in
-    let models : List (Option Model) = None ∷ [] in
-    let at : slice_get models 0 ≡ Some (Some f.model) = ap (slice_get models) (inside 0 f.source f.source_is) ∙ f.model_is in
-    let none : Option Model = None in
-    let e : none ≡ Some f.model = inside none (Some f.model) at in
+    let behaviours : List (Option Behaviour) = None ∷ [] in
+    let at : slice_get behaviours 0 ≡ Some (Some f.behaviour) = ap (slice_get behaviours) (inside 0 f.source f.source_is) ∙ f.behaviour_is in
+    let none : Option Behaviour = None in
+    let e : none ≡ Some f.behaviour = inside none (Some f.behaviour) at in
     cc
 
 pub returns-clause-another_source : goal.returns-clause-another_source

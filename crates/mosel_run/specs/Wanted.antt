@@ -1,0 +1,27 @@
+-- The files that a command wants, in order, and how the folder gives them.
+
+use Rattle.std.specs.Prelude.{◌≡◌, ◌≢◌, ℕ, List, [], ◌∷◌, Option, All, ◌⊎◌}
+use Rattle.mos_text.specs.Content.{Files, Unknown, known_of}
+use Rattle.mos_text.specs.Gets.{Answers}
+use Rattle.mos_text.specs.declared.folder.Got.{Got}
+use Rattle.mos_text.specs.declared.folder.Got.TheVariants.{Bytes}
+use Rattle.mosel_run.specs.declared.wanted.Wanted.{Wanted}
+
+-- of each of these names it is known whether there is a file, and with which bytes
+abbrev pub AreKnown : Option Files → List Wanted → Type 0
+AreKnown content wanted = All (λ (file : Wanted). known_of content file.name ≢ Unknown) wanted
+
+-- the folder gives these bytes for all of these files
+abbrev pub AreRead : Option Files → List Wanted → List (List ℕ) → Type 0
+AreRead content [] [] = Unit {0}
+AreRead content [] (bytes ∷ sources) = ⊥
+AreRead content (file ∷ files) [] = ⊥
+AreRead content (file ∷ files) (bytes ∷ sources) =
+    Answers (known_of content file.name) file.limit (Bytes bytes) × AreRead content files sources
+
+-- the first of these files that the folder does not give has this name, and the folder answers so
+abbrev pub IsUnread : Option Files → List Wanted → List ℕ → Got → Type 0
+IsUnread content [] name got = ⊥
+IsUnread content (file ∷ files) name got =
+    ((file.name ≡ name) × Answers (known_of content file.name) file.limit got)
+    ⊎ (((bytes : List ℕ) × Answers (known_of content file.name) file.limit (Bytes bytes)) × IsUnread content files name got)

@@ -1,0 +1,12 @@
+//! Lanes on threads of their own that share one hub: a master starts two children, which send it events and end.
+#![tactic(auto)]
+
+#[cfg(test)]
+mod asking;
+mod ending;
+#[cfg(test)]
+mod jobs;
+#[cfg(test)]
+mod runs;
+
+pub use ending::end;
