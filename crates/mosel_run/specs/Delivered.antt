@@ -31,6 +31,7 @@ pub record WrotePart (answer : Answer) (before after : Devices) : Type 0 where
   pub part : AppendedPart before.sink.bytes after.sink.bytes answer.text
   pub nothing_put : after.folder.content ≡ before.folder.content
 
+-- what the devices have taken of an answer, by the status
 pub data Delivered (answer : Answer) (before after : Devices) : Status → Type 0 where
   -- all was written and put
   whole : (status : Status) → status ≡ answer.status → WroteAll answer before after

@@ -19,6 +19,7 @@ pub record StopsAt (puts : List Put) (before : Option Files) (place : ℕ) (left
   pub put_is : slice_get puts place ≡ Some put
   pub left_so : left put.name (put_all before (take place puts))
 
+-- all files were put, or those before a place
 abbrev pub IsPutting : List Put → FolderState → FolderState → Putting → Type 0
 IsPutting puts before after AllPut = after.content ≡ put_all before.content puts
 IsPutting puts before after (Failed place) =
