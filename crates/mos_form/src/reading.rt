@@ -1,12 +1,12 @@
 //! What one piece is.
-ghost use Rattle.std.specs.Prelude.{◌≡◌, ◌≤◌, ◌∷◌, List, length, MatchOption, IfOk};
+ghost use Rattle.std.specs.Prelude.{◌≡◌, ◌≤◌, ◌∷◌, length, MatchOption, IfOk};
 ghost use Rattle.mos_tree.specs.Sizes.{size_of_form};
-ghost use Rattle.mos_scan.specs.declared.reading.Word.{Word as word_type};
 ghost use Rattle.mos_scan.specs.declared.reading.Word.TheVariants as w;
 ghost use Rattle.mos_scan.specs.declared.token.TokenKind.TheVariants as t;
 ghost use Rattle.mos_form.specs.Phrases.{IsFormOf, Phrase, IsPhrase, answer, operator_word};
 ghost use Rattle.mos_form.specs.Fixed as fixed;
 ghost use Rattle.mos_form.specs.Telling as spec;
+ghost use Rattle.mos_typing.specs.Shapes.{AreNo};
 
 use crate::cells::cell_assignment;
 use crate::cut::{
@@ -98,7 +98,7 @@ fn single_word(kind: TokenKind) -> Form
 
 /// The words of the condition behind its keyword.
 fn condition(keyword: ConditionKeyword, rest: &[Word]) -> Option<&[Word]>
-    ensures { MatchOption result ((inside : List word_type) → rest.now ≡ fixed.around keyword inside → ⊥) (λ inside. rest.now ≡ fixed.around keyword inside.now) }
+    ensures { MatchOption result (AreNo (fixed.around keyword) rest.now) (λ inside. rest.now ≡ fixed.around keyword inside.now) }
 {
     match keyword {
         ConditionKeyword::If | ConditionKeyword::Elif => before_last(rest, TokenKind::Then),

@@ -29,6 +29,7 @@ row_of Budget = record { name = codes "budget"; least = 1; most = 1000000000; us
 abbrev pub run_options : List OptionName
 run_options = Lanes ∷ Budget ∷ []
 
+-- the word begins with a dash
 abbrev pub begins_with_dash : Word → Bool
 begins_with_dash word = slice_index word 0 == 45
 
@@ -36,6 +37,7 @@ begins_with_dash word = slice_index word 0 == 45
 abbrev pub is_option : Word → Bool
 is_option word = begins_with_dash word && (slice_index word 1 == 45)
 
+-- the byte is `=`
 abbrev pub is_equals_sign : ℕ → Bool
 is_equals_sign byte = byte == 61
 

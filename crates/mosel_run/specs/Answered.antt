@@ -43,6 +43,7 @@ IsCommandAnswer journals (Some (Run name lanes budget)) before after answer =
 abbrev pub IsAnswer : (Opening → List Entry → Type 0) → List (List ℕ) → FolderState → FolderState → Answer → Type 0
 IsAnswer journals words before after answer = IsCommandAnswer journals (command_of words) before after answer
 
+-- the status says how far the answer was delivered, or that memory was wanting before
 pub data Answered (journals : Opening → List Entry → Type 0) (words : List (List ℕ)) (before after : Devices) : Status → Type 0 where
   -- the answer was delivered, as far as the status says
   delivered : (status : Status) (answer : Answer) → IsAnswer journals words before.folder after.folder answer

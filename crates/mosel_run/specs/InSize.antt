@@ -13,11 +13,13 @@ IsSmall (text t) = length t < 2 ^ 32
 IsSmall (apply operator a b) = IsSmall a × IsSmall b
 IsSmall _ = Unit {0}
 
+-- each argument is small
 abbrev pub AreSmall : Arguments → Type 0
 AreSmall nothing = Unit {0}
 AreSmall (one_more e es) = IsSmall e × AreSmall es
 
 abbrev mutual
+  -- its expressions are small, and the statements in it
   pub IsSmallEffect : Effect → Type 0
   IsSmallEffect (assign n e) = IsSmall e
   IsSmallEffect (change how n e) = IsSmall e
@@ -27,10 +29,12 @@ abbrev mutual
   IsSmallEffect (group all) = IsSmallBlock all
   IsSmallEffect _ = Unit {0}
 
+  -- conditions and statements of the arms are small
   pub AreSmallBranches : Branches → Type 0
   AreSmallBranches (otherwise all) = IsSmallBlock all
   AreSmallBranches (branch e all rest) = IsSmall e × IsSmallBlock all × AreSmallBranches rest
 
+  -- each statement is small
   pub IsSmallBlock : Block → Type 0
   IsSmallBlock done = Unit {0}
   IsSmallBlock (first e rest) = IsSmallEffect e × IsSmallBlock rest

@@ -65,10 +65,11 @@ AreJudged (want ∷ wanted) (bytes ∷ sources) (file ∷ files) (model ∷ mode
     (file.name ≡ want.name) × (file.bytes ≡ bytes) × IsJudged file model × AreJudged wanted sources files models
 AreJudged _ _ _ _ = ⊥  -- there are as many of each
 
--- what is said of the journal beside the promise: nothing, or that one thread wrote it, lane by lane
+-- what is said of the journal beside the promise: nothing
 abbrev pub AnyJournal : Opening → List Entry → Type 0
 AnyJournal o journal = Unit {0}
 
+-- one thread wrote it, lane by lane
 abbrev pub OneThread : Opening → List Entry → Type 0
 OneThread o journal = (end : End) × (journal ≡ schedule_of o end)
 

@@ -21,6 +21,7 @@ use Rattle.mosel_run.specs.Puts.{bytes_under, last_puts, put_all}
 abbrev pub OneOpening : Type 0
 OneOpening = (o other : Opening) (journal : List Entry) → IsWhole o journal → IsWhole other journal → o ≡ other
 
+-- no lane of a whole job has quit
 abbrev pub NobodyQuit : Type 0
 NobodyQuit = (o : Opening) (journal : List Entry) → IsWhole o journal → has_quit journal ≡ false
 
@@ -32,6 +33,7 @@ EveryRunEnded = (o : Opening) (journal : List Entry) (run : ℕ) → IsWhole o j
 abbrev pub EveryLaneDone : Type 0
 EveryLaneDone = (o : Opening) (journal : List Entry) (lane : ℕ) → IsWhole o journal → lane < o.lanes → EndsDone (own_entries lane journal)
 
+-- there are as many lines as runs
 abbrev pub LineForEachRun : Type 0
 LineForEachRun = (journal : List Entry) (lines : List RunLine) (behaviours : List (Option Behaviour))
     → FollowsSources journal lines behaviours → length lines ≡ run_count journal
@@ -58,12 +60,15 @@ abbrev pub OthersStay : Type 0
 OthersStay = (files : Files) (puts : List Put) (name : List ℕ) → last_given (bytes_under name) puts ≡ None
     → known_of (put_all (Some files) (last_puts puts)) name ≡ known_of (Some files) name
 
+-- the source has a tree
 abbrev pub HasATree : List ℕ → Type 0
 HasATree source = (tree : Tree) × IsParsed source tree
 
+-- the source has a fault of tokens or grammar
 abbrev pub HasAFault : List ℕ → Type 0
 HasAFault source = (line : ℕ) × (kind : Kind) × IsSyntaxFault source line kind
 
+-- the source is accepted, or refused at a line
 abbrev pub IsJudgedSource : List ℕ → Type 0
 IsJudgedSource source =
     ((tree : Tree) × IsAccepted source tree) ⊎ ((line : ℕ) × (kind : Kind) × IsRefusedAt source line kind)

@@ -38,6 +38,7 @@ abbrev pub of_syntax : SyntaxFault → ReadFault
 of_syntax (syntax.Refused refusal) = At refusal.line refusal.kind
 of_syntax syntax.NoMemory = NoMemory
 
+-- and a fault of the check
 abbrev pub of_check : CheckFault → ReadFault
 of_check (check.Refused refusal) = At refusal.line refusal.kind
 of_check check.NoMemory = NoMemory

@@ -28,6 +28,7 @@ CountRose before after Missing = Unit {0}
 CountRose before after TooLarge = Unit {0}
 CountRose before after Failed = Rose before.faults after.faults
 
+-- all wanted files were read, or one was not given
 abbrev pub IsReadOf : List Wanted → FolderState → FolderState → Read → Type 0
 IsReadOf wanted before after (AllOf sources) = AreRead before.content wanted sources
 IsReadOf wanted before after (Unread name lack) =

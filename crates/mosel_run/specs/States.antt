@@ -18,9 +18,11 @@ pub record Devices : Type 0 where
   pub folder : FolderState
   pub sink : SinkState
 
+-- the state of a folder
 abbrev pub folder_state : Option Files → ℕ → FolderState
 folder_state content faults = record { content = content; faults = faults }
 
+-- the state of a sink
 abbrev pub sink_state : Option (List ℕ) → ℕ → SinkState
 sink_state bytes faults = record { bytes = bytes; faults = faults }
 
