@@ -187,7 +187,7 @@ block-fares : (all : List Said) (inside : Bool) (known after : Names) → first_
     → check_all (map check_statement (map self all)) inside known ≡ Knows after → FaresAll known after (block (map effect (map self all)))
 block-fares [] inside known after built checked =
     let same : known ≡ after = cc in
-    subst (λ (k : Names). FaresAll known k done) same (record { named = refl; grows = λ n h. h; works = λ names within. tt })
+    subst (λ (k : Names). FaresAll known k no_more) same (record { named = refl; grows = λ n h. h; works = λ names within. tt })
 block-fares (s ∷ all) inside known after built checked =
     let both = later-none (unbuilt_in s.0) (first_of (map unbuilt_in (map self all))) built in
     let found = then-knows (check_statement s.0 inside known) (check_all (map check_statement (map self all)) inside) after checked in
@@ -273,7 +273,7 @@ tops-fare : (tops : List Top) (known after : Names) → first_of (map unbuilt_in
     → FaresAll known after (block (map top_effect tops))
 tops-fare [] known after built checked =
     let same : known ≡ after = cc in
-    subst (λ (k : Names). FaresAll known k done) same (record { named = refl; grows = λ n h. h; works = λ names within. tt })
+    subst (λ (k : Names). FaresAll known k no_more) same (record { named = refl; grows = λ n h. h; works = λ names within. tt })
 tops-fare (top.Statement s ∷ tops) known after built checked =
     let both = later-none (unbuilt_in s) (first_of (map unbuilt_in_top tops)) built in
     let found = then-knows (check_statement s false known) (check_tops tops) after checked in
