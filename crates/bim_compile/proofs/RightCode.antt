@@ -302,9 +302,9 @@ mutual
               out_fits = x.out_fits;
               next_fits = x.next_fits;
             })) (
-          (omega (arith, out_ahead, out_fits), ahead image.code jump end x.end_begun (omega (arith, more))),
-          branches_right image names m other out next rest tables works.2 small.2 (omega (arith, few, one_way, other_way)) ends.1.1 x,
-        ),
+              (omega (arith, out_ahead, out_fits), ahead image.code jump end x.end_begun (omega (arith, more))),
+              branches_right image names m other out next rest tables works.2 small.2 (omega (arith, few, one_way, other_way)) ends.1.1 x,
+            ),
       )
 
   pub block_right : (image : Image) (names : List Name) (k at out next : ℕ) (all : Block) → Tables image names → AllWork names all → IsSmallBlock all

@@ -82,7 +82,7 @@ put_head f fs hs slot v after e = tested (nat_lt slot (length f)) refl e
         let one : put_slot (f ++ newest hs) slot v ≡ Some (slice_set f slot v ++ newest hs) =
         ap (λ b. if b then Some (slice_set (f ++ newest hs) slot v) else None) wide ∙ ap (λ (g : List Value). Some g) set in (
           ap (λ (o : Option (List Value)). option_map (λ (g : List Value). g ∷ joined fs (left hs)) o) one
-          ∙ ap (λ (all : List (List Value)). Some (joined all hs)) is,
+              ∙ ap (λ (all : List (List Value)). Some (joined all hs)) is,
           ap (λ (all : List (List Value)). map length all) (sym is) ∙ ap (λ n. n ∷ map length fs) (length-set f slot v),
         )
 

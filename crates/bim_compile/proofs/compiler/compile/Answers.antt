@@ -24,40 +24,40 @@ of_it P image (Ok made) h e = subst P (sym e) h
 of_it P image (Err fault) h e = tt
 
 pub build-requires-clause-built : goal.build-requires-clause-built
-build-requires-clause-built c = block-built (variables_of (statements_of c.args.tree.now)) (statements_of c.args.tree.now) c.requires.works
+build-requires-clause-built c = block-built (variables_of (statements_of c.args.tree.now)) (statements_of c.args.tree.now) c.requires.can_compile.works
 
 pub build-requires-clause-small : goal.build-requires-clause-small
-build-requires-clause-small c = c.requires.in_size.size
+build-requires-clause-small c = c.requires.can_compile.in_size.size
 
 pub returns-clause-means : goal.returns-clause-means
 returns-clause-means c =
     let model = statements_of c.args.tree.now in
-    let rules = keeps_rules model c.requires.works c.requires.in_size in
+    let rules = keeps_rules model c.requires.can_compile.works c.requires.can_compile.in_size in
     of_it (Means (program_of model)) (image_of model) c.build.result
-    (course_is_meaning c.machine_laws.ensures.over_in_time c.machine_laws.ensures.stays_over model (block-built (variables_of model) model c.requires.works) rules.ticks
-    (c.working_models.ensures.never_lost model c.requires.works)) c.build.ensures
+    (course_is_meaning c.machine_laws.ensures.over_in_time c.machine_laws.ensures.stays_over model (block-built (variables_of model) model c.requires.can_compile.works) rules.ticks
+    (c.working_models.ensures.never_lost model c.requires.can_compile.works)) c.build.ensures
 
 pub returns-clause-never_fails : goal.returns-clause-never_fails
 returns-clause-never_fails c =
     let model = statements_of c.args.tree.now in
-    let rules = keeps_rules model c.requires.works c.requires.in_size in
+    let rules = keeps_rules model c.requires.can_compile.works c.requires.can_compile.in_size in
     let means : Means (program_of model) (image_of model) =
-    course_is_meaning c.machine_laws.ensures.over_in_time c.machine_laws.ensures.stays_over model (block-built (variables_of model) model c.requires.works) rules.ticks
-    (c.working_models.ensures.never_lost model c.requires.works) in
+    course_is_meaning c.machine_laws.ensures.over_in_time c.machine_laws.ensures.stays_over model (block-built (variables_of model) model c.requires.can_compile.works) rules.ticks
+    (c.working_models.ensures.never_lost model c.requires.can_compile.works) in
     of_it NeverFails (image_of model) c.build.result (record {
-      stuck = λ text replies budget e. c.working_models.ensures.never_stuck model c.requires.works text replies budget (ap (λ (o : Outcome). o.stop) (sym (means text replies budget)) ∙ e);
-      lost = λ text replies budget e. c.working_models.ensures.never_lost model c.requires.works text replies budget (ap (λ (o : Outcome). o.stop) (sym (means text replies budget)) ∙ e);
+      stuck = λ text replies budget e. c.working_models.ensures.never_stuck model c.requires.can_compile.works text replies budget (ap (λ (o : Outcome). o.stop) (sym (means text replies budget)) ∙ e);
+      lost = λ text replies budget e. c.working_models.ensures.never_lost model c.requires.can_compile.works text replies budget (ap (λ (o : Outcome). o.stop) (sym (means text replies budget)) ∙ e);
     }) c.build.ensures
 
 pub returns-clause-rules : goal.returns-clause-rules
 returns-clause-rules c =
     let model = statements_of c.args.tree.now in
-    of_it KeepsRules (image_of model) c.build.result (keeps_rules model c.requires.works c.requires.in_size) c.build.ensures
+    of_it KeepsRules (image_of model) c.build.result (keeps_rules model c.requires.can_compile.works c.requires.can_compile.in_size) c.build.ensures
 
 pub returns-clause-fields : goal.returns-clause-fields
 returns-clause-fields c =
     let model = statements_of c.args.tree.now in
-    of_it FitsFields (image_of model) c.build.result (fits_fields model c.requires.in_size.size (texts_short_block model c.requires.in_size.small)) c.build.ensures
+    of_it FitsFields (image_of model) c.build.result (fits_fields model c.requires.can_compile.in_size.size (texts_short_block model c.requires.can_compile.in_size.small)) c.build.ensures
 
 pub returns-clause-few : goal.returns-clause-few
 returns-clause-few c =
