@@ -76,35 +76,62 @@ def chains():
         yield f"{heavy * 100 / sum(lines.values()):.1f} percent of all lines lie on the chain {' '.join(chain)}"
 
 
+GROUP = re.compile(r"(?:abbrev )?mutual$|module _ .*where$")
+
+
 class Module:
     """A file of definitions: its first sentence, what it imports, and each definition with its comment and text."""
 
     def __init__(self, crate, path):
         self.crate, self.path = crate, path
-        self.imports, self.definitions = {}, {}
+        self.imports, self.aliases, self.definitions = {}, {}, {}
         self.sentence = ""
         if path.is_file():
             self.read(path.read_text())
 
     def read(self, text):
-        comment, current = [], None
+        comment, current, inside = [], None, False
         for line in joined_imports(text).splitlines():
-            if line.startswith("--"):
-                comment.append(line.lstrip("- "))
-                current = None
-            elif line.startswith("use "):
-                self.sentence = self.sentence or " ".join(comment)
-                self.imports.update(imported(line))
-                comment = []
-            elif name := re.match(rf"(?:abbrev )?pub (?:unfoldable )?(?:record |data )?({NAME})(?=[ :]|$)", line):
-                current = name[1]
-                self.definitions[current] = [" ".join(comment), line]
-                comment = []
-            elif current:
-                self.definitions[current][1] += "\n" + line
+            if line.lstrip().startswith("-- "):
+                comment.append(line.strip().lstrip("- "))
             elif not line.strip():
                 self.sentence = self.sentence or " ".join(comment)
                 comment = []
+            elif line.startswith("use "):
+                self.sentence = self.sentence or " ".join(comment)
+                self.imports.update(imported(line))
+                self.aliases.update(alias_of(line))
+            elif GROUP.match(line):
+                inside, comment = True, []
+            elif name := self.begun(line, inside):
+                current = name
+                self.definitions[current] = [" ".join(comment), line]
+                comment = []
+                inside = inside and line.startswith(" ")
+            elif current:
+                self.definitions[current][1] += "\n" + line
+                comment = []
+
+    @staticmethod
+    def begun(line, inside):
+        """The definition that begins here: at the left edge, or one step in where definitions stand in a group."""
+        found = re.match(rf"(  )?(?:abbrev |unfoldable )*pub (?:abbrev |unfoldable )*(?:record |data )?({NAME})(?=[ :]|$)", line)
+        return found[2] if found and found[2] != "mod" and (inside or not found[1]) else None
+
+    def cited(self, definition):
+        """Each definition that this one names, as its crate, module and own name."""
+        text = self.definitions[definition][1]
+        for alias, word in re.findall(rf"(?<![\w.])(\w+)\.({NAME})", text):
+            if alias in self.aliases:
+                yield (*self.aliases[alias], word)
+        for word in re.findall(NAME, text):
+            if word in self.definitions:
+                yield (self.crate, self.name(), word)
+            elif word in self.imports:
+                yield self.imports[word]
+
+    def name(self):
+        return ".".join(self.path.relative_to(CRATES / self.crate / "specs").with_suffix("").parts)
 
 
 def joined_imports(text):
@@ -118,6 +145,14 @@ def imported(line):
         return {}
     names = [name.strip().partition(" as ") for name in found[3].split(",")]
     return {(new or old).strip(): (found[1], found[2], old.strip()) for old, _, new in names}
+
+
+def alias_of(line):
+    """The name that a line `use Rattle.CRATE.specs.MODULE [as NAME]` gives a whole module."""
+    found = re.match(r"use Rattle\.(\w+)\.specs\.([\w.]+?)(?: as (\w+))?$", line)
+    if not found or found[2].startswith("declared"):
+        return {}
+    return {found[3] or found[2].split(".")[-1]: (found[1], found[2])}
 
 
 class Reading:
@@ -146,11 +181,8 @@ class Reading:
         if definition in met or definition not in module.definitions:
             return
         met.append(definition)
-        for word in re.findall(NAME, module.definitions[definition][1]):
-            if word in module.definitions:
-                self.meet(crate, name, word)
-            elif word in module.imports:
-                self.meet(*module.imports[word])
+        for place in module.cited(definition):
+            self.meet(*place)
 
     def page(self):
         lines = [
