@@ -20,7 +20,7 @@ use Rattle.job_laws.specs.Laws.{KeepsLaws}
 use Rattle.job_laws.specs.Truth.{SaysTrue, RepliesAreTrue}
 use Rattle.hub_core.specs.declared.held.Acted.{Acted}
 use Rattle.hub_core.specs.declared.held.Held.{Held}
-use Rattle.hub_core.specs.Hubs.{journal_of, entry_of}
+use Rattle.hub_core.specs.Hubs.{journal_of, entry_of, FitsRun, StopsRun}
 
 true_is_not_false : true ≡ false → ⊥
 true_is_not_false h = cc
@@ -76,9 +76,9 @@ pub fits_call : AnswersFit → (before : List Entry) (lane : ℕ) (run : Option 
     → IfOk result (λ acted. InRange acted.reply)
     → IfOk result (λ acted. answer_of before lane run call ≡ Ready acted.reply)
     → IsTrue (fits (opening before) (own_entries lane before) lane run call)
-    → is_for_lane call ≡ false → is_finish call ≡ false → IfOk result (λ acted. FitsCall call acted.reply)
-fits_call fit before lane run call (Err held) range answered may ours more = tt
-fits_call fit before lane run call (Ok acted) range answered may ours more =
+    → IfOk result (λ acted. FitsRun call acted.reply)
+fits_call fit before lane run call (Err held) range answered may = tt
+fits_call fit before lane run call (Ok acted) range answered may = λ ours more.
     fits_run fit before lane run call acted.reply range answered may ours more
 
 -- the entry that was put, and what is known of it
@@ -92,8 +92,8 @@ module _ (before after : List Entry) (lane : ℕ) (run : Option ℕ) (call : Cal
   says truth (Ok acted) h put = truth before [] (entry_of lane run call acted.reply) (subst IsLegal put h)
 
   -- it is Halt, or the call is Finish, where the run was asked to stop
-  pub stops : KeepsLaws after → (result : Result Acted Held) → Put result → (k : ℕ) → run ≡ Some k → is_asked k before ≡ true
-      → IfOk result (λ acted. (acted.reply ≡ Halt) ⊎ (is_finish call ≡ true))
-  stops laws (Err held) put k by asked = tt
-  stops laws (Ok acted) put k by asked =
+  pub stops : KeepsLaws after → (result : Result Acted Held) → Put result
+      → IfOk result (λ acted. StopsRun before run call acted.reply)
+  stops laws (Err held) put = tt
+  stops laws (Ok acted) put = λ k by asked.
       laws.stops_when_asked before [] (entry_of lane run call acted.reply) k put by asked

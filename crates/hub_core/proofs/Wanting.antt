@@ -1,5 +1,5 @@
 -- Which calls may be refused for want of memory.
-use Rattle.std.proofs.Common.{◌≡◌, ℕ, zero, suc, ◌≤◌, ◌∙◌, Bool, true, false, List, Option, Some, None, ◌⊎◌, inl, inr, refl, sym, ap, subst, arith}
+use Rattle.std.proofs.Common.{◌≡◌, ℕ, zero, suc, ◌≤◌, ◌∙◌, Bool, true, false, List, Option, Some, None, inl, inr, refl, sym, ap, subst, arith}
 use Rattle.std.specs.Prelude.{IsTrue, IsOk, IfErr, Result, Ok, Err, if◌then◌else◌}
 use Rattle.mos_text.specs.declared.fault_kind.FaultKind.TheVariants as kind
 use Rattle.job_calls.specs.declared.call.Call.{Call}
@@ -10,7 +10,7 @@ use Rattle.job_calls.specs.declared.reply.Answer.TheVariants.{Ready}
 use Rattle.job_calls.specs.declared.reply.Answer.TheVariants as answer
 use Rattle.job_calls.specs.declared.reply.Reply.{Reply}
 use Rattle.job_calls.specs.declared.reply.Reply.TheVariants.{Halt}
-use Rattle.job_calls.specs.Answers.{answer_of, answer_to_run, open_answer, acknowledge, fault, is_full, table_answer, wait_answer, peek_answer}
+use Rattle.job_calls.specs.Answers.{answer_of, answer_to_run, open_answer, fault, is_full, table_answer, wait_answer, peek_answer}
 use Rattle.job_calls.specs.Events.{Event, first_event, front}
 use Rattle.job_calls.specs.Models.{is_asked}
 use Rattle.job_calls.specs.Replies.{is_plain}

@@ -1,4 +1,4 @@
--- Which calls are answered without memory, once there is room for one more entry; which may be refused for want of it.
+-- Which calls are answered without memory, once there is room for one more entry.
 
 use Rattle.std.specs.Prelude.{◌≡◌, ℕ, Bool, true, false, ◌⊎◌}
 use Rattle.job_calls.specs.declared.call.Call.{Call}

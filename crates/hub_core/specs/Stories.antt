@@ -1,34 +1,30 @@
--- What a hub says of a lane's calls under the lock: each a call of a run, or of the lane for itself.
+-- What a hub says of a lane's calls under the lock, for itself or for the run that it holds.
 
-use Rattle.std.specs.Prelude.{◌≡◌, ℕ, true, false, List, [], ◌∷◌, Option, Some, None, IsTrue, ◌⊎◌}
+use Rattle.std.specs.Prelude.{◌≡◌, ℕ, true, false, List, Option, Some, None, IsTrue, ◌⊎◌}
 use Rattle.job_calls.specs.declared.entry.Entry.{Entry}
-use Rattle.job_calls.specs.declared.reply.Answer.TheVariants as answer
-use Rattle.job_calls.specs.declared.reply.Reply.TheVariants.{Halt}
-use Rattle.job_calls.specs.Answers.{answer_of}
-use Rattle.job_calls.specs.Fitting.{fits, is_for_lane}
-use Rattle.job_calls.specs.Models.{is_asked}
-use Rattle.job_calls.specs.Replies.{FitsCall}
+use Rattle.job_calls.specs.Fitting.{fits}
 use Rattle.job_calls.specs.Runs.{Opening, opening_of}
-use Rattle.job_calls.specs.Words.{is_finish}
 use Rattle.job_laws.specs.Truth.{SaysTrue}
 use Rattle.hub_core.specs.declared.held.Acted.{Acted}
 use Rattle.hub_core.specs.declared.held.Held.{Held}
 use Rattle.hub_core.specs.declared.held.Held.TheVariants.{NotYet, Shut, NoMemory}
 use Rattle.hub_core.specs.declared.story.HubCall.{HubCall}
 use Rattle.hub_core.specs.declared.story.HubHeld.{HubHeld}
-use Rattle.hub_core.specs.Hubs.{entry_of, IsHeldBack}
+use Rattle.hub_core.specs.Hubs.{entry_of, IsAnswered, FitsRun, StopsRun, IsHeldBack}
 
 -- the call is answered so, by the journal before it, and its reply fits and says what is true
-pub record AnswersCall (journal : List Entry) (lane : ℕ) (call : HubCall) (entry : Entry) (acted : Acted) : Type 0 where
+pub record AnswersCall (journal : List Entry) (lane : ℕ) (call : HubCall) (entry : Entry) (acted : Acted)
+    : Type 0 where
   pub entry_is : entry ≡ entry_of lane call.run call.call acted.reply
-  pub answered : answer_of journal lane call.run call.call ≡ answer.Ready acted.reply
-  pub fits_call : is_for_lane call.call ≡ false → is_finish call.call ≡ false → FitsCall call.call acted.reply
+  pub answered : IsAnswered journal lane call.run call.call acted.reply
+  pub fits_call : FitsRun call.call acted.reply
   pub says_true : SaysTrue journal call.run call.call acted.reply
-  pub stops : (k : ℕ) → call.run ≡ Some k → is_asked k journal ≡ true → (acted.reply ≡ Halt) ⊎ (is_finish call.call ≡ true)
+  pub stops : StopsRun journal call.run call.call acted.reply
 
 -- why the call was handed back
 abbrev pub RefusesCall : List Entry → ℕ → HubCall → HubHeld → Type 0
-RefusesCall journal lane call held = (held.run ≡ call.run) × IsHeldBack journal lane call.run call.call held.held
+RefusesCall journal lane call held =
+    (held.run ≡ call.run) × IsHeldBack journal lane call.run call.call held.held
 
 -- what the first entry opened
 abbrev pub opened_by : Option Entry → Option Opening

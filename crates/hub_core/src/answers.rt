@@ -1,18 +1,17 @@
-//! The hub's answer to a call: one function for each row of the table, and the rules before it. What they ask of
-//! the journal they look up.
+//! The hub's answer to a call: one function for each row of the table, and the rules before it. What
+//! they ask of the journal they look up.
 ghost use Rattle.std.specs.Prelude.{◌≡◌, ℕ, ◌+◌, not, None, is_some, nat_lt, IfOk, IsOk, IsTrue};
 ghost use Rattle.job_calls.specs.Answers as answers;
-ghost use Rattle.job_calls.specs.Runs as runs;
 ghost use Rattle.job_calls.specs.Models as models;
 ghost use Rattle.job_calls.specs.Events as events;
 ghost use Rattle.job_calls.specs.declared.call.Call.TheVariants.{PipeOpen};
 ghost use Rattle.job_calls.specs.declared.reply.Answer.TheVariants.{Ready};
 ghost use Rattle.job_calls.specs.declared.reply.Reply.TheVariants.{Flag, Found};
 ghost use Rattle.job_calls.specs.Files.{data_of};
-ghost use Rattle.job_calls.specs.Blocks.{last_written};
 ghost use Rattle.job_calls.specs.Pipes.{session};
 ghost use Rattle.hub_words.specs.Small.{IsSmall};
 ghost use Rattle.hub_core.specs.Room.{takes_no_memory};
+ghost use Rattle.hub_core.specs.Rows.{answer_with_run, answer_to_read};
 
 use hub_words::{Lookups, exit_code};
 use job_calls::{Answer, Call, End, Reply, Way};
@@ -33,7 +32,7 @@ fn acknowledge() -> Answer
 
 /// The lane is given run k.
 fn give_run<J: Lookups>(alloc: Global, journal: &J, k: u32) -> Result<Answer, NoMemory>
-    ensures { IfOk result (λ answer. answer ≡ answers.give_run k (runs.source_of k (J.list journal.now)) (runs.params_of k (J.list journal.now))) }
+    ensures { IfOk result (λ answer. answer ≡ answer_with_run k (J.list journal.now)) }
 {
     let Some(source) = journal.source_of(k) else {
         return Ok(Answer::NotYet);
@@ -267,7 +266,7 @@ fn data_answer<J: Lookups>(journal: &J, name: &Text) -> Result<Answer, NoMemory>
 
 fn read_answer<J: Lookups>(journal: &J, name: &Text) -> Result<Answer, NoMemory>
     requires { IsSmall (J.list journal.now) }
-    ensures { IfOk result (λ answer. answer ≡ answers.read_answer (last_written name.now (J.list journal.now)) (data_of name.now (J.list journal.now))) }
+    ensures { IfOk result (λ answer. answer ≡ answer_to_read name.now (J.list journal.now)) }
 {
     match journal.last_written(name) {
         Some((place, bytes)) => found(place, bytes),

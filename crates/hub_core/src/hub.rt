@@ -33,20 +33,16 @@ impl Model for Hub {
 }
 
 impl Hub {
-    ghost use Rattle.std.specs.Prelude.{◌≡◌, ℕ, ◌<◌, ◌≤◌, ◌+◌, [], ◌∷◌, ◌++◌, ◌⊎◌, false, true, length, Some, None, IfOk, IfErr, IsOk, OnOk, OnErr, IsTrue};
-    ghost use Rattle.job_calls.specs.declared.call.Call.TheVariants.{Open};
-    ghost use Rattle.job_calls.specs.declared.reply.Answer.TheVariants.{Ready};
-    ghost use Rattle.job_calls.specs.declared.reply.Reply.TheVariants.{Opened, Halt};
-    ghost use Rattle.job_calls.specs.Answers as answers;
-    ghost use Rattle.job_calls.specs.Fitting as fitting;
-    ghost use Rattle.job_calls.specs.Models.{is_asked};
-    ghost use Rattle.job_calls.specs.Replies.{FitsCall, is_plain};
-    ghost use Rattle.job_calls.specs.Runs.{Opening, opening};
-    ghost use Rattle.job_calls.specs.Words.{own_entries, is_finish};
+    ghost use Rattle.std.specs.Prelude.{◌≡◌, ℕ, ◌<◌, ◌≤◌, ◌+◌, length, IfOk, IfErr, IsOk, OnOk, OnErr, IsTrue};
+    ghost use Rattle.job_calls.specs.Fitting.{fits};
+    ghost use Rattle.job_calls.specs.Replies.{is_plain};
+    ghost use Rattle.job_calls.specs.Runs.{opening};
+    ghost use Rattle.job_calls.specs.Words.{own_entries};
     ghost use Rattle.job_calls.specs.Legal.{CanOpen, IsLegal};
     ghost use Rattle.job_laws.specs.Truth.{SaysTrue};
     ghost use Rattle.job_laws.specs.Laws.{KeepsLaws};
-    ghost use Rattle.hub_core.specs.Hubs.{journal_of, spare_of, entry_of, IsHeldBack, LacksMemory};
+    ghost use Rattle.hub_core.specs.Hubs.{journal_of, spare_of, opened_with, first_journal, with_entry};
+    ghost use Rattle.hub_core.specs.Hubs.{MayMake, IsAnswered, FitsRun, StopsRun, IsHeldBack, LacksMemory};
 
     /// A hub whose journal is the `Open` alone.
     pub fn new(
@@ -56,8 +52,8 @@ impl Hub {
         params: Text,
         files: Items<Listed>,
     ) -> Result<Hub, NoMemory>
-        requires { CanOpen (record { lanes = lanes; budget = budget; params = params; files = files }) }
-        ensures opened { IfOk result (λ hub. journal_of hub ≡ entry_of 0 None (Open lanes budget params files) Opened ∷ []) }
+        requires { CanOpen (opened_with lanes budget params files) }
+        ensures opened { IfOk result (λ hub. journal_of hub ≡ first_journal lanes budget params files) }
         ensures legal { IfOk result (λ hub. IsLegal (journal_of hub)) }
     {
         let call = Call::Open {
@@ -92,7 +88,7 @@ impl Hub {
 
     /// Whether the lane may make this call, for itself or for the run.
     pub fn fits(&self, lane: u32, run: Option<u32>, call: &Call) -> bool
-        ensures { result ≡ fitting.fits (opening (journal_of self.now)) (own_entries lane (journal_of self.now)) lane run call.now }
+        ensures { result ≡ fits (opening (journal_of self.now)) (own_entries lane (journal_of self.now)) lane run call.now }
     {
         self.entries.fits(lane, run, call)
     }
@@ -126,9 +122,9 @@ impl Hub {
     /// Answers the call by what the journal says, and puts both at its end; or hands the call back, and
     /// the journal stays as it was.
     pub fn act(&mut self, lane: u32, run: Option<u32>, call: Call) -> Result<Acted, Held>
-        requires { IsTrue (fitting.fits (opening (journal_of self.old)) (own_entries lane (journal_of self.old)) lane run call) }
-        ensures answered { IfOk result (λ acted. answers.answer_of (journal_of self.old) lane run call ≡ Ready acted.reply) }
-        ensures put { IfOk result (λ acted. journal_of self.new ≡ journal_of self.old ++ entry_of lane run call acted.reply ∷ []) }
+        requires { MayMake (journal_of self.old) lane run call }
+        ensures answered { IfOk result (λ acted. IsAnswered (journal_of self.old) lane run call acted.reply) }
+        ensures put { IfOk result (λ acted. journal_of self.new ≡ with_entry (journal_of self.old) lane run call acted.reply) }
         ensures place { IfOk result (λ acted. acted.place.0 ≡ length (journal_of self.old)) }
         ensures held { IfErr result (λ held. IsHeldBack (journal_of self.old) lane run call held) }
         ensures room { IfErr result (λ held. LacksMemory (spare_of self.old) call held) }
@@ -136,9 +132,9 @@ impl Hub {
         ensures legal { IsLegal (journal_of self.new) }
         ensures spare { spare_of self.old ≤ spare_of self.new + 1 }
         ensures kept { OnErr result (spare_of self.old ≤ spare_of self.new) }
-        ensures fits_call { fitting.is_for_lane call ≡ false → is_finish call ≡ false → IfOk result (λ acted. FitsCall call acted.reply) }
+        ensures fits_call { IfOk result (λ acted. FitsRun call acted.reply) }
         ensures says_true { IfOk result (λ acted. SaysTrue (journal_of self.old) run call acted.reply) }
-        ensures stops { (k : ℕ) → run ≡ Some k → is_asked k (journal_of self.old) ≡ true → IfOk result (λ acted. (acted.reply ≡ Halt) ⊎ (is_finish call ≡ true)) }
+        ensures stops { IfOk result (λ acted. StopsRun (journal_of self.old) run call acted.reply) }
         ensures laws { KeepsLaws (journal_of self.new) }
         ensures few { length (journal_of self.new) < 1100000 }
     {
@@ -153,9 +149,9 @@ impl Hub {
 
     /// Answers the call, and puts it with its reply at the end of the journal.
     fn serve(&mut self, lane: u32, run: Option<u32>, call: Call) -> Result<Acted, Held>
-        requires { IsTrue (fitting.fits (opening (journal_of self.old)) (own_entries lane (journal_of self.old)) lane run call) }
-        ensures answered { IfOk result (λ acted. answers.answer_of (journal_of self.old) lane run call ≡ Ready acted.reply) }
-        ensures put { IfOk result (λ acted. journal_of self.new ≡ journal_of self.old ++ entry_of lane run call acted.reply ∷ []) }
+        requires { MayMake (journal_of self.old) lane run call }
+        ensures answered { IfOk result (λ acted. IsAnswered (journal_of self.old) lane run call acted.reply) }
+        ensures put { IfOk result (λ acted. journal_of self.new ≡ with_entry (journal_of self.old) lane run call acted.reply) }
         ensures place { IfOk result (λ acted. acted.place.0 ≡ length (journal_of self.old)) }
         ensures held { IfErr result (λ held. IsHeldBack (journal_of self.old) lane run call held) }
         ensures room { IfErr result (λ held. LacksMemory (spare_of self.old) call held) }
@@ -176,10 +172,10 @@ impl Hub {
 
     /// Puts a call with its reply at the end of the journal.
     fn put(&mut self, lane: u32, run: Option<u32>, call: Call, reply: Reply) -> Result<Acted, Held>
-        requires fit { IsTrue (fitting.fits (opening (journal_of self.old)) (own_entries lane (journal_of self.old)) lane run call) }
-        requires answer { answers.answer_of (journal_of self.old) lane run call ≡ Ready reply }
-        ensures answered { IfOk result (λ acted. answers.answer_of (journal_of self.old) lane run call ≡ Ready acted.reply) }
-        ensures put { IfOk result (λ acted. journal_of self.new ≡ journal_of self.old ++ entry_of lane run call acted.reply ∷ []) }
+        requires fit { MayMake (journal_of self.old) lane run call }
+        requires answer { IsAnswered (journal_of self.old) lane run call reply }
+        ensures answered { IfOk result (λ acted. IsAnswered (journal_of self.old) lane run call acted.reply) }
+        ensures put { IfOk result (λ acted. journal_of self.new ≡ with_entry (journal_of self.old) lane run call acted.reply) }
         ensures place { IfOk result (λ acted. acted.place.0 ≡ length (journal_of self.old)) }
         ensures held { IfErr result (λ held. IsHeldBack (journal_of self.old) lane run call held) }
         ensures room { 1 ≤ spare_of self.old → IsTrue (is_plain reply) → IsOk result }

@@ -1,4 +1,5 @@
-//! The hub as the story of a lock: lanes call it one after the other, each for itself or for the run that it holds.
+//! The hub as the story of a lock: lanes call it one after the other, each for itself or for the run
+//! that it holds.
 use crate::held::{Acted, Held};
 use crate::hub::Hub;
 use hub_lock::Story;

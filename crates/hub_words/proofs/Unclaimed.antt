@@ -1,5 +1,5 @@
 -- The search for the least run that no lane was given, a step at a time.
-use Rattle.std.proofs.Common.{◌≡◌, ◌<◌, ℕ, ◌+◌, ◌-◌, suc, zero, true, false, List, Option, Some, None, sym, ap, ◌∙◌, arith, cond, refl}
+use Rattle.std.proofs.Common.{◌≡◌, ◌<◌, ℕ, ◌+◌, ◌-◌, suc, true, false, List, Some, None, sym, ap, ◌∙◌, arith, cond}
 use Rattle.job_calls.specs.declared.entry.Entry.{Entry}
 use Rattle.job_calls.specs.Words.{is_claimed, first_unclaimed}
 

@@ -1,7 +1,7 @@
 //! Blocks and files: what was last written under a name.
 ghost use Rattle.std.specs.Prelude.{◌≡◌, ◌<◌, ◌^◌, ℕ, length, None, Some, IfSome, MatchOption};
 ghost use Rattle.job_calls.specs.Blocks as blocks;
-ghost use Rattle.job_calls.specs.Blocks.{Written};
+ghost use Rattle.hub_words.specs.Fronts.{IsWritten};
 
 use crate::given::last_place;
 use job_calls::{Call, Entry, Reply};
@@ -37,7 +37,7 @@ fn bytes_written(call: &Call) -> Option<&SharedBlob>
 /// What the entry at this place wrote.
 fn written_at(place: usize, journal: &[Entry]) -> Option<(u32, &SharedBlob)>
     requires { place < 2 ^ 31 }
-    ensures { MatchOption result (blocks.written_at place journal.now ≡ None) (λ w. blocks.written_at place journal.now ≡ Some record { place = w.0; bytes = w.1.now }) }
+    ensures { MatchOption result (blocks.written_at place journal.now ≡ None) (λ w. IsWritten (blocks.written_at place journal.now) w.0 w.1.now) }
 {
     match journal.get(place) {
         None => None,
@@ -49,12 +49,9 @@ fn written_at(place: usize, journal: &[Entry]) -> Option<(u32, &SharedBlob)>
 }
 
 /// What was last written under this name, and the place of the entry that wrote it.
-pub(crate) fn last_written<'a>(
-    name: &Text,
-    journal: &'a [Entry],
-) -> Option<(u32, &'a SharedBlob)>
+pub(crate) fn last_written<'a>(name: &Text, journal: &'a [Entry]) -> Option<(u32, &'a SharedBlob)>
     requires { length journal.now < 2 ^ 31 }
-    ensures { MatchOption result (blocks.last_written name.now journal.now ≡ None) (λ w. blocks.last_written name.now journal.now ≡ Some record { place = w.0; bytes = w.1.now }) }
+    ensures { MatchOption result (blocks.last_written name.now journal.now ≡ None) (λ w. IsWritten (blocks.last_written name.now journal.now) w.0 w.1.now) }
 {
     match last_write(name, journal) {
         None => None,

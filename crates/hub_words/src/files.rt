@@ -1,11 +1,12 @@
 //! The files that the job was opened with.
-ghost use Rattle.std.specs.Prelude.{◌≡◌, ℕ, ◌<◌, ◌^◌, ◌&&◌, [], length, find, position, IfSome, option_copied, bytes_eq, if◌then◌else◌};
+ghost use Rattle.std.specs.Prelude.{◌≡◌, ℕ, ◌<◌, ◌^◌, [], length, find, position, IfSome, option_copied, bytes_eq};
 ghost use Rattle.std.specs.Option.{option_map_or};
 ghost use Rattle.job_calls.specs.Files as listing;
+ghost use Rattle.hub_words.specs.Fronts.{has_name};
 ghost use Rattle.job_calls.specs.Runs.{Opening, opening_of};
 
 use job_calls::{Call, Entry, Listed};
-use mos_text::{SharedBlob, Text};
+use mos_text::{SharedBlob, Text, is_image_name, is_source_name};
 
 fn opened_files(call: &Call) -> &[Listed]
     ensures { result.now ≡ option_map_or (λ (o : Opening). o.files) (opening_of call.now) [] }
@@ -44,41 +45,23 @@ pub(crate) fn lanes_of(journal: &[Entry]) -> u32
     }
 }
 
-/// The name ends in these bytes.
-fn has_ending(ending: &[u8], name: &Text) -> bool
-    ensures { result ≡ listing.has_ending ending.now name.now }
-{
-    let bytes = name.as_bytes();
-    &bytes[bytes.len().saturating_sub(ending.len())..] == ending
-}
-
-/// The name is a source's.
-pub fn is_source(name: &Text) -> bool
-    ensures { result ≡ listing.is_source name.now }
-{
-    has_ending(b".mos", name)
-}
-
-/// The name is an image's.
-pub fn is_image(name: &Text) -> bool
-    ensures { result ≡ listing.is_image name.now }
-{
-    has_ending(b".bim", name)
-}
-
 fn is_data(name: &Text) -> bool
     ensures { result ≡ listing.is_data name.now }
 {
-    !is_source(name) && !is_image(name)
+    !is_source_name(name) && !is_image_name(name)
 }
 
 /// The listed file of this name, if it is a source, or if it is a data file.
 fn listed<'a>(source: bool, name: &Text, files: &'a [Listed]) -> Option<&'a Listed>
-    ensures { option_copied result ≡ find (λ file. bytes_eq file.name name.now && (if source then listing.is_source file.name else listing.is_data file.name)) files.now }
+    ensures { option_copied result ≡ find (has_name source name.now) files.now }
 {
     files.iter().find(|file| {
         file.name.as_bytes() == name.as_bytes()
-            && if source { is_source(&file.name) } else { is_data(&file.name) }
+            && if source {
+                is_source_name(&file.name)
+            } else {
+                is_data(&file.name)
+            }
     })
 }
 

@@ -1,6 +1,6 @@
-//! Words on a journal, which the hub's answers look up: how many runs there are, which of them are live, who holds
-//! a pipe. `Lookups` says them, each by the definition that it computes; a journal as a plain list finds them by
-//! scanning.
+//! Words on a journal, which the hub's answers look up: how many runs there are, which of them are
+//! live, who holds a pipe. `Lookups` says them, each by the definition that it computes; a journal
+//! as a plain list finds them by scanning.
 #![tactic(auto)]
 
 mod blocks;
@@ -18,5 +18,4 @@ mod weights;
 mod words;
 
 pub use events::{Event, exit_code};
-pub use files::{is_image, is_source};
 pub use lookups::Lookups;

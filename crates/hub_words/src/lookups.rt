@@ -1,5 +1,5 @@
 //! What the hub's answers look up in a journal: each method gives one word on the list of its entries.
-ghost use Rattle.std.specs.Prelude.{◌≡◌, ◌<◌, ◌^◌, ℕ, List, Some, None, length, option_map, option_copied, IfOk, MatchOption};
+ghost use Rattle.std.specs.Prelude.{◌≡◌, ◌<◌, ◌^◌, ℕ, List, None, length, option_map, option_copied, IfOk, MatchOption};
 ghost use Rattle.job_calls.specs.declared.entry.Entry.{Entry};
 ghost use Rattle.job_calls.specs.Words as words;
 ghost use Rattle.job_calls.specs.Runs as runs;
@@ -10,7 +10,7 @@ ghost use Rattle.job_calls.specs.Blocks as blocks;
 ghost use Rattle.job_calls.specs.Pipes as pipes;
 ghost use Rattle.job_calls.specs.Answers as answers;
 ghost use Rattle.job_calls.specs.Fitting as fitting;
-ghost use Rattle.hub_words.specs.Fronts.{event_value};
+ghost use Rattle.hub_words.specs.Fronts.{event_value, IsWritten};
 ghost use Rattle.hub_words.specs.Small.{IsSmall};
 
 use crate::events::Event;
@@ -121,7 +121,7 @@ pub trait Lookups {
     /// What was last written under this name, and the place of the entry that wrote it.
     fn last_written(&self, name: &Text) -> Option<(u32, &SharedBlob)>
         requires { IsSmall (list self.now) }
-        ensures { MatchOption result (blocks.last_written name.now (list self.now) ≡ None) (λ w. blocks.last_written name.now (list self.now) ≡ Some record { place = w.0; bytes = w.1.now }) };
+        ensures { MatchOption result (blocks.last_written name.now (list self.now) ≡ None) (λ w. IsWritten (blocks.last_written name.now (list self.now)) w.0 w.1.now) };
 
     /// The place of the first event that the run has not taken.
     fn first_event(&self, run: u32) -> Option<u32>

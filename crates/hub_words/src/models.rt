@@ -7,9 +7,9 @@ ghost use Rattle.std.specs.List.{list_any};
 ghost use Rattle.job_calls.specs.Runs as runs;
 ghost use Rattle.job_calls.specs.Files.{files_of};
 
-use crate::jobs::{is_finished, run_count};
 use crate::files::file_at;
 use crate::given::last_given;
+use crate::jobs::{is_finished, run_count};
 use crate::words::is_run;
 use job_calls::{Call, End, Entry, Reply};
 use mos_text::Text;

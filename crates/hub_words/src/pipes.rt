@@ -190,9 +190,8 @@ fn taken_by<'a>(name: &Text, call: &Call, reply: &'a Reply) -> &'a [u8]
     ensures { result.now ≡ pipes.taken_by name.now call.now reply.now }
 {
     match (call, reply) {
-        (Call::PipeTake { name: taken }, Reply::Bytes(bytes)) if taken.as_bytes() == name.as_bytes() => {
-            bytes.as_bytes()
-        }
+        (Call::PipeTake { name: taken }, Reply::Bytes(bytes))
+            if taken.as_bytes() == name.as_bytes() => { bytes.as_bytes() }
         _ => &[],
     }
 }

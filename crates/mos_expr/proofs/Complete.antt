@@ -1,3 +1,5 @@
+-- What the words of an expression come to: the expression read whole, in the same frames.
+
 use Rattle.std.proofs.Common.{◌≡◌, ℕ, ◌+◌, ◌≤◌, max, true, false, nat_le, List, [], ◌∷◌, ◌++◌, Option, Some, None, refl, sym, ◌∙◌, ap, subst, arith, append_assoc}
 use Rattle.std.proofs.lemmas.List.{append-nil}
 use Rattle.std.proofs.lemmas.Bool.{le-leb}
@@ -25,10 +27,8 @@ use Rattle.mos_expr.specs.declared.frame.IndexKind.TheVariants as i
 use Rattle.mos_expr.specs.declared.frame.Frame.{Frame}
 use Rattle.mos_expr.specs.declared.frame.Frame.TheVariants as f
 use Rattle.mos_expr.specs.declared.frame.Mode.TheVariants as m
-use Rattle.mos_expr.proofs.Values.{whole, parts_at, groups_at, ready_at, group_of, bracketed-whole, convert-whole, choice-whole, counted-whole, parts-whole, call-whole, call_field-whole, set-whole, list-whole, groups-whole, ready-whole, such-whole}
+use Rattle.mos_expr.proofs.Values.{whole, parts_at, groups_at, index_at, group_of, bracketed-whole, convert-whole, if_expr-whole, counted-whole, parts-whole, call-whole, call_field-whole, set-whole, list-whole, groups-whole, index-whole, conditioned-whole}
 use Rattle.mos_expr.proofs.Steps.{or_right, Follows, follows-part, follows-operator, level-9, left-binds, Fits, fits-less, pops-before, pops-between, pops-body, stays-fits, reads-operator, name-ends, call-ends}
-
--- What the words of an expression come to: the expression read whole, in the same frames.
 
 -- nothing that takes part in an expression comes next
 abbrev pub Closes : List Word → Type 0
@@ -128,8 +128,8 @@ set_frame ps = f.Set ps
 abbrev list_frame : Parts → Frame
 list_frame ps = f.List ps
 
-abbrev pub listed_frame : Parts → Frame
-listed_frame ps = f.BareList ps
+abbrev pub bare_list_frame : Parts → Frame
+bare_list_frame ps = f.BareList ps
 
 in_call : (n : List ℕ) → IsListFrame (call_frame n)
 unfolding step after_key
@@ -143,9 +143,9 @@ in_list : IsListFrame list_frame
 unfolding step after_key
 in_list = record { wide = λ ps. refl; at_comma = λ ps x fs ws. refl }
 
-pub in_listed : IsListFrame listed_frame
+pub in_bare_list : IsListFrame bare_list_frame
 unfolding step after_key
-in_listed = record { wide = λ ps. refl; at_comma = λ ps x fs ws. refl }
+in_bare_list = record { wide = λ ps. refl; at_comma = λ ps x fs ws. refl }
 
 -- behind the last of some expressions, which is not yet among the parts
 pub record ListRead (frame : Parts → Frame) (h : ℕ) (xs : List Expr) (s : Syntax) (ss : Written) (fs : List Frame) (rest : List Word) : Type 0 where
@@ -190,7 +190,7 @@ pub record IndexRead (kind : IndexKind) (h : ℕ) (gs : List (Group Expr)) (over
   pub last : Operand
   pub top : Frame
   pub reads_to : read (m.WantName kind (groups_at h gs) []) fs (spell_over over ++ rest) ≡ read (m.After last) (top ∷ fs) rest
-  pub ends : IndexEnds kind top last (ready_at (max h (height_over over)) (record { groups = gs ++ groups_of over; condition = condition_of over }))
+  pub ends : IndexEnds kind top last (index_at (max h (height_over over)) (record { groups = gs ++ groups_of over; condition = condition_of over }))
 
 reads-names : (kind : IndexKind) (groups : Groups) (ns : Names) (before_names : List (List ℕ)) (fs : List Frame) (ws : List Word) → read (m.WantName kind groups before_names) fs (spell_names ns ++ w.Key t.In ∷ ws) ≡ read m.Want (f.IndexSet kind groups (before_names ++ list_of_names ns) ∷ fs) ws
 unfolding step
@@ -214,22 +214,22 @@ index-closes kind top x ready fs ws ends =
     ap (λ (z : Settled). next_words ws (and_then z (λ y. at_frame t.CloseRound y.0 y.1))) s ∙ ap (next_words ws) (ends.rounds fs)
 
 -- the last set of an index
-set_ends : (kind : IndexKind) (h : ℕ) (gs : List (Group Expr)) (names : List (List ℕ)) (s : Syntax) → level s ≤ 5 → IndexEnds kind (f.IndexSet kind (groups_at h gs) names) (whole s) (ready_at (max h (height s + 1)) (record { groups = gs ++ group_of names s ∷ []; condition = None }))
+set_ends : (kind : IndexKind) (h : ℕ) (gs : List (Group Expr)) (names : List (List ℕ)) (s : Syntax) → level s ≤ 5 → IndexEnds kind (f.IndexSet kind (groups_at h gs) names) (whole s) (index_at (max h (height s + 1)) (record { groups = gs ++ group_of names s ∷ []; condition = None }))
 set_ends kind h gs names s l =
     let t : nat_le (level s) 5 ≡ true = le-leb (level s) 5 l in
-    let made : o.whole_index_of (o.groups_with (groups_at h gs) names (whole s)) ≡ ready_at (max h (height s + 1)) (record { groups = gs ++ group_of names s ∷ []; condition = None }) = ap o.whole_index_of (groups-whole h gs names s) ∙ ready-whole (max h (height s + 1)) (gs ++ group_of names s ∷ []) in
+    let made : o.whole_index_of (o.groups_with (groups_at h gs) names (whole s)) ≡ index_at (max h (height s + 1)) (record { groups = gs ++ group_of names s ∷ []; condition = None }) = ap o.whole_index_of (groups-whole h gs names s) ∙ index-whole (max h (height s + 1)) (gs ++ group_of names s ∷ []) in
     record {
       open_still = refl;
       rounds = λ fs. rw t (ap (λ r. index_read kind r fs) made);
-      loops = λ is. subst (λ k. last_of_index (whole s) (f.IndexSet k (groups_at h gs) names) ≡ Some (ready_at (max h (height s + 1)) (record { groups = gs ++ group_of names s ∷ []; condition = None }))) (sym is) (rw t (ap (λ r. Some r) made));
+      loops = λ is. subst (λ k. last_of_index (whole s) (f.IndexSet k (groups_at h gs) names) ≡ Some (index_at (max h (height s + 1)) (record { groups = gs ++ group_of names s ∷ []; condition = None }))) (sym is) (rw t (ap (λ r. Some r) made));
     }
 
 -- the condition of an index
-condition_ends : (kind : IndexKind) (h : ℕ) (gs : List (Group Expr)) (s : Syntax) → IndexEnds kind (f.IndexCondition kind (groups_at h gs)) (whole s) (ready_at (max h (height s)) (record { groups = gs; condition = Some (tree s) }))
+condition_ends : (kind : IndexKind) (h : ℕ) (gs : List (Group Expr)) (s : Syntax) → IndexEnds kind (f.IndexCondition kind (groups_at h gs)) (whole s) (index_at (max h (height s)) (record { groups = gs; condition = Some (tree s) }))
 condition_ends kind h gs s = record {
   open_still = refl;
-  rounds = λ fs. ap (λ r. index_read kind r fs) (such-whole h gs s);
-  loops = λ is. subst (λ k. last_of_index (whole s) (f.IndexCondition k (groups_at h gs)) ≡ Some (ready_at (max h (height s)) (record { groups = gs; condition = Some (tree s) }))) (sym is) (ap (λ r. Some r) (such-whole h gs s));
+  rounds = λ fs. ap (λ r. index_read kind r fs) (conditioned-whole h gs s);
+  loops = λ is. subst (λ k. last_of_index (whole s) (f.IndexCondition k (groups_at h gs)) ≡ Some (index_at (max h (height s)) (record { groups = gs; condition = Some (tree s) }))) (sym is) (ap (λ r. Some r) (conditioned-whole h gs s));
 }
 
 -- a bar behind a set
@@ -247,12 +247,12 @@ reads-comma kind h gs names s fs ws l =
     rw t (ap (λ q. read (m.WantName kind q []) fs ws) (groups-whole h gs names s))
 
 -- more groups, of which the first is already among those before
-more_ends : (kind : IndexKind) (top : Frame) (x : Operand) (h k n : ℕ) (gs more : List (Group Expr)) (one : Group Expr) (condition : Option Expr) → IndexEnds kind top x (ready_at (max (max h k) n) (record { groups = gs ++ one ∷ [] ++ more; condition = condition })) → IndexEnds kind top x (ready_at (max h (max k n)) (record { groups = gs ++ one ∷ more; condition = condition }))
+more_ends : (kind : IndexKind) (top : Frame) (x : Operand) (h k n : ℕ) (gs more : List (Group Expr)) (one : Group Expr) (condition : Option Expr) → IndexEnds kind top x (index_at (max (max h k) n) (record { groups = gs ++ one ∷ [] ++ more; condition = condition })) → IndexEnds kind top x (index_at (max h (max k n)) (record { groups = gs ++ one ∷ more; condition = condition }))
 more_ends kind top x h k n gs more one condition ends =
     let p : max (max h k) n ≡ max h (max k n) = omega arith in
     let q : gs ++ one ∷ [] ++ more ≡ gs ++ one ∷ more = append_assoc gs (one ∷ []) more in
-    subst (λ a. IndexEnds kind top x (ready_at a (record { groups = gs ++ one ∷ more; condition = condition }))) p
-    (subst (λ b. IndexEnds kind top x (ready_at (max (max h k) n) (record { groups = b; condition = condition }))) q ends)
+    subst (λ a. IndexEnds kind top x (index_at a (record { groups = gs ++ one ∷ more; condition = condition }))) p
+    (subst (λ b. IndexEnds kind top x (index_at (max (max h k) n) (record { groups = b; condition = condition }))) q ends)
 
 -- ---- expressions without parts
 
@@ -335,7 +335,7 @@ mutual
       ∙ reads x (f.IfExpr ∷ fs) (w.Key t.Comma ∷ (spell y ++ w.Key t.Comma ∷ (spell z ++ w.Key t.CloseRound ∷ rest))) g.0 (level-9 x) (closes-comma (spell y ++ w.Key t.Comma ∷ (spell z ++ w.Key t.CloseRound ∷ rest)) x)
       ∙ reads y (f.IfFirst (whole x) ∷ fs) (w.Key t.Comma ∷ (spell z ++ w.Key t.CloseRound ∷ rest)) g.1 (level-9 y) (closes-comma (spell z ++ w.Key t.CloseRound ∷ rest) y)
       ∙ reads z (f.IfSecond (whole x) (whole y) ∷ fs) (w.Key t.CloseRound ∷ rest) g.2 (level-9 z) (closes-round rest z)
-      ∙ ap (λ v. read (m.After v) fs rest) (choice-whole x y z)
+      ∙ ap (λ v. read (m.After v) fs rest) (if_expr-whole x y z)
   reads (convert to s) fs rest g l h =
       conversion-begins to fs ((spell s ++ key t.CloseRound) ++ rest)
       ∙ ap (read m.Want (f.Convert to ∷ fs)) (append_assoc (spell s) (key t.CloseRound) rest)
@@ -357,9 +357,9 @@ mutual
       aggregate-begins p fs ((spell_over over ++ w.Key t.CloseRound ∷ spell s) ++ rest)
       ∙ ap (read (m.WantName (i.Aggregate p) o.no_groups []) fs) (append_assoc (spell_over over) (w.Key t.CloseRound ∷ spell s) rest)
       ∙ r.reads_to
-      ∙ index-closes (i.Aggregate p) r.top r.last (ready_at (max 0 (height_over over)) (index_of over)) fs (spell s ++ rest) r.ends
-      ∙ ap (λ k. read m.Want (f.Body p (ready_at k (index_of over)) ∷ fs) (spell s ++ rest)) zero
-      ∙ reads s (f.Body p (ready_at (height_over over) (index_of over)) ∷ fs) rest g.2 g.0 (follows-part (aggregate p over s) s rest (λ op e. or_right _ (takes s op) e) h)
+      ∙ index-closes (i.Aggregate p) r.top r.last (index_at (max 0 (height_over over)) (index_of over)) fs (spell s ++ rest) r.ends
+      ∙ ap (λ k. read m.Want (f.Body p (index_at k (index_of over)) ∷ fs) (spell s ++ rest)) zero
+      ∙ reads s (f.Body p (index_at (height_over over) (index_of over)) ∷ fs) rest g.2 g.0 (follows-part (aggregate p over s) s rest (λ op e. or_right _ (takes s op) e) h)
       ∙ pops-body p over s fs rest g.0 h
   reads (counted over) fs rest g l h =
       let r : IndexRead i.Count 0 [] over fs (w.Key t.CloseRound ∷ rest) = reads_over i.Count 0 [] over fs (w.Key t.CloseRound ∷ rest) g (closes-round rest) in
@@ -367,8 +367,8 @@ mutual
       count-begins fs ((spell_over over ++ key t.CloseRound) ++ rest)
       ∙ ap (read (m.WantName i.Count o.no_groups []) fs) (append_assoc (spell_over over) (key t.CloseRound) rest)
       ∙ r.reads_to
-      ∙ index-closes i.Count r.top r.last (ready_at (max 0 (height_over over)) (index_of over)) fs rest r.ends
-      ∙ ap (λ k. read (m.After (o.counted_of (ready_at k (index_of over)))) fs rest) zero
+      ∙ index-closes i.Count r.top r.last (index_at (max 0 (height_over over)) (index_of over)) fs rest r.ends
+      ∙ ap (λ k. read (m.After (o.counted_of (index_at k (index_of over)))) fs rest) zero
       ∙ ap (λ y. read (m.After y) fs rest) (counted-whole (height_over over) (index_of over))
 
   reads_rest : (frame : Parts → Frame) → IsListFrame frame → (h : ℕ) (xs : List Expr) (s : Syntax) (ss : Written) (fs : List Frame) (rest : List Word) → AreGrouped ss → Closes rest → ListRead frame h xs s ss fs rest
@@ -416,7 +416,7 @@ mutual
         ∙ reads x (f.IndexCondition kind (groups_at (max h (height s + 1)) (gs ++ group_of (list_of_names ns) s ∷ [])) ∷ fs) rest g.2 (level-9 x) (c x);
     ends =
         let p : max (max h (height s + 1)) (height x) ≡ max h (max (height s + 1) (height x)) = omega arith in
-        subst (λ q. IndexEnds kind (f.IndexCondition kind (groups_at (max h (height s + 1)) (gs ++ group_of (list_of_names ns) s ∷ []))) (whole x) (ready_at q (record { groups = gs ++ group_of (list_of_names ns) s ∷ []; condition = Some (tree x) }))) p (condition_ends kind (max h (height s + 1)) (gs ++ group_of (list_of_names ns) s ∷ []) x);
+        subst (λ q. IndexEnds kind (f.IndexCondition kind (groups_at (max h (height s + 1)) (gs ++ group_of (list_of_names ns) s ∷ []))) (whole x) (index_at q (record { groups = gs ++ group_of (list_of_names ns) s ∷ []; condition = Some (tree x) }))) p (condition_ends kind (max h (height s + 1)) (gs ++ group_of (list_of_names ns) s ∷ []) x);
   }
   reads_over kind h gs (another ns s over) fs rest g c =
       let r : IndexRead kind (max h (height s + 1)) (gs ++ group_of (list_of_names ns) s ∷ []) over fs rest = reads_over kind (max h (height s + 1)) (gs ++ group_of (list_of_names ns) s ∷ []) over fs rest g.2 c in

@@ -1,3 +1,5 @@
+-- What the open frames hold: the words that were read, and what they spell so far.
+
 use Rattle.std.proofs.Common.{◌≡◌, ℕ, ◌+◌, ◌≤◌, max, false, List, [], ◌∷◌, ◌++◌, Some, None, refl, sym, ◌∙◌, ap, arith, append_assoc}
 use Rattle.mos_tree.specs.declared.expr.Expr.{Expr}
 use Rattle.mos_tree.specs.declared.expr.Group.{Group}
@@ -18,9 +20,7 @@ use Rattle.mos_expr.specs.declared.frame.Frame.{Frame}
 use Rattle.mos_expr.specs.declared.frame.Frame.TheVariants as f
 use Rattle.mos_expr.specs.declared.frame.Mode.{Mode}
 use Rattle.mos_expr.specs.declared.frame.Mode.TheVariants as m
-use Rattle.mos_expr.proofs.Values.{whole, parts_at, groups_at, ready_at, group_of, parts-whole, groups-whole}
-
--- What the open frames hold: the words that were read, and what they spell so far.
+use Rattle.mos_expr.proofs.Values.{whole, parts_at, groups_at, index_at, group_of, parts-whole, groups-whole}
 
 -- ---- what is begun
 
@@ -148,7 +148,7 @@ pub record LastSet (groups : Groups) : Type 0 where
 pub record SpelledIndex (ready : WholeIndex) : Type 0 where
   pub over : Over
   pub grouped : IsGroupedOver over
-  pub is : ready ≡ ready_at (height_over over) (index_of over)
+  pub is : ready ≡ index_at (height_over over) (index_of over)
 
 -- expressions between brackets
 pub record WholeParts (parts : Parts) : Type 0 where

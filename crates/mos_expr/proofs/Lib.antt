@@ -1,4 +1,5 @@
 pub mod Complete
+pub mod Ending
 pub mod Holds
 pub mod Nodes
 pub mod Sizes

@@ -1,20 +1,16 @@
 -- A tree has no more nodes than its words are many.
 
-use Rattle.std.proofs.Common.{◌≡◌, ℕ, ◌+◌, ◌≤◌, true, false, List, [], ◌∷◌, ◌++◌, length, Option, Some, None, refl, sym, ◌∙◌, ap, subst, arith, length-append}
+use Rattle.std.proofs.Common.{◌≡◌, ℕ, ◌+◌, ◌≤◌, true, false, List, [], ◌∷◌, ◌++◌, length, refl, ap, arith, length-append}
 use Rattle.std.specs.Prelude.{option_map}
-use Rattle.mos_tree.specs.declared.expr.Expr.{Expr}
-use Rattle.mos_tree.specs.declared.expr.Group.{Group}
 use Rattle.mos_tree.specs.declared.expr.BinaryOperator.{BinaryOperator}
 use Rattle.mos_tree.specs.declared.expr.BinaryOperator.TheVariants as b
-use Rattle.mos_tree.specs.declared.expr.Index.{Index}
 use Rattle.mos_tree.specs.Nodes.{nodes, nodes_in, nodes_in_groups, nodes_in_index, nodes_of_condition}
 use Rattle.mos_scan.specs.declared.token.TokenKind.{TokenKind}
 use Rattle.mos_scan.specs.declared.token.TokenKind.TheVariants as t
 use Rattle.mos_scan.specs.declared.reading.Word.{Word}
 use Rattle.mos_scan.specs.declared.reading.Word.TheVariants as w
 use Rattle.mos_expr.proofs.Nodes as form
-use Rattle.mos_expr.specs.Grammar.{Leaf, number, text, truth, name, returned, field, Names, one_name, and_name, Syntax, leaf, call, call_field, set, list, bracket, if_expr, convert, before, between, aggregate, counted, Written, no_more, one_more, Over, last_set, such_that, another, spell_leaf, spell_before, spell_between, spell_aggregate, spell_conversion, spell_names, spell, spell_list, spell_rest, spell_over, tree_of_leaf, list_of_names, tree, trees, index_of, groups_of, condition_of}
-use Rattle.mos_expr.specs.Said.{IsExpression, AreExpressions, IsIndex}
+use Rattle.mos_expr.specs.Grammar.{Leaf, number, text, truth, name, returned, field, Names, Syntax, leaf, call, call_field, set, list, bracket, if_expr, convert, before, between, aggregate, counted, Written, no_more, one_more, Over, last_set, such_that, another, spell_leaf, spell_between, spell_names, spell, spell_list, spell_rest, spell_over, tree_of_leaf, list_of_names, tree, trees, index_of, groups_of, condition_of}
 use Rattle.mos_expr.specs.Sizes.{ExpressionIsSmall, ExpressionsAreSmall, IndexIsSmall}
 
 -- a number below another, from what both are

@@ -1,4 +1,6 @@
-use Rattle.std.proofs.Common.{◌≡◌, ℕ, ◌+◌, ◌≤◌, max, Bool, true, false, nat_le, ◌&&◌, ◌||◌, List, [], ◌∷◌, ◌++◌, Option, Some, None, refl, sym, ◌∙◌, ap, subst, arith, append_assoc}
+-- What the reader accepts is spelled as the grammar says.
+
+use Rattle.std.proofs.Common.{◌≡◌, ℕ, ◌≤◌, Bool, true, false, nat_le, ◌&&◌, ◌||◌, List, [], ◌∷◌, ◌++◌, Option, Some, None, refl, sym, ◌∙◌, ap, subst, append_assoc}
 use Rattle.std.proofs.lemmas.Bool.{leb-true, and_parts}
 use Rattle.mos_tree.specs.declared.expr.Expr.TheVariants as e
 use Rattle.mos_tree.specs.declared.expr.BinaryOperator.{BinaryOperator}
@@ -8,7 +10,7 @@ use Rattle.mos_scan.specs.declared.token.TokenKind.{TokenKind}
 use Rattle.mos_scan.specs.declared.token.TokenKind.TheVariants as t
 use Rattle.mos_scan.specs.declared.reading.Word.{Word}
 use Rattle.mos_scan.specs.declared.reading.Word.TheVariants as w
-use Rattle.mos_expr.specs.Grammar.{Leaf, number, text, truth, name, returned, field, Names, one_name, Syntax, leaf, call, call_field, set, list, bracket, if_expr, convert, before, between, aggregate, counted, no_more, one_more, Over, last_set, such_that, level, level_before, level_body, binds, left_of, right_of, takes, tree, trees, height, heights, height_over, groups_of, index_of, IsGrouped, key, spell, spell_between, spell_aggregate, spell_conversion, spell_names, spell_list, spell_over, list_of_names}
+use Rattle.mos_expr.specs.Grammar.{Leaf, number, text, truth, name, returned, field, Names, one_name, Syntax, leaf, call, call_field, set, list, bracket, if_expr, convert, before, between, aggregate, counted, no_more, one_more, Over, last_set, such_that, level, level_before, level_body, binds, left_of, right_of, takes, trees, heights, height_over, index_of, IsGrouped, key, spell, spell_between, spell_aggregate, spell_conversion, spell_names, spell_list, spell_over, list_of_names}
 use Rattle.mos_expr.specs.Machine.{State, Settled, and_then, folds, room, settled, placed, at_frame, after_key, mode_behind, index_read, at_round, at_curly, at_square, at_comma, at_bar, close, infix_at, state_of}
 use Rattle.mos_expr.specs.Reader.{step, read, want, want_key, aggregate_key, want_first, first_key, want_open, open_index, want_in, want_name, after_name, dotted, dotted_call, after, named, called, at_end}
 use Rattle.mos_expr.specs.Operands as o
@@ -22,80 +24,14 @@ use Rattle.mos_expr.specs.declared.frame.Frame.{Frame}
 use Rattle.mos_expr.specs.declared.frame.Frame.TheVariants as f
 use Rattle.mos_expr.specs.declared.frame.Mode.{Mode}
 use Rattle.mos_expr.specs.declared.frame.Mode.TheVariants as m
-use Rattle.mos_expr.proofs.Values.{on_bool, whole, parts_at, ready_at, group_of, bracketed-whole, convert-whole, choice-whole, before-whole, between-whole, aggregate-whole, counted-whole, parts-whole, call-whole, call_field-whole, set-whole, list-whole, groups-whole, ready-whole, such-whole}
+use Rattle.mos_expr.proofs.Values.{on_bool, whole, bracketed-whole, convert-whole, if_expr-whole, before-whole, between-whole, aggregate-whole, counted-whole, call-whole, call_field-whole, set-whole, list-whole}
 use Rattle.mos_expr.proofs.Complete.{three-parts}
-use Rattle.mos_expr.proofs.Holds.{Whole, PartsBefore, SetsBefore, LastSet, SpelledIndex, WholeParts, no_parts_before, part_before, no_names_before, name_before, no_sets_before, set_before, begin_index, Holds, HoldsFirst, Stands, Good, GoodOperand}
-
--- What the reader accepts is spelled as the grammar says.
+use Rattle.mos_expr.proofs.Ending.{parts_done, parts_words, no_parts_done, set_done, set_before_condition, condition_done, set_words, condition_words}
+use Rattle.mos_expr.proofs.Holds.{Whole, PartsBefore, SetsBefore, SpelledIndex, WholeParts, no_parts_before, part_before, no_names_before, name_before, no_sets_before, set_before, begin_index, Holds, HoldsFirst, Stands, Good, GoodOperand}
 
 -- all words stand as they did, with what is left written otherwise
 moved : (fs : List Frame) (x y all : List Word) → x ≡ y → Holds fs x all → Holds fs y all
 moved fs x y all e h = subst (λ ws. Holds fs ws all) e h
-
--- ---- whole parts and whole indexes
-
--- the last of some parts
-abbrev pub parts_done : (parts : Parts) (p : PartsBefore parts) (s : Syntax) → IsGrouped s → WholeParts (o.parts_with parts (whole s))
-parts_done parts p s g = record {
-  written = p.with_more (one_more s no_more);
-  grouped = p.grouped (one_more s no_more) (g, tt);
-  is =
-      ap (λ q. o.parts_with q (whole s)) p.is ∙ parts-whole p.h p.xs s
-      ∙ ap (λ k. parts_at k (p.xs ++ tree s ∷ [])) (let e : max p.h (height s) ≡ max p.h (max (height s) 0) = omega arith in e ∙ sym (p.high (one_more s no_more)))
-      ∙ ap (λ xs. parts_at (heights (p.with_more (one_more s no_more))) xs) (sym (p.made (one_more s no_more)));
-}
-
-pub parts_words : (parts : Parts) (p : PartsBefore parts) (s : Syntax) (rest : List Word) → p.words (spell s ++ rest) ≡ spell_list (p.with_more (one_more s no_more)) ++ rest
-parts_words parts p s rest = sym (p.spelled s no_more rest)
-
-abbrev no_parts_done : WholeParts o.no_parts
-no_parts_done = record { written = no_more; grouped = tt; is = refl }
-
--- an index whose last set has no condition
-abbrev pub set_done : (groups : Groups) (sets : SetsBefore groups) (ns : Names) (s : Syntax) → level s ≤ 5 → IsGrouped s → SpelledIndex (o.whole_index_of (o.groups_with groups (list_of_names ns) (whole s)))
-set_done groups sets ns s l g = record {
-  over = sets.with_more (last_set ns s);
-  grouped = sets.grouped (last_set ns s) (l, g);
-  is =
-      ap (λ q. o.whole_index_of (o.groups_with q (list_of_names ns) (whole s))) sets.is
-      ∙ ap o.whole_index_of (groups-whole sets.h sets.gs (list_of_names ns) s)
-      ∙ ready-whole (max sets.h (height s + 1)) (sets.gs ++ group_of (list_of_names ns) s ∷ [])
-      ∙ ap (λ k. ready_at k (record { groups = sets.gs ++ group_of (list_of_names ns) s ∷ []; condition = None })) (sym (sets.high (last_set ns s)))
-      ∙ ap (λ gs. ready_at (height_over (sets.with_more (last_set ns s))) (record { groups = gs; condition = None })) (sym (sets.made (last_set ns s)))
-      ∙ ap (λ x. ready_at (height_over (sets.with_more (last_set ns s))) (record { groups = groups_of (sets.with_more (last_set ns s)); condition = x })) (sym (sets.condition (last_set ns s)));
-}
-
--- the last set of an index, whose condition comes next
-abbrev set_before_condition : (groups : Groups) (sets : SetsBefore groups) (ns : Names) (s : Syntax) → level s ≤ 5 → IsGrouped s → LastSet (o.groups_with groups (list_of_names ns) (whole s))
-set_before_condition groups sets ns s l g = record {
-  earlier = groups;
-  sets = sets;
-  names = ns;
-  syntax = s;
-  tight = l;
-  grouped = g;
-  is = ap (λ q. o.groups_with q (list_of_names ns) (whole s)) sets.is ∙ groups-whole sets.h sets.gs (list_of_names ns) s;
-}
-
--- an index with its condition
-abbrev pub condition_done : (groups : Groups) (last : LastSet groups) (x : Syntax) → IsGrouped x → SpelledIndex (o.conditioned_index_of groups (whole x))
-condition_done groups last x g =
-    record {
-      over = last.sets.with_more (such_that last.names last.syntax x);
-      grouped = last.sets.grouped (such_that last.names last.syntax x) (last.tight, last.grouped, g);
-      is =
-          ap (λ q. o.conditioned_index_of q (whole x)) last.is
-          ∙ such-whole (max last.sets.h (height last.syntax + 1)) (last.sets.gs ++ group_of (list_of_names last.names) last.syntax ∷ []) x
-          ∙ ap (λ k. ready_at k (record { groups = last.sets.gs ++ group_of (list_of_names last.names) last.syntax ∷ []; condition = Some (tree x) })) (let e : max (max last.sets.h (height last.syntax + 1)) (height x) ≡ max last.sets.h (max (height last.syntax + 1) (height x)) = omega arith in e ∙ sym (last.sets.high (such_that last.names last.syntax x)))
-          ∙ ap (λ gs. ready_at (height_over (last.sets.with_more (such_that last.names last.syntax x))) (record { groups = gs; condition = Some (tree x) })) (sym (last.sets.made (such_that last.names last.syntax x)))
-          ∙ ap (λ y. ready_at (height_over (last.sets.with_more (such_that last.names last.syntax x))) (record { groups = groups_of (last.sets.with_more (such_that last.names last.syntax x)); condition = y })) (sym (last.sets.condition (such_that last.names last.syntax x)));
-    }
-
-pub set_words : (ns : Names) (s : Syntax) (rest : List Word) → spell_names ns ++ w.Key t.In ∷ (spell s ++ rest) ≡ spell_over (last_set ns s) ++ rest
-set_words ns s rest = sym (append_assoc (spell_names ns) (w.Key t.In ∷ spell s) rest)
-
-pub condition_words : (ns : Names) (s x : Syntax) (rest : List Word) → spell_names ns ++ w.Key t.In ∷ (spell s ++ w.Key t.Bar ∷ (spell x ++ rest)) ≡ spell_over (such_that ns s x) ++ rest
-condition_words ns s x rest = simp append_assoc
 
 -- ---- what is whole, in an operand
 
@@ -232,7 +168,7 @@ rounds (f.Call n ps) fs s rest all g h =
     (parts_done ps h.0 s g, moved fs _ _ all (ap (λ z. w.Name n ∷ w.Key t.OpenRound ∷ z) (parts_words ps h.0 s (w.Key t.CloseRound ∷ rest))) h.1)
 rounds (f.IfSecond a c) fs s rest all g h =
     after_stands (if_expr h.0.syntax h.1.syntax s) (o.if_expr_of a c (whole s)) fs rest all (h.0.grouped, h.1.grouped, g)
-    (ap (λ x. o.if_expr_of x c (whole s)) h.0.is ∙ ap (λ x. o.if_expr_of (whole h.0.syntax) x (whole s)) h.1.is ∙ choice-whole h.0.syntax h.1.syntax s) (λ op. refl)
+    (ap (λ x. o.if_expr_of x c (whole s)) h.0.is ∙ ap (λ x. o.if_expr_of (whole h.0.syntax) x (whole s)) h.1.is ∙ if_expr-whole h.0.syntax h.1.syntax s) (λ op. refl)
     (moved fs _ _ all (ap (λ z. w.Key t.If ∷ w.Key t.OpenRound ∷ z) (sym (three-parts (spell h.0.syntax) (spell h.1.syntax) (spell s) rest))) h.2)
 rounds (f.Convert to) fs s rest all g h =
     after_stands (convert to s) (o.convert_of to (whole s)) fs rest all g (convert-whole to s) (λ op. refl)

@@ -1,3 +1,5 @@
+-- What the reader holds of an expression that it has read whole.
+
 use Rattle.std.proofs.Common.{◌≡◌, ℕ, ◌+◌, ◌<◌, ◌≤◌, min, max, Bool, true, false, nat_le, if◌then◌else◌, List, [], ◌∷◌, ◌++◌, Option, Some, None, refl, sym, ◌∙◌, ap, arith}
 use Rattle.std.proofs.lemmas.Bool.{leb-true, leb-false}
 use Rattle.mos_tree.specs.declared.expr.Expr.{Expr}
@@ -14,8 +16,6 @@ use Rattle.mos_expr.specs.declared.operand.Operand.{Operand}
 use Rattle.mos_expr.specs.declared.operand.Parts.{Parts}
 use Rattle.mos_expr.specs.declared.operand.Groups.{Groups}
 use Rattle.mos_expr.specs.declared.operand.WholeIndex.{WholeIndex}
-
--- What the reader holds of an expression that it has read whole.
 
 abbrev pub capped : ℕ → ℕ
 capped h = min h 501
@@ -36,8 +36,8 @@ parts_at h xs = record { height = capped h; items = tree_at h xs }
 abbrev pub groups_at : ℕ → List (Group Expr) → Groups
 groups_at h gs = record { height = capped h; items = tree_at h gs }
 
-abbrev pub ready_at : ℕ → Index Expr → WholeIndex
-ready_at h index = record { height = capped h; index = tree_at h index }
+abbrev pub index_at : ℕ → Index Expr → WholeIndex
+index_at h index = record { height = capped h; index = tree_at h index }
 
 -- ---- what is low enough
 
@@ -125,8 +125,8 @@ bracketed-whole s = node-whole (capped (height s)) (height s) (tree_at (height s
 pub convert-whole : (to : Conversion) (s : Syntax) → o.convert_of to (whole s) ≡ whole (convert to s)
 convert-whole to s = node-whole (capped (height s)) (height s) (o.map1 (o.converted to) (tree_at (height s) (tree s))) (e.Convert to (tree s)) refl (one_at (o.converted to) (height s) (tree s))
 
-pub choice-whole : (x y z : Syntax) → o.if_expr_of (whole x) (whole y) (whole z) ≡ whole (if_expr x y z)
-choice-whole x y z =
+pub if_expr-whole : (x y z : Syntax) → o.if_expr_of (whole x) (whole y) (whole z) ≡ whole (if_expr x y z)
+if_expr-whole x y z =
     node-whole _ (max (height x) (max (height y) (height z))) _ (e.If (tree x) (tree y) (tree z))
     (ap (λ h. max (capped (height x)) h) (max-capped (height y) (height z)) ∙ max-capped (height x) (max (height y) (height z)))
     (three_at o.if_expr (height x) (height y) (height z) (tree x) (tree y) (tree z))
@@ -140,13 +140,13 @@ between-whole op x y =
     (max-capped (height x) (height y))
     (two_at (o.binary op) (height x) (height y) (tree x) (tree y))
 
-pub aggregate-whole : (op : AggregateOperator) (h : ℕ) (index : Index Expr) (s : Syntax) → o.aggregate_of op (ready_at h index) (whole s) ≡ operand_at 1 (max h (height s) + 1) (e.Aggregate op index (tree s))
+pub aggregate-whole : (op : AggregateOperator) (h : ℕ) (index : Index Expr) (s : Syntax) → o.aggregate_of op (index_at h index) (whole s) ≡ operand_at 1 (max h (height s) + 1) (e.Aggregate op index (tree s))
 aggregate-whole op h index s =
     node-whole (max (capped h) (capped (height s))) (max h (height s)) (o.map2 (o.aggregate op) (tree_at h index) (tree_at (height s) (tree s))) (e.Aggregate op index (tree s))
     (max-capped h (height s))
     (two_at (o.aggregate op) h (height s) index (tree s))
 
-pub counted-whole : (h : ℕ) (index : Index Expr) → o.counted_of (ready_at h index) ≡ operand_at 1 (h + 1) (e.Count index)
+pub counted-whole : (h : ℕ) (index : Index Expr) → o.counted_of (index_at h index) ≡ operand_at 1 (h + 1) (e.Count index)
 counted-whole h index = node-whole (capped h) h (o.count (tree_at h index)) (e.Count index) refl (one_at (λ i. e.Count i) h index)
 
 -- ---- lists of parts
@@ -192,10 +192,10 @@ groups-whole h gs names s =
     ∙ ap (λ x. groups_and (capped (max h (height s + 1))) (o.map2 (o.grouped names) (tree_at h gs) x)) (kept_at (height s) (tree s))
     ∙ ap (groups_and (capped (max h (height s + 1)))) (two_at (o.grouped names) h (height s + 1) gs (tree s))
 
-pub ready-whole : (h : ℕ) (gs : List (Group Expr)) → o.whole_index_of (groups_at h gs) ≡ ready_at h (record { groups = gs; condition = None })
-ready-whole h gs = ap (ready_and (capped h)) (one_at (λ g. index_and g None) h gs)
+pub index-whole : (h : ℕ) (gs : List (Group Expr)) → o.whole_index_of (groups_at h gs) ≡ index_at h (record { groups = gs; condition = None })
+index-whole h gs = ap (ready_and (capped h)) (one_at (λ g. index_and g None) h gs)
 
-pub such-whole : (h : ℕ) (gs : List (Group Expr)) (s : Syntax) → o.conditioned_index_of (groups_at h gs) (whole s) ≡ ready_at (max h (height s)) (record { groups = gs; condition = Some (tree s) })
-such-whole h gs s =
+pub conditioned-whole : (h : ℕ) (gs : List (Group Expr)) (s : Syntax) → o.conditioned_index_of (groups_at h gs) (whole s) ≡ index_at (max h (height s)) (record { groups = gs; condition = Some (tree s) })
+conditioned-whole h gs s =
     ap (λ k. ready_and k (o.map2 o.conditioned (tree_at h gs) (tree_at (height s) (tree s)))) (max-capped h (height s))
     ∙ ap (ready_and (capped (max h (height s)))) (two_at o.conditioned h (height s) gs (tree s))

@@ -1,4 +1,6 @@
-use Rattle.std.proofs.Common.{◌≡◌, ℕ, ◌<◌, ◌≤◌, max, nat_le, if◌then◌else◌, length, List, [], ◌∷◌, ◌++◌, Option, Some, None, Result, Ok, Err, IfOk, refl, sym, ◌∙◌, ap, subst, arith}
+-- What the public calls say, from what all words come to.
+
+use Rattle.std.proofs.Common.{◌≡◌, ℕ, ◌<◌, ◌≤◌, max, nat_le, length, List, [], ◌∷◌, ◌++◌, Option, Some, None, Result, Ok, Err, IfOk, refl, sym, ◌∙◌, ap, subst, arith}
 use Rattle.std.proofs.lemmas.Bool.{leb-true}
 use Rattle.std.proofs.lemmas.List.{append-nil}
 use Rattle.mos_tree.specs.declared.expr.Expr.{Expr}
@@ -21,12 +23,11 @@ use Rattle.mos_expr.specs.declared.operand.WholeIndex.{WholeIndex}
 use Rattle.mos_expr.specs.declared.frame.IndexKind.TheVariants as i
 use Rattle.mos_expr.specs.declared.frame.Frame.TheVariants as f
 use Rattle.mos_expr.specs.declared.frame.Mode.TheVariants as m
-use Rattle.mos_expr.proofs.Values.{on_bool, whole, parts_at, ready_at, tree_at, low, high, by_height}
-use Rattle.mos_expr.proofs.Complete.{reads, Begins, begins, reads_list, reads_over, IndexRead, WholeListRead, listed_frame, in_listed, closes-end}
+use Rattle.mos_expr.proofs.Values.{on_bool, whole, parts_at, index_at, tree_at, low, high, by_height}
+use Rattle.mos_expr.proofs.Complete.{reads, Begins, begins, reads_list, reads_over, IndexRead, WholeListRead, bare_list_frame, in_bare_list, closes-end}
 use Rattle.mos_expr.proofs.Holds.{Whole, SetsBefore, LastSet, WholeParts, SpelledIndex, GoodOperand, no_parts_before, no_sets_before, no_names_before}
-use Rattle.mos_expr.proofs.Sound.{reads_good, parts_done, parts_words, set_done, set_words, condition_done, condition_words}
-
--- What the public calls say, from what all words come to.
+use Rattle.mos_expr.proofs.Ending.{parts_done, parts_words, set_done, set_words, condition_done, condition_words}
+use Rattle.mos_expr.proofs.Sound.{reads_good}
 
 abbrev ok_of : {T : Type 0} → T → Result T ExprFault
 ok_of made = Ok made
@@ -148,7 +149,7 @@ parts_read : (words : List Word) (ss : Written) → AreSpelled words ss → part
 parts_read words no_more k = ap parts_of k.exact
 parts_read words (one_more s ss) k =
     let b : Begins s = begins s in
-    let r : WholeListRead listed_frame (one_more s ss) [] [] = reads_list listed_frame in_listed s ss [] [] k.grouped closes-end in
+    let r : WholeListRead bare_list_frame (one_more s ss) [] [] = reads_list bare_list_frame in_bare_list s ss [] [] k.grouped closes-end in
     parts_some words b.word (b.words ++ spell_rest ss) (k.exact ∙ ap (λ z. z ++ spell_rest ss) b.spelled)
     ∙ ap ends_listed (ap (read m.Want (f.BareList o.no_parts ∷ [])) (k.exact ∙ sym (append-nil (spell_list (one_more s ss)))) ∙ r.reads_to)
     ∙ ap (λ z. Some z) r.all
@@ -211,8 +212,8 @@ ends_index st = and_then st (λ z. and_then (only_frame z.1) (λ g. last_of_inde
 abbrev IsSpelledIndex : List Word → WholeIndex → Type 0
 IsSpelledIndex words ready = (a : SpelledIndex ready) × (words ≡ spell_over a.over)
 
-within_good : (words : List Word) (groups : Groups) (names : List (List ℕ)) (s : Syntax) (sets : SetsBefore groups) (ns : Names) → names ≡ list_of_names ns → IsGrouped s → words ≡ sets.words (spell_names ns ++ w.Key t.In ∷ (spell s ++ [])) → (ready : WholeIndex) → last_of_index (whole s) (f.IndexSet i.Loop groups names) ≡ Some ready → IsSpelledIndex words ready
-within_good words groups names s sets ns n g h ready e = on_bool (nat_le (level s) 5)
+set_good : (words : List Word) (groups : Groups) (names : List (List ℕ)) (s : Syntax) (sets : SetsBefore groups) (ns : Names) → names ≡ list_of_names ns → IsGrouped s → words ≡ sets.words (spell_names ns ++ w.Key t.In ∷ (spell s ++ [])) → (ready : WholeIndex) → last_of_index (whole s) (f.IndexSet i.Loop groups names) ≡ Some ready → IsSpelledIndex words ready
+set_good words groups names s sets ns n g h ready e = on_bool (nat_le (level s) 5)
     (λ l.
     let p : Some (o.whole_index_of (o.groups_with groups names (whole s))) ≡ Some ready = rw l at e in
     let q : o.whole_index_of (o.groups_with groups names (whole s)) ≡ ready = cc in
@@ -221,8 +222,8 @@ within_good words groups names s sets ns n g h ready e = on_bool (nat_le (level 
     (d, h ∙ ap sets.words (set_words ns s []) ∙ sym (sets.spelled (last_set ns s) []) ∙ append-nil (spell_over d.over)))
     (λ l. let p : None ≡ Some ready = rw l at e in cc)
 
-such_good : (words : List Word) (groups : Groups) (s : Syntax) (last : LastSet groups) → IsGrouped s → words ≡ last.sets.words (spell_names last.names ++ w.Key t.In ∷ (spell last.syntax ++ w.Key t.Bar ∷ (spell s ++ []))) → IsSpelledIndex words (o.conditioned_index_of groups (whole s))
-such_good words groups s last g h =
+condition_good : (words : List Word) (groups : Groups) (s : Syntax) (last : LastSet groups) → IsGrouped s → words ≡ last.sets.words (spell_names last.names ++ w.Key t.In ∷ (spell last.syntax ++ w.Key t.Bar ∷ (spell s ++ []))) → IsSpelledIndex words (o.conditioned_index_of groups (whole s))
+condition_good words groups s last g h =
     let d : SpelledIndex (o.conditioned_index_of groups (whole s)) = condition_done groups last s g in
     (d, h ∙ ap last.sets.words (condition_words last.names last.syntax s []) ∙ sym (last.sets.spelled (such_that last.names last.syntax s) []) ∙ append-nil (spell_over d.over))
 
@@ -230,12 +231,12 @@ index_good : (words : List Word) (st : Settled) → GoodOperand st [] words → 
 index_good words None h ready e = cc
 index_good words (Some (v, [])) h ready e = cc
 index_good words (Some (v, f.IndexSet i.Loop groups names ∷ [])) h ready e =
-    within_good words groups names h.0.syntax h.1.0 h.1.1 h.1.2 h.0.grouped h.1.3 ready (subst (λ z. last_of_index z (f.IndexSet i.Loop groups names) ≡ Some ready) h.0.is e)
+    set_good words groups names h.0.syntax h.1.0 h.1.1 h.1.2 h.0.grouped h.1.3 ready (subst (λ z. last_of_index z (f.IndexSet i.Loop groups names) ≡ Some ready) h.0.is e)
 index_good words (Some (v, f.IndexSet (i.Aggregate op) groups names ∷ [])) h ready e = cc
 index_good words (Some (v, f.IndexSet i.Count groups names ∷ [])) h ready e = cc
 index_good words (Some (v, f.IndexCondition i.Loop groups ∷ [])) h ready e =
     let p : o.conditioned_index_of groups v ≡ ready = cc in
-    subst (IsSpelledIndex words) (sym (ap (o.conditioned_index_of groups) h.0.is) ∙ p) (such_good words groups h.0.syntax h.1.0 h.0.grouped h.1.1)
+    subst (IsSpelledIndex words) (sym (ap (o.conditioned_index_of groups) h.0.is) ∙ p) (condition_good words groups h.0.syntax h.1.0 h.0.grouped h.1.1)
 index_good words (Some (v, f.IndexCondition (i.Aggregate op) groups ∷ [])) h ready e = cc
 index_good words (Some (v, f.IndexCondition i.Count groups ∷ [])) h ready e = cc
 index_good words (Some (v, q ∷ [])) h ready e = cc
@@ -245,19 +246,19 @@ index_is_whole : (words : List Word) (ready : WholeIndex) → whole_index_of_wor
 index_is_whole words ready e =
     index_good words (read (m.WantName i.Loop o.no_groups []) [] words) (reads_good words (m.WantName i.Loop o.no_groups []) [] words (no_sets_before, no_names_before, refl)) ready e
 
-index_read : (words : List Word) (over : Over) → IsIndexSpelled words over → whole_index_of_words words ≡ Some (ready_at (height_over over) (index_of over))
+index_read : (words : List Word) (over : Over) → IsIndexSpelled words over → whole_index_of_words words ≡ Some (index_at (height_over over) (index_of over))
 index_read words over k =
     let r : IndexRead i.Loop 0 [] over [] [] = reads_over i.Loop 0 [] over [] [] k.grouped closes-end in
     let open_still : settled r.last (r.top ∷ []) ≡ Some (r.last, r.top ∷ []) = rw (r.ends.open_still) refl in
     let zero : max 0 (height_over over) ≡ height_over over = omega arith in
     ap ends_index (ap (read (m.WantName i.Loop o.no_groups []) []) (k.exact ∙ sym (append-nil (spell_over over))) ∙ r.reads_to ∙ open_still)
     ∙ r.ends.loops refl
-    ∙ ap (λ z. Some (ready_at z (index_of over))) zero
+    ∙ ap (λ z. Some (index_at z (index_of over))) zero
 
 pub says_index : (words : List Word) (q : Option WholeIndex) (r : Result (Index Expr) ExprFault) → whole_index_of_words words ≡ q → r ≡ outcome_of_index q → Says (IsIndex words) r
 says_index words None r e d =
     subst (Says (IsIndex words)) (sym d)
-    (says_none IsGroupedOver spell_over index_of height_over words (λ over g k. let p : None ≡ Some (ready_at (height_over over) (index_of over)) = sym e ∙ index_read words over (record { grouped = g; exact = k }) in cc))
+    (says_none IsGroupedOver spell_over index_of height_over words (λ over g k. let p : None ≡ Some (index_at (height_over over) (index_of over)) = sym e ∙ index_read words over (record { grouped = g; exact = k }) in cc))
 says_index words (Some y) r e d =
     let a : IsSpelledIndex words y = index_is_whole words y e in
     says_kept IsGroupedOver spell_over index_of height_over words r a.0.over a.0.grouped a.1 (d ∙ ap (λ v. outcome_of_index (Some v)) a.0.is)

@@ -23,5 +23,6 @@ pub use building::{with_item, with_name};
 pub use fault::ExprFault;
 pub use laws::{trees_are_small, words_have_one_tree};
 pub use tree::{
-    expression, expression_of_words, expressions_of_words, index_of_words, some_expressions_of_words,
+    expression, expression_of_words, expressions_of_words, index_of_words,
+    some_expressions_of_words,
 };

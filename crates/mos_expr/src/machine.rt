@@ -1,5 +1,5 @@
 //! Operands and the frames that they end: operators by how tightly they bind.
-ghost use Rattle.std.specs.Prelude.{◌≡◌, IfOk, Some, None, List};
+ghost use Rattle.std.specs.Prelude.{◌≡◌, IfOk};
 ghost use Rattle.mos_expr.specs.Machine as spec;
 
 use crate::frame::Frame;

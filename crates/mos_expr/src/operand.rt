@@ -1,5 +1,5 @@
 //! What has been read of an operand, and the operand that an operator makes of its own.
-ghost use Rattle.std.specs.Prelude.{◌≡◌, ◌≤◌, IfOk, Some};
+ghost use Rattle.std.specs.Prelude.{◌≡◌, IfOk, Some};
 ghost use Rattle.mos_expr.specs.Operands as spec;
 
 use crate::building::boxed;
@@ -218,12 +218,7 @@ pub(crate) fn between_of(
     }
 }
 
-fn if_over(
-    alloc: Global,
-    a: Boxed<Expr>,
-    b: Boxed<Expr>,
-    c: Expr,
-) -> Result<Option<Expr>, NoMemory>
+fn if_over(alloc: Global, a: Boxed<Expr>, b: Boxed<Expr>, c: Expr) -> Result<Option<Expr>, NoMemory>
     ensures { IfOk result (λ made. made ≡ Some (spec.if_expr a b c)) }
 {
     match boxed(alloc, c, (a, b)) {

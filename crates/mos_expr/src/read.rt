@@ -1,5 +1,5 @@
 //! What all words come to.
-ghost use Rattle.std.specs.Prelude.{◌≡◌, [], Some, IfOk, MatchOption};
+ghost use Rattle.std.specs.Prelude.{◌≡◌, [], Some, IfOk};
 ghost use Rattle.mos_expr.specs.Machine as spec;
 ghost use Rattle.mos_expr.specs.Operands as operands;
 ghost use Rattle.mos_expr.specs.Reader as reads;

@@ -1,10 +1,10 @@
 //! What one word does.
-ghost use Rattle.std.specs.Prelude.{◌≡◌, true, false, Some, List, IfOk};
+ghost use Rattle.std.specs.Prelude.{◌≡◌, IfOk};
 ghost use Rattle.mos_expr.specs.Machine as spec;
 ghost use Rattle.mos_expr.specs.Reader as reads;
 
-use crate::frame::{Frame, IndexKind, Mode};
 use crate::building::with_name;
+use crate::frame::{Frame, IndexKind, Mode};
 use crate::machine::{operator_of, place, refuse, settle};
 use crate::operand::{Groups, Operand, Parts, leaf_of};
 use crate::parts::{call_field_of, call_of, list_of, no_groups, no_parts, set_of};

@@ -1,14 +1,12 @@
 //! What the innermost frame makes of an operand at a bracket, a comma or a bar.
-ghost use Rattle.std.specs.Prelude.{◌≡◌, IfOk, Some, List};
+ghost use Rattle.std.specs.Prelude.{◌≡◌, IfOk};
 ghost use Rattle.mos_expr.specs.Machine as spec;
 ghost use Rattle.mos_expr.specs.Operands as operands;
 ghost use Rattle.mos_expr.specs.declared.frame.Frame.TheVariants as f;
 
 use crate::frame::{Frame, IndexKind, Mode};
 use crate::machine::refuse;
-use crate::operand::{
-    Groups, Operand, Parts, WholeIndex, bracketed, convert_of, if_expr_of,
-};
+use crate::operand::{Groups, Operand, Parts, WholeIndex, bracketed, convert_of, if_expr_of};
 use crate::parts::{
     conditioned_index_of, counted_of, groups_with, list_of, parts_with, set_of, whole_index_of,
 };
@@ -80,11 +78,7 @@ fn call_at_comma(
     }
 }
 
-fn set_goes_on(
-    stack: &mut Vec<Frame>,
-    parts: Parts,
-    x: Operand,
-) -> Result<Option<Mode>, NoMemory>
+fn set_goes_on(stack: &mut Vec<Frame>, parts: Parts, x: Operand) -> Result<Option<Mode>, NoMemory>
     ensures { IfOk result (spec.IsStep (spec.want_with (f.Set (operands.parts_with parts x))) stack.old.items stack.new.items) }
 {
     match parts_with(parts, x) {
@@ -93,11 +87,7 @@ fn set_goes_on(
     }
 }
 
-fn list_goes_on(
-    stack: &mut Vec<Frame>,
-    parts: Parts,
-    x: Operand,
-) -> Result<Option<Mode>, NoMemory>
+fn list_goes_on(stack: &mut Vec<Frame>, parts: Parts, x: Operand) -> Result<Option<Mode>, NoMemory>
     ensures { IfOk result (spec.IsStep (spec.want_with (f.List (operands.parts_with parts x))) stack.old.items stack.new.items) }
 {
     match parts_with(parts, x) {
@@ -170,11 +160,7 @@ fn set_at_round(
     }
 }
 
-fn call_at_round(
-    name: SourceText,
-    parts: Parts,
-    x: Operand,
-) -> Result<Option<Mode>, NoMemory>
+fn call_at_round(name: SourceText, parts: Parts, x: Operand) -> Result<Option<Mode>, NoMemory>
     ensures { IfOk result (spec.IsStepAnywhere (spec.at_round (f.Call name parts) x)) }
 {
     match parts_with(parts, x) {

@@ -5,8 +5,8 @@ pub mod Listing
 pub mod Named
 pub mod Opening
 pub mod Parting
-pub mod Reads
 pub mod Routines
 pub mod Sizes
+pub mod Spelled
 pub mod Telling
 pub mod Whole

@@ -1,7 +1,6 @@
 -- A form is no larger than its words are many.
 
-use Rattle.std.proofs.Common.{◌≡◌, ℕ, ◌+◌, ◌≤◌, true, false, nat_le, if◌then◌else◌, Bool, List, [], ◌∷◌, ◌++◌, length, Result, Ok, Err, IfOk, refl, sym, ◌∙◌, ap, subst, arith, length-append}
-use Rattle.mos_tree.specs.declared.statement.Assignment.{Assignment}
+use Rattle.std.proofs.Common.{◌≡◌, ℕ, ◌+◌, ◌≤◌, nat_le, List, [], ◌∷◌, ◌++◌, length, Result, Ok, Err, IfOk, refl, ap, arith, length-append}
 use Rattle.mos_tree.specs.declared.form.Form.{Form}
 use Rattle.mos_tree.specs.declared.form.Form.TheVariants as f
 use Rattle.mos_tree.specs.declared.form.Keyword.{Keyword}
@@ -17,7 +16,7 @@ use Rattle.mos_expr.specs.Grammar.{Syntax, Written, Over, IsGrouped, AreGrouped,
 use Rattle.mos_expr.specs.Sizes.{ExpressionIsSmall, ExpressionsAreSmall, IndexIsSmall}
 use Rattle.mos_typing.specs.Typing.{Typing, Formals, in_brackets, base_words, typing_words, formal_words, type_of, formals_of, tallest_type, tallest_formals, TypeIsGrouped, FormalsAreGrouped}
 use Rattle.mos_typing.specs.Sizes.{TypeIsSmall, FormalsAreSmall}
-use Rattle.mos_form.specs.Phrases.{Target, to_name, to_cell, to_field, to_cell_field, to_result, Phrase, word, break_word, next_word, model_text, model_name, uses_modules, options_name, definition, typed, record_of, procedure, function, forward_procedure, forward_function, assign, fill, call, bare, if_then, elif_then, case_of, alternative, forall_in, while_so, until_so, initializations, labels, token_of, target_words, operator_word, words_of, form_of, reference_of, tallest, TargetIs, IsWell, IsPhrase, answer, IsFormOf, is_phrase, no_phrase}
+use Rattle.mos_form.specs.Phrases.{Target, to_name, to_cell, to_field, to_cell_field, to_result, Phrase, word, break_word, next_word, model_text, model_name, uses_modules, options_name, definition, typed, record_of, procedure, function, forward_procedure, forward_function, assign, fill, call, bare, if_then, elif_then, case_of, alternative, forall_in, while_so, until_so, initializations, labels, target_words, operator_word, words_of, form_of, reference_of, tallest, TargetIs, IsWell, answer, IsFormOf, is_phrase, no_phrase}
 use Rattle.mos_form.proofs.Telling.{on_bool}
 
 -- words behind one another

@@ -1,7 +1,7 @@
 -- As the code reads, apart from what the public clauses say: what is told of words that may be one
 -- of many things, of which only one fits.
 
-use Rattle.std.specs.Prelude.{◌≡◌, ◌≢◌, ℕ, ◌<◌, ◌≤◌, if◌then◌else◌, nat_le, List, ◌∷◌, ◌++◌, Option, Some, None}
+use Rattle.std.specs.Prelude.{◌≡◌, ◌≢◌, ℕ, if◌then◌else◌, nat_le, List, ◌∷◌, ◌++◌, Option, Some, None}
 use Rattle.mos_tree.specs.declared.expr.Expr.{Expr}
 use Rattle.mos_tree.specs.declared.expr.Index.{Index}
 use Rattle.mos_tree.specs.declared.declaration.TypeForm.{TypeForm}

@@ -9,9 +9,7 @@ use mos_expr::{
 };
 use mos_scan::Word;
 use mos_text::{NoMemory, SourceText, let_go};
-use mos_tree::{
-    Assignment, ConditionKeyword, Direction, Expr, Form, PieceKind, Reference, Simple,
-};
+use mos_tree::{Assignment, ConditionKeyword, Direction, Expr, Form, PieceKind, Reference, Simple};
 use mos_typing::type_form;
 use sqlite_items::Items;
 use std::alloc::Global;
@@ -28,7 +26,11 @@ pub(crate) fn refused(fault: ExprFault, kind: PieceKind) -> Result<Form, NoMemor
 }
 
 /// The piece with this keyword and this condition.
-pub(crate) fn guarded(alloc: Global, keyword: ConditionKeyword, words: &[Word]) -> Result<Form, NoMemory>
+pub(crate) fn guarded(
+    alloc: Global,
+    keyword: ConditionKeyword,
+    words: &[Word],
+) -> Result<Form, NoMemory>
     ensures { IfOk result (spec.TellsOne (λ x. f.Guarded keyword x) words.now) }
 {
     match expression_of_words(alloc, words) {
@@ -142,7 +144,11 @@ pub(crate) fn forall(alloc: Global, words: &[Word]) -> Result<Form, NoMemory>
 }
 
 /// The names with this type.
-pub(crate) fn typed_as(alloc: Global, names: Items<SourceText>, words: &[Word]) -> Result<Form, NoMemory>
+pub(crate) fn typed_as(
+    alloc: Global,
+    names: Items<SourceText>,
+    words: &[Word],
+) -> Result<Form, NoMemory>
     ensures { IfOk result (spec.TellsType (λ x. f.Typed names x) words.now) }
 {
     match type_form(alloc, words) {

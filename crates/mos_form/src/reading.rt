@@ -1,12 +1,12 @@
 //! What one piece is.
-ghost use Rattle.std.specs.Prelude.{◌≡◌, ◌≤◌, ◌∷◌, ◌++◌, [], List, length, MatchOption, IfOk};
+ghost use Rattle.std.specs.Prelude.{◌≡◌, ◌≤◌, ◌∷◌, length, MatchOption, IfOk};
 ghost use Rattle.mos_tree.specs.Sizes.{size_of_form};
-ghost use Rattle.mos_scan.specs.declared.reading.Word.{Word as word_type};
 ghost use Rattle.mos_scan.specs.declared.reading.Word.TheVariants as w;
 ghost use Rattle.mos_scan.specs.declared.token.TokenKind.TheVariants as t;
 ghost use Rattle.mos_form.specs.Phrases.{IsFormOf, Phrase, IsPhrase, answer, operator_word};
 ghost use Rattle.mos_form.specs.Fixed as fixed;
 ghost use Rattle.mos_form.specs.Telling as spec;
+ghost use Rattle.mos_typing.specs.Shapes.{AreNo};
 
 use crate::cells::cell_assignment;
 use crate::cut::{
@@ -19,10 +19,10 @@ use crate::expressions::{
 use crate::head::{Head, Next, head_of, keyword_of, next_of};
 use crate::headings::{forward, function, model, options, procedure};
 use crate::lists::{labels, uses};
+use mos_expr::trees_are_small;
 use mos_scan::{TokenKind, Word};
 use mos_text::{NoMemory, SourceText};
 use mos_tree::{Assignment, ConditionKeyword, Form, Reference, Simple};
-use mos_expr::trees_are_small;
 use mos_typing::{expressions_have_plain_words, names, types_are_small};
 use std::alloc::Global;
 
@@ -98,7 +98,7 @@ fn single_word(kind: TokenKind) -> Form
 
 /// The words of the condition behind its keyword.
 fn condition(keyword: ConditionKeyword, rest: &[Word]) -> Option<&[Word]>
-    ensures { MatchOption result ((inside : List word_type) → rest.now ≡ fixed.around keyword inside → ⊥) (λ inside. rest.now ≡ fixed.around keyword inside.now) }
+    ensures { MatchOption result (AreNo (fixed.around keyword) rest.now) (λ inside. rest.now ≡ fixed.around keyword inside.now) }
 {
     match keyword {
         ConditionKeyword::If | ConditionKeyword::Elif => before_last(rest, TokenKind::Then),
@@ -109,7 +109,11 @@ fn condition(keyword: ConditionKeyword, rest: &[Word]) -> Option<&[Word]>
 }
 
 /// What stands behind a keyword with a condition.
-fn behind_condition(alloc: Global, keyword: ConditionKeyword, rest: &[Word]) -> Result<Form, NoMemory>
+fn behind_condition(
+    alloc: Global,
+    keyword: ConditionKeyword,
+    rest: &[Word],
+) -> Result<Form, NoMemory>
     ensures { IfOk result (spec.TellsPiece (w.Key (fixed.condition_word keyword) ∷ rest.now)) }
 {
     match condition(keyword, rest) {
@@ -233,7 +237,12 @@ fn dotted(alloc: Global, name: &SourceText, behind: &[Word]) -> Result<Form, NoM
 }
 
 /// What stands behind a field of a variable.
-fn after_field(alloc: Global, name: &SourceText, field: &SourceText, rest: &[Word]) -> Result<Form, NoMemory>
+fn after_field(
+    alloc: Global,
+    name: &SourceText,
+    field: &SourceText,
+    rest: &[Word],
+) -> Result<Form, NoMemory>
     ensures { IfOk result (spec.TellsPiece (w.Name name.now ∷ w.Key t.Dot ∷ w.Name field.now ∷ rest.now)) }
 {
     match first(rest) {

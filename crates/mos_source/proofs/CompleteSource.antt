@@ -18,16 +18,16 @@ use Rattle.mos_tree.specs.declared.source.Routine.{Routine}
 use Rattle.mos_tree.specs.declared.source.Top.{Top}
 use Rattle.mos_tree.specs.declared.source.Top.TheVariants as t
 use Rattle.mos_tree.specs.declared.statement.Statement.{Statement}
-use Rattle.mos_form.specs.declared.form.Form.TheVariants as f
-use Rattle.mos_form.specs.declared.form.Keyword.TheVariants as keyword
-use Rattle.mos_form.specs.declared.form.Mould.TheVariants as m
-use Rattle.mos_form.specs.declared.form.PieceForm.{PieceForm}
+use Rattle.mos_tree.specs.declared.form.Form.TheVariants as f
+use Rattle.mos_tree.specs.declared.form.Keyword.TheVariants as keyword
+use Rattle.mos_tree.specs.declared.form.PieceKind.TheVariants as m
+use Rattle.mos_tree.specs.declared.form.PieceForm.{PieceForm}
 use Rattle.mos_source.specs.declared.frame.Frame.{Frame}
 use Rattle.mos_source.specs.declared.frame.Frame.TheVariants as g
 use Rattle.mos_source.specs.declared.frame.Part.TheVariants as part
 use Rattle.mos_source.specs.declared.place.Place.TheVariants as p
-use Rattle.mos_source.specs.declared.place.Role.TheVariants.{Opens, GoesOn, Stands, Closes}
-use Rattle.mos_form.specs.Forms.{piece, routine_mould}
+use Rattle.mos_source.specs.declared.place.Role.TheVariants.{Opens, Continues, StandsAlone, Closes}
+use Rattle.mos_tree.specs.Forms.{piece, routine_kind}
 use Rattle.mos_source.specs.Limits.{module_limit, own_limit, is_jobs}
 use Rattle.mos_source.specs.Places.{takes_statements, role_at}
 use Rattle.mos_source.specs.Statements.{spell, tree}
@@ -64,17 +64,17 @@ modules-allowed (x ∷ xs) a =
 pub option-allowed : own_limit (f.Options no_implicit) ≡ None
 option-allowed = refl
 
-heads-role : role_at p.Heads m.Uses ≡ Some GoesOn
+heads-role : role_at p.Heads m.Uses ≡ Some Continues
 unfolding role_at
 heads-role = refl
 
-options-role : role_at p.Heads m.Options ≡ Some GoesOn
+options-role : role_at p.Heads m.Options ≡ Some Continues
 unfolding role_at
 options-role = refl
 
 head-step : (deep : ℕ) (k : Stack) (l : ℕ) (name : ModelName) (before : List Head) (x : Head) → IsAllowed x → step deep (g.Heads l name before ∷ k) (spell_head x) ≡ Ok (g.Heads l name (before ++ x ∷ []) ∷ k)
-head-step deep k l name before (h.Uses line modules) a = step-role deep (g.Heads l name before ∷ k) (piece line (f.Uses modules)) GoesOn (g.Heads l name (before ++ h.Uses line modules ∷ []) ∷ k) heads-role (modules-allowed modules a) refl refl
-head-step deep k l name before (h.NoImplicit line) a = step-role deep (g.Heads l name before ∷ k) (piece line (f.Options no_implicit)) GoesOn (g.Heads l name (before ++ h.NoImplicit line ∷ []) ∷ k) options-role option-allowed refl refl
+head-step deep k l name before (h.Uses line modules) a = step-role deep (g.Heads l name before ∷ k) (piece line (f.Uses modules)) Continues (g.Heads l name (before ++ h.Uses line modules ∷ []) ∷ k) heads-role (modules-allowed modules a) refl refl
+head-step deep k l name before (h.NoImplicit line) a = step-role deep (g.Heads l name before ∷ k) (piece line (f.Options no_implicit)) Continues (g.Heads l name (before ++ h.NoImplicit line ∷ []) ∷ k) options-role option-allowed refl refl
 
 heads-read : (deep : ℕ) (k : Stack) (l : ℕ) (name : ModelName) (before : List Head) (xs : List Head) (rest : List PieceForm) → AreAllowed xs → run deep (g.Heads l name before ∷ k) (map spell_head xs ++ rest) ≡ run deep (g.Heads l name (before ++ xs) ∷ k) rest
 heads-read deep k l name before [] rest a = ap (λ ys. run deep (g.Heads l name ys ∷ k) rest) (sym (append-nil before))
@@ -185,14 +185,14 @@ unfolding role_at
 role-declarations l name heads [] = refl
 role-declarations l name heads (x ∷ xs) = refl
 
-role-routine : (l : ℕ) (name : ModelName) (heads : List Head) (xs : List Top) (typ : Option BaseType) → role_at (frame_place (model l name heads xs)) (routine_mould typ) ≡ Some Opens
+role-routine : (l : ℕ) (name : ModelName) (heads : List Head) (xs : List Top) (typ : Option BaseType) → role_at (frame_place (model l name heads xs)) (routine_kind typ) ≡ Some Opens
 unfolding role_at
 role-routine l name heads [] None = refl
 role-routine l name heads [] (Some typ) = refl
 role-routine l name heads (x ∷ xs) None = refl
 role-routine l name heads (x ∷ xs) (Some typ) = refl
 
-role-forward : (l : ℕ) (name : ModelName) (heads : List Head) (xs : List Top) → role_at (frame_place (model l name heads xs)) m.Forward ≡ Some Stands
+role-forward : (l : ℕ) (name : ModelName) (heads : List Head) (xs : List Top) → role_at (frame_place (model l name heads xs)) m.Forward ≡ Some StandsAlone
 unfolding role_at
 role-forward l name heads [] = refl
 role-forward l name heads (x ∷ xs) = refl
@@ -232,7 +232,7 @@ tops-read deep (announces xs heading) l name heads rest h =
     let next : Stack = model l name heads (tops_of xs ++ t.Forward heading ∷ []) ∷ [] in
     ap (run deep (g.Heads l name heads ∷ [])) (one-end (spell_tops xs) x rest)
     ∙ tops-read deep xs l name heads (x ∷ rest) h
-    ∙ run-step deep k next x rest (step-role deep k x Stands next (role-forward l name heads (tops_of xs)) refl refl (model-others l name heads (tops_of xs) (t.Forward heading) []))
+    ∙ run-step deep k next x rest (step-role deep k x StandsAlone next (role-forward l name heads (tops_of xs)) refl refl (model-others l name heads (tops_of xs) (t.Forward heading) []))
 tops-read deep (states_top xs w) l name heads rest h =
     let k : Stack = model l name heads (tops_of xs) ∷ [] in
     ap (run deep (g.Heads l name heads ∷ [])) (append_assoc (spell_tops xs) (spell w) rest)

@@ -1,24 +1,47 @@
 //! What a block is that is closed, and how the block round it takes it.
-ghost use Rattle.std.specs.Prelude.{◌≡◌, IfOk};
+ghost use Rattle.std.specs.Prelude.{◌≡◌, Some, IfOk};
 ghost use Rattle.mos_source.specs.Machine as spec;
 
-use crate::discard::refuse;
 use crate::frame::{Frame, Part};
-use mos_form::{Form, Guard};
-use mos_text::NoMemory;
+use crate::growing::one_more;
+use mos_text::{NoMemory, let_go};
 use mos_tree::{
-    Alternative, Arm, Declared, Expr, Head, Heading, Item, ModelName, Routine, RoutinePart,
-    Statement, Top, Tree,
+    Alternative, Arm, ConditionKeyword, Declared, Expr, Form, Head, Heading, Item, ModelName,
+    Routine, RoutinePart, Statement, Top, Tree,
 };
 use sqlite_items::{Boxed, Items};
 use std::alloc::Global;
 
-fn is_until(word: Guard) -> bool
+fn is_until(word: ConditionKeyword) -> bool
     ensures { result ≡ spec.is_until word }
 {
     match word {
-        Guard::Until => true,
+        ConditionKeyword::Until => true,
         _ => false,
+    }
+}
+
+/// `repeat` with its condition, where the word is `until`.
+fn repeat_until(
+    line: u32,
+    word: ConditionKeyword,
+    condition: Expr,
+    at: u32,
+    body: Items<Statement>,
+) -> Option<Part>
+    ensures { result ≡ spec.until line (Form.Guarded word condition) at body }
+{
+    if is_until(word) {
+        Some(Part::Statement(Statement::Repeat {
+            line: at,
+            body,
+            until_line: line,
+            condition,
+        }))
+    } else {
+        let_go(condition);
+        let_go(body);
+        None
     }
 }
 
@@ -27,19 +50,10 @@ fn until(line: u32, form: Form, at: u32, body: Items<Statement>) -> Option<Part>
     ensures { result ≡ spec.until line form at body }
 {
     match form {
-        Form::Guarded(word, condition) => {
-            if !is_until(word) {
-                return None;
-            }
-            Some(Part::Statement(Statement::Repeat {
-                line: at,
-                body,
-                until_line: line,
-                condition,
-            }))
-        }
+        Form::Guarded(word, condition) => repeat_until(line, word, condition, at, body),
         other => {
-            refuse(other);
+            let_go(other);
+            let_go(body);
             None
         }
     }
@@ -54,13 +68,66 @@ fn whole_if(
 ) -> Result<Part, NoMemory>
     ensures { IfOk result (λ part. part ≡ spec.whole_if first arms last) }
 {
-    let mut arms = arms;
-    arms.push(last)?;
     Ok(Part::Statement(Statement::If {
         line: first,
-        arms,
+        arms: one_more(arms, last)?,
         otherwise: Items::new(alloc),
     }))
+}
+
+/// The `case` that is closed.
+fn closed_case(alloc: Global, frame: Frame) -> Option<Part>
+    ensures { result ≡ spec.closed_case frame }
+{
+    match frame {
+        Frame::Case {
+            line,
+            value,
+            alternatives,
+        } => Some(Part::Statement(Statement::Case {
+            line,
+            value,
+            alternatives,
+            otherwise: Items::new(alloc),
+        })),
+        Frame::CaseElse {
+            line,
+            value,
+            alternatives,
+            body,
+        } => Some(Part::Statement(Statement::Case {
+            line,
+            value,
+            alternatives,
+            otherwise: body,
+        })),
+        other => {
+            let_go(other);
+            None
+        }
+    }
+}
+
+/// The block of statements or of data that is closed, or the `case`.
+fn closed_block(alloc: Global, line: u32, form: Form, frame: Frame) -> Option<Part>
+    ensures { result ≡ spec.closed_block line form frame }
+{
+    match frame {
+        Frame::Repeat { line: at, body } => until(line, form, at, body),
+        Frame::Do { line: at, body } => Some(Part::Statement(Statement::Do { line: at, body })),
+        Frame::Initializations {
+            line: at,
+            direction,
+            name,
+            rows,
+        } => Some(Part::Statement(Statement::Initializations {
+            line: at,
+            direction,
+            name,
+            labels: rows,
+        })),
+        other => closed_case(alloc, other),
+    }
 }
 
 /// The statement that is closed.
@@ -73,7 +140,7 @@ fn closed_statement(
     ensures { IfOk result (λ part. part ≡ spec.closed_statement line form frame) }
 {
     match frame {
-        Frame::Arm {
+        Frame::IfArm {
             first,
             arms,
             line: at,
@@ -87,109 +154,69 @@ fn closed_statement(
             };
             Ok(Some(whole_if(alloc, first, arms, last)?))
         }
-        Frame::Otherwise { first, arms, body } => Ok(Some(Part::Statement(Statement::If {
+        Frame::IfElse { first, arms, body } => Ok(Some(Part::Statement(Statement::If {
             line: first,
             arms,
             otherwise: body,
         }))),
-        Frame::Choice {
-            line: at,
-            value,
-            alternatives,
-        } => Ok(Some(Part::Statement(Statement::Case {
-            line: at,
-            value,
-            alternatives,
-            otherwise: Items::new(alloc),
-        }))),
-        Frame::ChoiceOtherwise {
-            line: at,
-            value,
-            alternatives,
-            body,
-        } => Ok(Some(Part::Statement(Statement::Case {
-            line: at,
-            value,
-            alternatives,
-            otherwise: body,
-        }))),
-        Frame::Repeated { line: at, body } => Ok(until(line, form, at, body)),
-        Frame::Grouped { line: at, body } => {
-            Ok(Some(Part::Statement(Statement::Do { line: at, body })))
-        }
-        Frame::Labelled {
-            line: at,
-            direction,
-            name,
-            rows,
-        } => Ok(Some(Part::Statement(Statement::Initializations {
-            line: at,
-            direction,
-            name,
-            labels: rows,
-        }))),
-        other => {
-            refuse(other);
-            Ok(None)
-        }
+        other => Ok(closed_block(alloc, line, form, other)),
     }
 }
 
+/// The model that is closed.
+fn closed_model(line: u32, name: ModelName, heads: Items<Head>, tops: Items<Top>) -> Part
+    ensures { result ≡ spec.closed_model line name heads tops }
+{
+    Part::Source(Tree {
+        line,
+        name,
+        heads,
+        tops,
+    })
+}
+
 /// What the block is that the piece closes.
-pub(crate) fn closed(
+pub(crate) fn closed_by(
     alloc: Global,
     line: u32,
     form: Form,
     frame: Frame,
 ) -> Result<Option<Part>, NoMemory>
-    ensures { IfOk result (λ part. part ≡ spec.closed line form frame) }
+    ensures { IfOk result (λ part. part ≡ spec.closed_by line form frame) }
 {
-    match frame {
+    let part = match frame {
         Frame::Heads {
             line: at,
             name,
             heads,
-        } => Ok(Some(Part::Source(Tree {
-            line: at,
-            name,
-            heads,
-            tops: Items::new(alloc),
-        }))),
+        } => closed_model(at, name, heads, Items::new(alloc)),
         Frame::Tops {
             line: at,
             name,
             heads,
             tops,
-        } => Ok(Some(Part::Source(Tree {
-            line: at,
-            name,
-            heads,
-            tops,
-        }))),
+        } => closed_model(at, name, heads, tops),
         Frame::Parameters {
             line: at,
             parameters,
-        } => Ok(Some(Part::Top(Top::Parameters {
+        } => Part::Top(Top::Parameters {
             line: at,
             parameters,
-        }))),
-        Frame::Declarations { line: at, items } => {
-            Ok(Some(Part::Declared(Declared { line: at, items })))
-        }
+        }),
+        Frame::Declarations { line: at, items } => Part::Declared(Declared { line: at, items }),
         Frame::Record {
             line: at,
             name,
             fields,
-        } => Ok(Some(Part::Record(Item::Record {
+        } => Part::Record(Item::Record {
             line: at,
             name,
             fields,
-        }))),
-        Frame::Routine { heading, parts } => {
-            Ok(Some(Part::Top(Top::Routine(Routine { heading, parts }))))
-        }
-        other => closed_statement(alloc, line, form, other),
-    }
+        }),
+        Frame::Routine { heading, parts } => Part::Top(Top::Routine(Routine { heading, parts })),
+        other => return closed_statement(alloc, line, form, other),
+    };
+    Ok(Some(part))
 }
 
 // ---- the block round it
@@ -201,17 +228,15 @@ fn first_top(
     name: ModelName,
     heads: Items<Head>,
     top: Top,
-) -> Result<Frame, NoMemory>
-    ensures { IfOk result (λ frame. frame ≡ spec.first_top line name heads top) }
+) -> Result<Option<Frame>, NoMemory>
+    ensures { IfOk result (λ frame. frame ≡ Some (spec.first_top line name heads top)) }
 {
-    let mut tops = Items::new(alloc);
-    tops.push(top)?;
-    Ok(Frame::Tops {
+    Ok(Some(Frame::Tops {
         line,
         name,
         heads,
-        tops,
-    })
+        tops: one_more(Items::new(alloc), top)?,
+    }))
 }
 
 fn next_top(
@@ -220,29 +245,28 @@ fn next_top(
     heads: Items<Head>,
     tops: Items<Top>,
     top: Top,
-) -> Result<Frame, NoMemory>
-    ensures { IfOk result (λ frame. frame ≡ spec.next_top line name heads tops top) }
+) -> Result<Option<Frame>, NoMemory>
+    ensures { IfOk result (λ frame. frame ≡ Some (spec.next_top line name heads tops top)) }
 {
-    let mut tops = tops;
-    tops.push(top)?;
-    Ok(Frame::Tops {
+    Ok(Some(Frame::Tops {
         line,
         name,
         heads,
-        tops,
-    })
+        tops: one_more(tops, top)?,
+    }))
 }
 
 fn next_part(
     heading: Heading,
     parts: Items<RoutinePart>,
     part: RoutinePart,
-) -> Result<Frame, NoMemory>
-    ensures { IfOk result (λ frame. frame ≡ spec.next_part heading parts part) }
+) -> Result<Option<Frame>, NoMemory>
+    ensures { IfOk result (λ frame. frame ≡ Some (spec.next_part heading parts part)) }
 {
-    let mut parts = parts;
-    parts.push(part)?;
-    Ok(Frame::Routine { heading, parts })
+    Ok(Some(Frame::Routine {
+        heading,
+        parts: one_more(parts, part)?,
+    }))
 }
 
 /// A model with one part more.
@@ -250,16 +274,16 @@ fn with_top(alloc: Global, frame: Frame, top: Top) -> Result<Option<Frame>, NoMe
     ensures { IfOk result (λ next. next ≡ spec.with_top top frame) }
 {
     match frame {
-        Frame::Heads { line, name, heads } => Ok(Some(first_top(alloc, line, name, heads, top)?)),
+        Frame::Heads { line, name, heads } => first_top(alloc, line, name, heads, top),
         Frame::Tops {
             line,
             name,
             heads,
             tops,
-        } => Ok(Some(next_top(line, name, heads, tops, top)?)),
+        } => next_top(line, name, heads, tops, top),
         other => {
-            refuse(other);
-            refuse(top);
+            let_go(other);
+            let_go(top);
             Ok(None)
         }
     }
@@ -270,11 +294,9 @@ fn with_declared(alloc: Global, frame: Frame, declared: Declared) -> Result<Opti
     ensures { IfOk result (λ next. next ≡ spec.with_declared declared frame) }
 {
     match frame {
-        Frame::Routine { heading, parts } => Ok(Some(next_part(
-            heading,
-            parts,
-            RoutinePart::Declarations(declared),
-        )?)),
+        Frame::Routine { heading, parts } => {
+            next_part(heading, parts, RoutinePart::Declarations(declared))
+        }
         other => with_top(alloc, other, Top::Declarations(declared)),
     }
 }
@@ -285,42 +307,127 @@ fn with_record(frame: Frame, item: Item) -> Result<Option<Frame>, NoMemory>
 {
     match frame {
         Frame::Declarations { line, items } => {
-            let mut items = items;
-            items.push(item)?;
-            Ok(Some(Frame::Declarations { line, items }))
+            Ok(Some(Frame::Declarations {
+                line,
+                items: one_more(items, item)?,
+            }))
         }
         other => {
-            refuse(other);
-            refuse(item);
+            let_go(other);
+            let_go(item);
             Ok(None)
         }
     }
 }
 
-fn one_more(body: Items<Statement>, statement: Statement) -> Result<Items<Statement>, NoMemory>
-    ensures { IfOk result (λ all. all ≡ spec.one_more body statement) }
-{
-    let mut body = body;
-    body.push(statement)?;
-    Ok(body)
-}
-
 /// An alternative of `case` with its statement.
-fn chosen(
+fn case_with(
     line: u32,
     value: Expr,
     alternatives: Items<Alternative<Statement>>,
     last: Alternative<Statement>,
-) -> Result<Frame, NoMemory>
-    ensures { IfOk result (λ frame. frame ≡ spec.chosen line value alternatives last) }
+) -> Result<Option<Frame>, NoMemory>
+    ensures { IfOk result (λ frame. frame ≡ spec.case_with line value alternatives last) }
 {
-    let mut alternatives = alternatives;
-    alternatives.push(last)?;
-    Ok(Frame::Choice {
+    match one_more(alternatives, last) {
+        Ok(alternatives) => Ok(Some(Frame::Case {
+            line,
+            value,
+            alternatives,
+        })),
+        Err(refused) => {
+            let_go(value);
+            Err(refused)
+        }
+    }
+}
+
+/// An arm of `if` with one statement more.
+fn if_arm_with(
+    first: u32,
+    arms: Items<Arm<Statement>>,
+    arm: Arm<Statement>,
+    statement: Statement,
+) -> Result<Option<Frame>, NoMemory>
+    ensures { IfOk result (λ frame. frame ≡ spec.if_arm_with first arms arm statement) }
+{
+    let Arm {
         line,
-        value,
-        alternatives,
-    })
+        condition,
+        body,
+    } = arm;
+    match one_more(body, statement) {
+        Ok(body) => Ok(Some(Frame::IfArm {
+            first,
+            arms,
+            line,
+            condition,
+            body,
+        })),
+        Err(refused) => {
+            let_go(arms);
+            let_go(condition);
+            Err(refused)
+        }
+    }
+}
+
+/// The `else` of a `case` with one statement more.
+fn case_else_with(
+    line: u32,
+    value: Expr,
+    alternatives: Items<Alternative<Statement>>,
+    body: Items<Statement>,
+    statement: Statement,
+) -> Result<Option<Frame>, NoMemory>
+    ensures { IfOk result (λ frame. frame
+        ≡ spec.case_else_with line value alternatives body statement) }
+{
+    match one_more(body, statement) {
+        Ok(body) => Ok(Some(Frame::CaseElse {
+            line,
+            value,
+            alternatives,
+            body,
+        })),
+        Err(refused) => {
+            let_go(value);
+            let_go(alternatives);
+            Err(refused)
+        }
+    }
+}
+
+/// A block of statements with one statement more.
+fn with_block_statement(
+    alloc: Global,
+    frame: Frame,
+    statement: Statement,
+) -> Result<Option<Frame>, NoMemory>
+    ensures { IfOk result (λ next. next ≡ spec.with_block_statement statement frame) }
+{
+    match frame {
+        Frame::IfElse { first, arms, body } => Ok(Some(Frame::IfElse {
+            first,
+            arms,
+            body: one_more(body, statement)?,
+        })),
+        Frame::CaseElse {
+            line,
+            value,
+            alternatives,
+            body,
+        } => case_else_with(line, value, alternatives, body, statement),
+        Frame::Repeat { line, body } => Ok(Some(Frame::Repeat {
+            line,
+            body: one_more(body, statement)?,
+        })),
+        Frame::Do { line, body } => Ok(Some(Frame::Do {
+            line,
+            body: one_more(body, statement)?,
+        })),
+        other => with_top(alloc, other, Top::Statement(statement)),
+    }
 }
 
 /// The block with one statement more, where it takes one without being ended by it.
@@ -332,30 +439,24 @@ pub(crate) fn with_statement(
     ensures { IfOk result (λ next. next ≡ spec.with_statement statement frame) }
 {
     match frame {
-        Frame::Routine { heading, parts } => Ok(Some(next_part(
-            heading,
-            parts,
-            RoutinePart::Statement(statement),
-        )?)),
-        Frame::Arm {
+        Frame::Routine { heading, parts } => {
+            next_part(heading, parts, RoutinePart::Statement(statement))
+        }
+        Frame::IfArm {
             first,
             arms,
             line,
             condition,
             body,
-        } => Ok(Some(Frame::Arm {
-            first,
-            arms,
-            line,
-            condition,
-            body: one_more(body, statement)?,
-        })),
-        Frame::Otherwise { first, arms, body } => Ok(Some(Frame::Otherwise {
-            first,
-            arms,
-            body: one_more(body, statement)?,
-        })),
-        Frame::Chosen {
+        } => {
+            let arm = Arm {
+                line,
+                condition,
+                body,
+            };
+            if_arm_with(first, arms, arm, statement)
+        }
+        Frame::CaseArm {
             line,
             value,
             alternatives,
@@ -367,63 +468,44 @@ pub(crate) fn with_statement(
                 labels,
                 body: statement,
             };
-            Ok(Some(chosen(line, value, alternatives, last)?))
+            case_with(line, value, alternatives, last)
         }
-        Frame::ChoiceOtherwise {
-            line,
-            value,
-            alternatives,
-            body,
-        } => Ok(Some(Frame::ChoiceOtherwise {
-            line,
-            value,
-            alternatives,
-            body: one_more(body, statement)?,
-        })),
-        Frame::Repeated { line, body } => Ok(Some(Frame::Repeated {
-            line,
-            body: one_more(body, statement)?,
-        })),
-        Frame::Grouped { line, body } => Ok(Some(Frame::Grouped {
-            line,
-            body: one_more(body, statement)?,
-        })),
-        other => with_top(alloc, other, Top::Statement(statement)),
+        other => with_block_statement(alloc, other, statement),
     }
 }
 
 /// Whether one statement ends the block.
-pub(crate) fn loops(frame: &Frame) -> bool
-    ensures { result ≡ spec.loops frame.now }
+pub(crate) fn is_loop(frame: &Frame) -> bool
+    ensures { result ≡ spec.is_loop frame.now }
 {
     match frame {
-        Frame::Over { .. } | Frame::AsLongAs { .. } => true,
+        Frame::Forall { .. } | Frame::While { .. } => true,
         _ => false,
     }
 }
 
 /// The loop with its body.
-pub(crate) fn looped(
+pub(crate) fn loop_with_body(
     alloc: Global,
     frame: Frame,
     body: Statement,
 ) -> Result<Option<Statement>, NoMemory>
-    ensures { IfOk result (λ outer. outer ≡ spec.looped body frame) }
+    ensures { IfOk result (λ outer. outer ≡ spec.loop_with_body body frame) }
 {
     match frame {
-        Frame::Over { line, index } => Ok(Some(Statement::Forall {
+        Frame::Forall { line, index } => Ok(Some(Statement::Forall {
             line,
             index,
             body: Boxed::new(alloc, body)?,
         })),
-        Frame::AsLongAs { line, condition } => Ok(Some(Statement::While {
+        Frame::While { line, condition } => Ok(Some(Statement::While {
             line,
             condition,
             body: Boxed::new(alloc, body)?,
         })),
         other => {
-            refuse(other);
-            refuse(body);
+            let_go(other);
+            let_go(body);
             Ok(None)
         }
     }
@@ -438,8 +520,8 @@ pub(crate) fn with_part(alloc: Global, frame: Frame, part: Part) -> Result<Optio
         Part::Top(top) => with_top(alloc, frame, top),
         Part::Record(item) => with_record(frame, item),
         other => {
-            refuse(frame);
-            refuse(other);
+            let_go(frame);
+            let_go(other);
             Ok(None)
         }
     }

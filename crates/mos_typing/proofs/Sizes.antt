@@ -1,18 +1,15 @@
 -- The expressions in a type, and in formals, have no more nodes than the words are many.
 
-use Rattle.std.proofs.Common.{◌≡◌, ℕ, ◌+◌, ◌≤◌, true, false, List, [], ◌∷◌, ◌++◌, length, map, sum, refl, sym, ◌∙◌, ap, arith, length-append}
+use Rattle.std.proofs.Common.{◌≡◌, ℕ, ◌+◌, ◌≤◌, List, [], ◌∷◌, ◌++◌, length, map, sum, refl, sym, ◌∙◌, ap, arith, length-append}
 use Rattle.std.proofs.lemmas.List.Sums.{sum-map, sum_by-cons}
 use Rattle.mos_tree.specs.declared.declaration.Dimension.{Dimension}
-use Rattle.mos_tree.specs.declared.declaration.TypeForm.{TypeForm}
-use Rattle.mos_tree.specs.declared.declaration.FormalGroup.{FormalGroup}
 use Rattle.mos_tree.specs.Sizes.{size_of_dimension, size_of_type, size_of_formal, size_of_formals}
 use Rattle.mos_scan.specs.declared.token.TokenKind.TheVariants as t
 use Rattle.mos_scan.specs.declared.reading.Word.{Word}
 use Rattle.mos_scan.specs.declared.reading.Word.TheVariants as w
-use Rattle.mos_expr.specs.Grammar.{spell, tree, height, spell_names}
+use Rattle.mos_expr.specs.Grammar.{spell, tree, height, spell_names, list_of_names}
 use Rattle.mos_expr.specs.Sizes.{ExpressionIsSmall}
 use Rattle.mos_typing.specs.Typing.{Dim, any_range, any_set, within, Dims, last_dim, and_dim, Typing, of_base, a_range, a_set, a_list, an_array, Groups, last_group, and_group, Formals, no_brackets, empty_brackets, formals, base_words, dynamic_words, dim_words, dims_words, typing_words, group_words, formal_words, in_brackets, dimension_of, dimensions_of, type_of, groups_of, formals_of, DimIsGrouped, DimsAreGrouped, TypeIsGrouped, GroupsAreGrouped, FormalsAreGrouped}
-use Rattle.mos_typing.specs.Spellings.{IsTypeForm, AreFormalGroups}
 use Rattle.mos_typing.specs.Sizes.{TypeIsSmall, FormalsAreSmall}
 
 -- words behind others, the first of them named
@@ -60,13 +57,13 @@ module _ (small : ExpressionIsSmall) where
   groups_small : (xs : Groups) → GroupsAreGrouped xs → size_of_formals (groups_of xs) ≤ length (group_words xs)
   groups_small (last_group ns x) g =
       let h : size_of_type (type_of x) ≤ length (typing_words x) = type_small x g in
-      let e : size_of_formals (groups_of (last_group ns x)) ≡ size_of_type (type_of x) + 0 = sum_more size_of_formal _ [] in
+      let e : size_of_formals (groups_of (last_group ns x)) ≡ size_of_type (type_of x) + 0 = sum_more size_of_formal (record { names = list_of_names ns; typ = type_of x }) [] in
       let l : length (spell_names ns ++ w.Key t.Colon ∷ typing_words x) ≡ length (spell_names ns) + (length (typing_words x) + 1) = appended (spell_names ns) (w.Key t.Colon) (typing_words x) in
       omega (arith, h, e, l)
   groups_small (and_group ns x rest) g =
       let h : size_of_type (type_of x) ≤ length (typing_words x) = type_small x g.0 in
       let k : size_of_formals (groups_of rest) ≤ length (group_words rest) = groups_small rest g.1 in
-      let e : size_of_formals (groups_of (and_group ns x rest)) ≡ size_of_type (type_of x) + size_of_formals (groups_of rest) = sum_more size_of_formal _ (groups_of rest) in
+      let e : size_of_formals (groups_of (and_group ns x rest)) ≡ size_of_type (type_of x) + size_of_formals (groups_of rest) = sum_more size_of_formal (record { names = list_of_names ns; typ = type_of x }) (groups_of rest) in
       let i : length (typing_words x ++ w.Key t.Comma ∷ group_words rest) ≡ length (typing_words x) + (length (group_words rest) + 1) = appended (typing_words x) (w.Key t.Comma) (group_words rest) in
       let l : length (spell_names ns ++ w.Key t.Colon ∷ (typing_words x ++ w.Key t.Comma ∷ group_words rest)) ≡ length (spell_names ns) + (length (typing_words x ++ w.Key t.Comma ∷ group_words rest) + 1) = appended (spell_names ns) (w.Key t.Colon) ((typing_words x ++ w.Key t.Comma ∷ group_words rest)) in
       omega (arith, h, k, e, i, l)

@@ -1,7 +1,7 @@
 -- As the code reads, apart from what the public clauses say: where words are cut: at a comma
 -- outside brackets, and at a colon.
 
-use Rattle.std.specs.Prelude.{ℕ, ◌+◌, ◌-◌, Bool, true, false, ◌&&◌, if◌then◌else◌, nat_eq, List, [], ◌∷◌, ◌++◌, Option, Some, None}
+use Rattle.std.specs.Prelude.{◌≡◌, ℕ, ◌+◌, ◌-◌, Bool, true, false, ◌&&◌, if◌then◌else◌, nat_eq, List, [], ◌∷◌, ◌++◌, Option, Some, None}
 use Rattle.mos_scan.specs.declared.token.TokenKind.TheVariants as t
 use Rattle.mos_scan.specs.declared.reading.Word.{Word}
 use Rattle.mos_scan.specs.declared.reading.Word.TheVariants as w
@@ -29,6 +29,10 @@ depth_behind _ depth = depth
 -- the words before a cut, and those behind it; None where there is none
 abbrev pub Halves : Type 0
 Halves = Option (List Word × List Word)
+
+-- these are the words before the cut and behind it
+abbrev pub IsCut : Halves → List Word → List Word → Type 0
+IsCut halves front behind = halves ≡ Some (front, behind)
 
 -- the words, before what is cut
 abbrev pub ahead : List Word → Halves → Halves
@@ -62,3 +66,7 @@ typed_cut (Some halves) = group_cut halves.0 (cut 0 halves.1)
 -- the first group of formals, None where no other stands behind it
 abbrev pub first_group : List Word → Option Group
 first_group words = typed_cut (cut_at_colon words)
+
+-- these are the names of the first group, its type, and what stands behind it
+abbrev pub IsFirstGroup : List Word → List Word → List Word → List Word → Type 0
+IsFirstGroup words names typ behind = first_group words ≡ Some (names, typ, behind)

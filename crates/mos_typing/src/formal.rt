@@ -1,5 +1,5 @@
 //! Formals.
-ghost use Rattle.std.specs.Prelude.{◌≡◌, None, Some, MatchOption, length, ◌<◌};
+ghost use Rattle.std.specs.Prelude.{◌≡◌, None, MatchOption, length, ◌<◌};
 ghost use Rattle.mos_typing.specs.Typing as typing;
 ghost use Rattle.mos_typing.specs.Cutting as cutting;
 ghost use Rattle.mos_typing.specs.Joining as joining;
@@ -19,7 +19,10 @@ use mos_tree::{FormalGroup, TypeForm};
 use sqlite_items::Items;
 use std::alloc::Global;
 
-fn group_of(names: Items<SourceText>, typ: Result<TypeForm, ExprFault>) -> Result<FormalGroup, ExprFault>
+fn group_of(
+    names: Items<SourceText>,
+    typ: Result<TypeForm, ExprFault>,
+) -> Result<FormalGroup, ExprFault>
     ensures { result ≡ joining.on_ok (reads.group_of names) typ }
 {
     match typ {
@@ -43,7 +46,7 @@ fn group(alloc: Global, names: &[Word], typ: &[Word]) -> Result<FormalGroup, Exp
 
 /// The names of the first group, its type, and what stands behind the comma behind it.
 fn first_group(words: &[Word]) -> Option<(&[Word], &[Word], &[Word])>
-    ensures value { MatchOption result (cutting.first_group words.now ≡ None) (λ parts. cutting.first_group words.now ≡ Some (parts.0.now, parts.1.now, parts.2.now)) }
+    ensures value { MatchOption result (cutting.first_group words.now ≡ None) (λ parts. cutting.IsFirstGroup words.now parts.0.now parts.1.now parts.2.now) }
     ensures shorter { MatchOption result (Unit {0}) (λ parts. length parts.2.now < length words.now) }
 {
     let Some((names, typed)) = cut_at_colon(words) else {

@@ -22,7 +22,10 @@ fn behind_comma(words: &[Word]) -> Option<&[Word]>
 }
 
 /// The names that the words are.
-pub(crate) fn names_of_words(alloc: Global, words: &[Word]) -> Result<Option<Items<SourceText>>, NoMemory>
+pub(crate) fn names_of_words(
+    alloc: Global,
+    words: &[Word],
+) -> Result<Option<Items<SourceText>>, NoMemory>
     ensures { IfOk result (λ all. all ≡ names_of words.now) }
 {
     let mut found = Items::new(alloc);

@@ -3,7 +3,6 @@
 use Rattle.std.specs.Prelude.{◌≡◌, ℕ, ℤ, [], Option}
 use Rattle.bim_code.specs.declared.image.Image.{Image}
 use Rattle.bim_code.specs.declared.instruction.Instruction.{Instruction}
-use Rattle.mos_meaning.specs.State.{State}
 use Rattle.mos_meaning.specs.Machine.{Machine, At, Over, act, settle, on_integers, or_fault, On}
 use Rattle.mos_text.specs.declared.fault_kind.FaultKind.TheVariants.{OutFull}
 use Rattle.mos_meaning.specs.Values.{sum_of, difference_of, written}

@@ -3,7 +3,6 @@
 use Rattle.std.proofs.Common.{◌≡◌, ℕ, List, [], ◌∷◌, Option, Some, None, refl, sym, ap, ◌∙◌, subst, inl, inr}
 use Rattle.std.specs.Prelude.{slice_get, ◌⊎◌}
 use Rattle.mos_text.specs.Content.{Files}
-use Rattle.mos_text.specs.declared.folder.Got.{Got}
 use Rattle.mos_text.specs.declared.folder.Got.TheVariants.{Bytes, Missing as NotThere, TooLarge as TooLong, Failed, NoMemory as WantsMemory}
 use Rattle.mos_text.specs.declared.kind.Kind.{Kind}
 use Rattle.mos_tree.specs.declared.source.Tree.{Tree}
@@ -12,20 +11,18 @@ use Rattle.job_calls.specs.declared.end.End.TheVariants as end
 use Rattle.job_calls.specs.declared.entry.Entry.{Entry}
 use Rattle.job_calls.specs.declared.entry.Listed.{Listed}
 use Rattle.job_calls.specs.Runs.{Opening}
-use Rattle.mos_words.specs.CommandLine.{command_of}
 use Rattle.mos_words.specs.declared.words.commands.Command.{Command}
 use Rattle.mos_words.specs.declared.words.commands.Command.TheVariants.{Run}
 use Rattle.mosel_run.specs.declared.answer.Answer.{Answer}
 use Rattle.mosel_run.specs.declared.status.Status.{Status}
-use Rattle.mosel_run.specs.declared.status.Status.TheVariants.{Done, Usage, Refused, Missing, TooLarge, FolderFault, SinkFault, MasterFailed, MasterSpent, NoMemory}
+use Rattle.mosel_run.specs.declared.status.Status.TheVariants.{Usage, Refused, Missing, TooLarge, FolderFault, SinkFault, NoMemory}
 use Rattle.mosel_run.specs.declared.wanted.Wanted.{Wanted}
-use Rattle.mosel_run.specs.Accepted.{IsAccepted, IsRefusedAt, IsOnlyRefusal}
+use Rattle.mosel_run.specs.Accepted.{IsAccepted, IsRefusedAt}
 use Rattle.mosel_run.specs.Answered.{IsCommandAnswer, Answered, delivered, no_memory, request_of}
-use Rattle.mosel_run.specs.Answers.{IsUnreadAnswer}
 use Rattle.mosel_run.specs.Delivered.{Delivered, whole, unwritten, unput, no_memory_to_write, no_memory_to_put}
 use Rattle.mosel_run.specs.Exact.{Hides, IsReported, Only, Finds, ExactUsage, ExactMissing, ExactTooLarge, ExactRefused, ExactReport}
 use Rattle.mosel_run.specs.Jobs.{Model, IsModelOf, AreJudged, IsJudged}
-use Rattle.mosel_run.proofs.Finding.{Finding, AllThere, FirstAbsent, FirstTooLong, NotKnown, finding_of}
+use Rattle.mosel_run.proofs.Finding.{Finding, AllThere, FirstAbsent, FirstTooLong, finding_of}
 use Rattle.mosel_run.specs.Run.{Request, IsRunAnswer, unread, all_read, IsAnswerTo, refusal, report, IsStatusOf}
 use Rattle.mosel_run.specs.States.{FolderState, Devices}
 use Rattle.mosel_run.proofs.Findings.{Agrees, all_agree, absent_agrees, too_long_agrees, finding_is}

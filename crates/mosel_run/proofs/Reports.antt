@@ -1,6 +1,6 @@
 -- The report of a job over one source.
 
-use Rattle.std.proofs.Common.{◌≡◌, ◌≢◌, ℕ, zero, suc, true, List, [], ◌∷◌, Option, Some, None, refl, sym, ap, ◌∙◌, subst, ◌-◌, ◌+◌}
+use Rattle.std.proofs.Common.{◌≡◌, ◌≢◌, ℕ, zero, suc, true, List, [], ◌∷◌, Option, Some, refl, sym, ap, ◌∙◌, subst, ◌-◌, ◌+◌}
 use Rattle.std.specs.Prelude.{slice_get}
 use Rattle.std.specs.List.{filter_map}
 use Rattle.mos_tree.specs.declared.source.Tree.{Tree}
@@ -26,7 +26,7 @@ use Rattle.mos_meaning.specs.Follows.{Behaviour, behaviour_of, FollowsSources, F
 use Rattle.mosel_run.specs.declared.answer.Answer.{Answer}
 use Rattle.mosel_run.specs.Accepted.{IsAccepted, IsOnlyTree}
 use Rattle.mosel_run.specs.Answered.{run_request}
-use Rattle.mosel_run.specs.Jobs.{Model, OneThread, behaviours_of, images_of}
+use Rattle.mosel_run.specs.Jobs.{Model, OneThread}
 use Rattle.mosel_run.specs.Making.{listed}
 use Rattle.mosel_run.specs.Puts.{puts_of, put_of, image_name, last_puts}
 use Rattle.mosel_run.specs.Run.{IsReport, IsStatusOf}

@@ -1,7 +1,7 @@
 -- What the devices did with an answer: the same for all commands. The text comes first, and the files
 -- are put when all of it is written.
 
-use Rattle.std.specs.Prelude.{◌≡◌, ℕ, List, [], ◌∷◌, ◌++◌, Option}
+use Rattle.std.specs.Prelude.{◌≡◌, ℕ, List, ◌∷◌, ◌++◌, Option}
 use Rattle.mos_text.specs.Content.{Files, lose_file, SameElsewhere}
 use Rattle.mos_text.specs.Faults.{Rose}
 use Rattle.mos_text.specs.SinkBytes.{appended, AppendedPart}

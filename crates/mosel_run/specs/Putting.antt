@@ -1,6 +1,6 @@
 -- As the code goes about it: how files were put, and the status that comes of it.
 
-use Rattle.std.specs.Prelude.{◌≡◌, ◌<◌, ℕ, List, ◌∷◌, Option, Some, length, take, slice_get}
+use Rattle.std.specs.Prelude.{◌≡◌, ℕ, List, Option, Some, take, slice_get}
 use Rattle.mos_text.specs.Content.{Files, lose_file, SameElsewhere}
 use Rattle.mos_text.specs.Faults.{Rose}
 use Rattle.mosel_run.specs.declared.answer.Put.{Put}

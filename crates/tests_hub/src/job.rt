@@ -29,7 +29,12 @@ fn files(alloc: Global, words: &[&str]) -> Result<Items<Listed>, NoMemory> {
 }
 
 /// The job's hub, where the job may be opened so.
-fn hub(alloc: Global, lanes: u32, budget: u32, files: Items<Listed>) -> Result<Option<Hub>, NoMemory> {
+fn hub(
+    alloc: Global,
+    lanes: u32,
+    budget: u32,
+    files: Items<Listed>,
+) -> Result<Option<Hub>, NoMemory> {
     if !can_open(lanes, budget, files.as_slice()) {
         return Ok(None);
     }
@@ -37,7 +42,13 @@ fn hub(alloc: Global, lanes: u32, budget: u32, files: Items<Listed>) -> Result<O
 }
 
 /// What the hub answers to the call.
-fn ask(alloc: Global, hub: &mut Hub, lane: u32, run: Option<u32>, call: Call) -> Result<String, NoMemory> {
+fn ask(
+    alloc: Global,
+    hub: &mut Hub,
+    lane: u32,
+    run: Option<u32>,
+    call: Call,
+) -> Result<String, NoMemory> {
     if !hub.fits(lane, run, &call) {
         return words(alloc, "unfit");
     }
@@ -53,7 +64,11 @@ fn ask(alloc: Global, hub: &mut Hub, lane: u32, run: Option<u32>, call: Call) ->
 /// Whether room could be made, and is then there.
 fn room(hub: &mut Hub, many: u32) -> &'static str {
     match hub.reserve_entries(many) {
-        Ok(()) => if hub.spare_entries() >= many as usize { "room" } else { "no room" },
+        Ok(()) => if hub.spare_entries() >= many as usize {
+            "room"
+        } else {
+            "no room"
+        },
         Err(_) => "no memory",
     }
 }
@@ -74,7 +89,13 @@ fn of_hub(alloc: Global, hub: &mut Hub, line: &[&str]) -> Result<String, NoMemor
 /// What is answered to a line: of a job, whether it can be opened.
 pub fn answer(alloc: Global, hub: &mut Option<Hub>, line: &[&str]) -> Result<String, NoMemory> {
     match line {
-        ["job", lanes, budget, files @ ..] => open(alloc, hub, number(lanes), number(budget), files),
+        ["job", lanes, budget, files @ ..] => open(
+            alloc,
+            hub,
+            number(lanes),
+            number(budget),
+            files,
+        ),
         _ => match hub {
             None => words(alloc, "no job"),
             Some(hub) => of_hub(alloc, hub, line),
@@ -82,7 +103,13 @@ pub fn answer(alloc: Global, hub: &mut Option<Hub>, line: &[&str]) -> Result<Str
     }
 }
 
-fn open(alloc: Global, job: &mut Option<Hub>, lanes: u32, budget: u32, names: &[&str]) -> Result<String, NoMemory> {
+fn open(
+    alloc: Global,
+    job: &mut Option<Hub>,
+    lanes: u32,
+    budget: u32,
+    names: &[&str],
+) -> Result<String, NoMemory> {
     *job = hub(alloc, lanes, budget, files(alloc, names)?)?;
     words(alloc, if job.is_some() { "opened" } else { "refused" })
 }

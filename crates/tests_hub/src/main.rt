@@ -1,5 +1,6 @@
-//! The hub, tried line by line: each line of standard input opens a job or is a call of a lane, and is printed
-//! with what is answered. Empty lines and those that begin with '#' are printed as they are.
+//! The hub, tried line by line: each line of standard input opens a job or is a call of a lane, and
+//! is printed with what is answered. Empty lines and those that begin with '#' are printed as they
+//! are.
 #![tactic(auto)]
 
 mod ends;

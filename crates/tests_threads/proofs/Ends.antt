@@ -1,5 +1,5 @@
 -- What a lane was told of a run is all that the journal says of it.
-use Rattle.std.proofs.Common.{◌≡◌, ◌∙◌, ℕ, true, List, sym, ap}
+use Rattle.std.proofs.Common.{◌≡◌, ◌∙◌, List, sym, ap}
 use Rattle.std.specs.Prelude.{All}
 use Rattle.std.proofs.lemmas.List.Elements.{All-weaker}
 use Rattle.job_calls.specs.declared.entry.Entry.{Entry}

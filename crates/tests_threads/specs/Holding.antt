@@ -1,5 +1,5 @@
 -- What is known of a lane by its own entries: which run it holds, and that this run may go on.
-use Rattle.std.specs.Prelude.{◌≡◌, ℕ, Bool, true, false, List, [], ◌∷◌, None, Some}
+use Rattle.std.specs.Prelude.{◌≡◌, ℕ, true, false, List, [], ◌∷◌, None, Some}
 use Rattle.job_calls.specs.declared.call.Call.{Call}
 use Rattle.job_calls.specs.declared.call.Call.TheVariants.{Open}
 use Rattle.job_calls.specs.declared.entry.Entry.{Entry}

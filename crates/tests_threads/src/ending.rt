@@ -1,4 +1,5 @@
-//! How a job ends, and what its journal then says of each run: what the lane that was given the run was told.
+//! How a job ends, and what its journal then says of each run: what the lane that was given the run
+//! was told.
 ghost use Rattle.std.specs.Prelude.{◌≡◌, ◌+◌, length, All};
 ghost use Rattle.job_calls.specs.Legal.{IsLegal};
 ghost use Rattle.hub_core.specs.Hubs.{journal_of};
@@ -10,7 +11,8 @@ use hub_core::Hub;
 use hub_lock::{Ended, Keep, Seat};
 use job_laws::laws;
 
-/// Ends the lock: the journal says of each run what the lane that was given it was told, and nothing else.
+/// Ends the lock. The journal says of each run what the lane that was given it was told, and nothing
+/// else: these calls, these replies, this end.
 pub fn end(keep: Keep<Hub>, first: Seat<Hub>, others: Vec<Seat<Hub>>) -> Ended<Hub>
     requires own { IsSeatOf keep first × All (λ other. IsSeatOf keep other) others.items }
     requires lanes { (lane first ≡ 0) × InOrder others.items }

@@ -1,5 +1,5 @@
 -- what the row answers is what the table has
-use Rattle.std.proofs.Common.{◌≡◌, ◌∙◌, sym, ap}
+use Rattle.std.proofs.Common.{◌∙◌, sym, ap}
 use Rattle.job_calls.specs.Answers.{table_answer}
 use Rattle.hub_core.proofs.answers.table_answer.Goals as goal
 

@@ -1,5 +1,5 @@
 -- the first name is none of the others'
-use Rattle.std.proofs.Common.{◌≡◌, ◌∙◌, sym, arith, length-drop}
+use Rattle.std.proofs.Common.{◌∙◌, sym, arith, length-drop}
 use Rattle.hub_core.proofs.Distinct.{false_is_not_true, distinct_first, first_apart, rest_distinct}
 use Rattle.hub_core.proofs.opening.+are_distinct.Goals as goal
 

@@ -1,5 +1,5 @@
 -- the place is found where no event is left before it, and is none where too few are made
-use Rattle.std.proofs.Common.{◌≡◌, ◌≤◌, ◌∙◌, ◌+◌, sym, ap, arith, length, take, if◌then◌else◌, take_all}
+use Rattle.std.proofs.Common.{◌≡◌, ◌∙◌, ◌+◌, sym, ap, arith, length, if◌then◌else◌, take_all}
 use Rattle.job_calls.specs.Events.{arrivals, comes_to}
 use Rattle.hub_words.proofs.Prefixes.{at, arrival-here, no_arrival, length-arrivals-take, enough}
 use Rattle.hub_words.proofs.events.arrival_at.Goals as goal

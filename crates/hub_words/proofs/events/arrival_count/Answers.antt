@@ -1,6 +1,6 @@
 -- this entry makes one event more, or none
-use Rattle.std.proofs.Common.{◌≡◌, ◌≤◌, ◌∙◌, ◌+◌, sym, ap, arith, length, take, if◌then◌else◌}
-use Rattle.job_calls.specs.Events.{arrivals, comes_to}
+use Rattle.std.proofs.Common.{◌≡◌, ◌∙◌, ◌+◌, ap, arith, if◌then◌else◌}
+use Rattle.job_calls.specs.Events.{comes_to}
 use Rattle.hub_words.proofs.Prefixes.{at, length-arrivals-take, one_at_most}
 use Rattle.hub_words.proofs.events.arrival_count.Goals as goal
 

@@ -1,5 +1,5 @@
 -- the chain is the fold over what the run's entries say
-use Rattle.std.proofs.Common.{◌≡◌, ◌∙◌, rules, false, sym, ap}
+use Rattle.std.proofs.Common.{◌∙◌, rules, false, sym, ap}
 use Rattle.std.specs.Prelude.{◌&&◌, nat_eq, filter, fold}
 use Rattle.std.proofs.lemmas.Iterator.{YieldsList-from_slice}
 use Rattle.std.proofs.lemmas.Iterator.Consumers.{fold_from_yields_List, YieldsList-from_filter}

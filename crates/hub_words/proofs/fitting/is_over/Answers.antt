@@ -1,5 +1,5 @@
 -- the chain looks at what the run's entries say
-use Rattle.std.proofs.Common.{◌≡◌, ◌∙◌, rules, sym, ap}
+use Rattle.std.proofs.Common.{◌∙◌, rules, sym, ap}
 use Rattle.std.specs.Prelude.{◌&&◌, nat_eq, filter}
 use Rattle.std.proofs.lemmas.Iterator.{YieldsList-from_slice}
 use Rattle.std.proofs.lemmas.Iterator.Consumers.{YieldsList-from_filter}

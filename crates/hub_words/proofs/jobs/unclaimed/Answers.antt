@@ -1,5 +1,5 @@
 -- a run that was given is passed over
-use Rattle.std.proofs.Common.{◌≡◌, ◌∙◌, rules, arith}
+use Rattle.std.proofs.Common.{◌∙◌, rules, arith}
 use Rattle.hub_words.proofs.Unclaimed.{passed}
 use Rattle.hub_words.proofs.jobs.unclaimed.Goals as goal
 

@@ -1,6 +1,5 @@
 -- an entry that asks the run is found, and no other
-use Rattle.std.proofs.Common.{◌≡◌, ◌<◌, ◌∙◌, sym, arith, take_all}
-use Rattle.std.specs.List.{list_any}
+use Rattle.std.proofs.Common.{◌∙◌, sym, arith}
 use Rattle.job_calls.specs.Models.{asks}
 use Rattle.hub_words.proofs.Prefixes.{one_passes, none_more}
 use Rattle.hub_words.proofs.models.was_asked.Goals as goal

@@ -1,7 +1,6 @@
 -- the last place that passes is one of the journal
 use Rattle.std.proofs.Common.{◌≡◌, ◌<◌, rules, sym, subst, length}
 use Rattle.std.specs.Prelude.{IfSome}
-use Rattle.job_calls.specs.declared.entry.Entry.{Entry}
 use Rattle.job_calls.specs.declared.call.Way.TheVariants.{Reads}
 use Rattle.job_calls.specs.Pipes.{opens, session}
 use Rattle.hub_words.proofs.Prefixes.{last_within}

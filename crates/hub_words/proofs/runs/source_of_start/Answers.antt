@@ -1,9 +1,8 @@
 -- what this entry gives counts after what those before it gave
-use Rattle.std.proofs.Common.{◌≡◌, ◌∙◌, sym, ap, arith, take}
-use Rattle.std.specs.Option.{option_or}
+use Rattle.std.proofs.Common.{◌∙◌, sym, ap, arith, take}
 use Rattle.job_calls.specs.Runs.{later, last_given, source_started}
 use Rattle.job_calls.specs.Moments.{moments}
-use Rattle.hub_words.proofs.Prefixes.{at, given-take}
+use Rattle.hub_words.proofs.Prefixes.{given-take}
 use Rattle.hub_words.proofs.Scans.{or_later}
 use Rattle.hub_words.proofs.runs.source_of_start.Goals as goal
 

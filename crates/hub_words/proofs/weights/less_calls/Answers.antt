@@ -1,5 +1,5 @@
 -- each call takes its weight off
-use Rattle.std.proofs.Common.{◌≡◌, ◌∙◌, ◌-◌, rules}
+use Rattle.std.proofs.Common.{◌∙◌, ◌-◌, rules}
 use Rattle.std.proofs.lemmas.Iterator.{YieldsList-from_slice}
 use Rattle.std.proofs.lemmas.Iterator.Consumers.{fold_from_yields_List}
 use Rattle.job_calls.specs.declared.entry.Entry.{Entry}

@@ -4,7 +4,7 @@ use Rattle.mos_tree.specs.declared.form.PieceKind.TheVariants as m
 use Rattle.mos_form.specs.Cells.{AreParts, parts_height, parts_trees, with_parts, TellsCell}
 use Rattle.mos_form.specs.Telling.{assigned}
 use Rattle.mos_form.proofs.Telling.{tell_ok, tell_err}
-use Rattle.mos_form.proofs.Reads.{sides_read}
+use Rattle.mos_form.proofs.Spelled.{sides_read}
 use Rattle.mos_form.proofs.cells.cell_assignment.Goals as goal
 
 pub returns-in-Ok : goal.returns-in-Ok

@@ -4,7 +4,7 @@ use Rattle.mos_tree.specs.declared.form.Form.TheVariants as f
 use Rattle.mos_tree.specs.declared.form.PieceKind.TheVariants as m
 use Rattle.mos_form.specs.Telling.{AreSome}
 use Rattle.mos_expr.specs.Said.{AreSomeExpressions}
-use Rattle.mos_form.proofs.Reads.{some_reads}
+use Rattle.mos_form.proofs.Spelled.{some_reads}
 use Rattle.mos_form.proofs.Telling.{tell_ok, tell_err}
 use Rattle.mos_form.proofs.expressions.alternative.Goals as goal
 

@@ -3,7 +3,7 @@ use Rattle.mos_expr.specs.Grammar.{IsSpelled, height, tree}
 use Rattle.mos_tree.specs.declared.form.PieceKind.TheVariants as m
 use Rattle.mos_form.specs.Telling.{assigned, TellsOne}
 use Rattle.mos_expr.specs.Said.{IsExpression}
-use Rattle.mos_form.proofs.Reads.{one_reads}
+use Rattle.mos_form.proofs.Spelled.{one_reads}
 use Rattle.mos_form.proofs.Telling.{tell_ok, tell_err}
 use Rattle.mos_form.proofs.expressions.assignment.Goals as goal
 

@@ -3,7 +3,7 @@ use Rattle.mos_expr.specs.Grammar.{AreSpelled, heights, trees}
 use Rattle.mos_tree.specs.declared.form.PieceKind.TheVariants as m
 use Rattle.mos_form.specs.Telling.{called, TellsAll}
 use Rattle.mos_expr.specs.Said.{AreExpressions}
-use Rattle.mos_form.proofs.Reads.{all_reads}
+use Rattle.mos_form.proofs.Spelled.{all_reads}
 use Rattle.mos_form.proofs.Telling.{tell_ok, tell_err}
 use Rattle.mos_form.proofs.expressions.call.Goals as goal
 

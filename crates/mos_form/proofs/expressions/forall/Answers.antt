@@ -3,7 +3,7 @@ use Rattle.mos_expr.specs.Grammar.{IsIndexSpelled, height_over, index_of}
 use Rattle.mos_tree.specs.declared.form.Form.TheVariants as f
 use Rattle.mos_tree.specs.declared.form.PieceKind.TheVariants as m
 use Rattle.mos_expr.specs.Said.{IsIndex}
-use Rattle.mos_form.proofs.Reads.{index_reads}
+use Rattle.mos_form.proofs.Spelled.{index_reads}
 use Rattle.mos_form.proofs.Telling.{tell_ok, tell_err}
 use Rattle.mos_form.proofs.expressions.forall.Goals as goal
 

@@ -3,7 +3,7 @@ use Rattle.mos_typing.specs.Typing.{IsTyping, tallest_type, type_of}
 use Rattle.mos_tree.specs.declared.form.Form.TheVariants as f
 use Rattle.mos_tree.specs.declared.form.PieceKind.TheVariants as m
 use Rattle.mos_typing.specs.Spellings.{IsTypeForm}
-use Rattle.mos_form.proofs.Reads.{type_reads}
+use Rattle.mos_form.proofs.Spelled.{type_reads}
 use Rattle.mos_form.proofs.Telling.{tell_ok, tell_err}
 use Rattle.mos_form.proofs.expressions.typed_as.Goals as goal
 

@@ -4,7 +4,7 @@ use Rattle.mos_tree.specs.declared.form.PieceKind.TheVariants as m
 use Rattle.mos_form.specs.Fixed.{heading, heading_kind}
 use Rattle.mos_form.specs.Telling.{TellsFormals, refused}
 use Rattle.mos_typing.specs.Spellings.{AreFormalGroups}
-use Rattle.mos_form.proofs.Reads.{formals_reads}
+use Rattle.mos_form.proofs.Spelled.{formals_reads}
 use Rattle.mos_form.proofs.Telling.{tell_ok, tell_err}
 use Rattle.mos_form.proofs.Routines.{procedure_kind}
 use Rattle.mos_form.proofs.headings.procedure_of.Goals as goal

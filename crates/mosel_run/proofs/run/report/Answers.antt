@@ -1,12 +1,11 @@
 -- the job can be opened, its run is never stuck, and it comes to its end
-use Rattle.std.proofs.Common.{◌≡◌, ◌∷◌, [], ◌∙◌, ap, sym, subst, List}
+use Rattle.std.proofs.Common.{◌∷◌, [], ◌∙◌, ap, sym, subst, List}
 use Rattle.job_calls.specs.Legal.{CanOpen}
 use Rattle.job_calls.specs.declared.entry.Listed.{Listed}
 use Rattle.lane_step.specs.Alone.{opening_with}
 use Rattle.lane_step.specs.Schedule.{schedule_of}
 use Rattle.lane_step.specs.Whole.{IsWhole}
 use Rattle.mos_meaning.specs.Syntax.{statements_of}
-use Rattle.mosel_run.specs.Making.{listed}
 use Rattle.mosel_run.proofs.Opening.{can_open}
 use Rattle.mosel_run.proofs.Reports.{not_stuck, is_report}
 use Rattle.mosel_run.proofs.run.report.Goals as goal

@@ -1,5 +1,5 @@
 -- the opening was looked at
-use Rattle.std.proofs.Common.{◌≡◌, subst, rules}
+use Rattle.std.proofs.Common.{subst, rules}
 use Rattle.job_calls.specs.Legal.{CanOpen}
 use Rattle.tests_hub.proofs.job.hub.Goals as goal
 

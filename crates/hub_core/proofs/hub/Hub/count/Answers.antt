@@ -1,5 +1,5 @@
 -- a legal journal has few entries
-use Rattle.std.proofs.Common.{◌≡◌, ◌<◌, arith}
+use Rattle.std.proofs.Common.{arith}
 use Rattle.hub_core.proofs.hub.Hub.count.Goals as goal
 
 pub overflow_cast-result : goal.overflow_cast-result

@@ -1,5 +1,5 @@
 -- the new journal is legal
-use Rattle.std.proofs.Common.{◌≡◌, ◌<◌, arith}
+use Rattle.std.proofs.Common.{arith}
 use Rattle.hub_core.proofs.Pushed.{pushed}
 use Rattle.hub_core.proofs.hub.Hub.put.Goals as goal
 

@@ -1,5 +1,5 @@
 -- a legal journal has few entries, and was opened with few files; which calls want memory
-use Rattle.std.proofs.Common.{◌≡◌, ◌<◌, ◌≤◌, ◌∙◌, sym, arith}
+use Rattle.std.proofs.Common.{◌∙◌, sym, arith}
 use Rattle.hub_core.proofs.Wanting.{plain_reply, lacks}
 use Rattle.hub_core.proofs.hub.Hub.serve.Goals as goal
 

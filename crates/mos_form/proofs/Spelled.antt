@@ -1,9 +1,9 @@
 -- What is written of each kind of thing, and what is said of the words that spell it, are one.
 
-use Rattle.std.proofs.Common.{◌≡◌, ◌≢◌, ℕ, max, List, refl, sym, ◌∙◌, ap, subst}
+use Rattle.std.proofs.Common.{◌≡◌, ◌≢◌, max, List, refl, ◌∙◌, ap}
 use Rattle.mos_tree.specs.declared.expr.Expr.{Expr}
 use Rattle.mos_scan.specs.declared.reading.Word.{Word}
-use Rattle.mos_expr.specs.Grammar.{Syntax, Written, no_more, one_more, IsSpelled, AreSpelled, IsIndexSpelled, AreGrouped, spell, spell_list, height, heights, height_over, tree, trees, index_of}
+use Rattle.mos_expr.specs.Grammar.{Syntax, Written, no_more, one_more, IsSpelled, AreSpelled, IsIndexSpelled, AreGrouped, height, heights, height_over, tree, trees, index_of}
 use Rattle.mos_expr.specs.Said.{IsExpression, AreExpressions, AreSomeGrouped, AreSomeExpressions, IsIndex}
 use Rattle.mos_typing.specs.Typing.{IsTyping, AreFormals, tallest_type, tallest_formals, type_of, formals_of}
 use Rattle.mos_typing.specs.Spellings.{IsTypeForm, AreFormalGroups, AreIndexesAndValue}
@@ -57,7 +57,7 @@ formals_reads words = record {
 
 -- two trees side by side
 both_same : (made : List Expr × Expr) (xs : List Expr) (y : Expr) → made.0 ≡ xs → made.1 ≡ y → made ≡ (xs, y)
-both_same (as, b) xs y e f = cc
+both_same (some, one) xs y e f = cc
 
 pub sides_read : (indexes value : List Word) → Reads (AreParts indexes value) parts_trees parts_height (AreIndexesAndValue indexes value)
 sides_read indexes value = record {
