@@ -3,8 +3,8 @@
 
 Each check looks at the files alone and takes no time: that a crate's proofs lean on the contracts of the crates below and not
 on their proofs, how long the longest chain of crates is, that docs/definitions.md is what the definitions say (`--write` writes
-it), that each place that docs/extending.md names is there, and that clauses can be read aloud. tests/run.py counts each of them
-as a case. The last line is `N passed, M failed`; the exit status is 1 where a check failed, else 0.
+it), that each place that docs/extending.md names is there, that the paths and links of all pages lead somewhere, and that clauses
+can be read aloud. tests/run.py counts each of them as a case. The last line is `N passed, M failed`; the exit status is 1 where a check failed, else 0.
 """
 import re
 import sys
@@ -227,6 +227,20 @@ def extending():
             yield f"docs/extending.md names {word} in {path}, which does not have it"
 
 
+# Each path and each link of a page leads to what is there, and each crate says in a page of its own what it is.
+def pages():
+    for page in [TOP / "README.md", *TOP.glob("docs/*.md"), *TOP.glob("*/README.md"), *CRATES.glob("*/README.md")]:
+        text = page.read_text()
+        paths = re.findall(r"`((?:crates|docs|examples|tests|bench)/[\w./+-]+)`", text)
+        links = [page.parent / link for link in re.findall(r"\]\(([^)#:]+)(?:#[^)]*)?\)", text)]
+        for path in [*(TOP / path for path in paths if "/out/" not in path), *links]:
+            if not path.exists():
+                yield f"{page.relative_to(TOP)} names {path}, which is not there"
+    for crate in crates():
+        if not is_test(crate) and not (CRATES / crate / "README.md").is_file():
+            yield f"{crate} has no README.md"
+
+
 def clauses():
     """The width of each clause, with its place."""
     for crate in crates():
@@ -246,7 +260,7 @@ def wide_clauses():
         yield f"{wide} of {len(widths)} clauses have more than {WIDE} columns"
 
 
-CHECKS = [foreign_proofs, chains, definitions, extending, wide_clauses]
+CHECKS = [foreign_proofs, chains, definitions, extending, pages, wide_clauses]
 
 
 def main(words):
