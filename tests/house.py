@@ -90,7 +90,7 @@ class Module:
             self.read(path.read_text())
 
     def read(self, text):
-        comment, current, inside = [], None, False
+        comment, current, inside, above = [], None, False, []
         for line in joined_imports(text).splitlines():
             if line.lstrip().startswith("-- "):
                 comment.append(line.strip().lstrip("- "))
@@ -102,11 +102,11 @@ class Module:
                 self.imports.update(imported(line))
                 self.aliases.update(alias_of(line))
             elif GROUP.match(line):
-                inside, comment = True, []
+                inside, above, comment = True, comment, []
             elif name := self.begun(line, inside):
                 current = name
-                self.definitions[current] = [" ".join(comment), line]
-                comment = []
+                self.definitions[current] = [" ".join(comment or above), line]
+                comment, above = [], []
                 inside = inside and line.startswith(" ")
             elif current:
                 self.definitions[current][1] += "\n" + line
