@@ -17,7 +17,7 @@ use Rattle.mos_value.specs.Values.{Value, One, Place, Operand, Holds, Points, Wa
 use Rattle.mos_value.specs.Answers.{sum, compare, not_equal, range}
 use Rattle.run_state.specs.Stops.{Outcome, Stop, Exited, Failed, Spent, Stopped, Asking, Stuck}
 use Rattle.run_state.specs.State.{World, State}
-use Rattle.run_state.specs.Calls.{Query, Once, Answer, Replied}
+use Rattle.run_state.specs.Calls.{Query, Once, Answer, Replied, Drained}
 use Rattle.run_state.specs.HubFunctions.{HubFunction, isqueueempty, Calling, Makes, Refuses, Unfit, call_of, value_of_reply}
 use Rattle.run_state.specs.Places.{load}
 use Rattle.bim_machine.specs.Machine.{Work, Here, Machine, At, Over, Halt, Fails, Sticks, Act, On, Jumps, Stops, Puts, Asks, Enters, Leaves, Site, push, settle}
@@ -107,6 +107,7 @@ returns _ = Stops Sticks
 -- the value of a reply
 abbrev pub replies : Work → Answer → Act
 replies work (Replied r) = on_some (value_of_reply r) (λ value. On (push value work))
+replies work (Drained bytes) = Stops Sticks
 
 abbrev pub calls : Calling → Work → Act
 calls (Makes call) work = Asks (Once call) (replies work)
@@ -222,3 +223,21 @@ ExampleAgrees =
 -- a thousand calls stand inside one another, each with its tick and that of its statement, and the next one is too deep
 abbrev pub TooDeepMeans : Type 0
 TooDeepMeans = meaning_of too_deep [] [] 10000 ≡ record { output = []; calls = []; ticks = 2002; stop = Failed Depth }
+
+-- its code, and that of its routine
+abbrev pub too_deep_code : List Wider
+too_deep_code =
+    plain Tick ∷ call_routine 0 ∷ plain (StoreGlobal 0) ∷ plain (PushInt (pos 0)) ∷ plain End
+    ∷ plain Tick ∷ call_routine 0 ∷ store_local 0 ∷ load_local 0 ∷ return ∷ []
+
+abbrev pub too_deep_image : Image
+too_deep_image = record example_image {
+  globals = 0 ∷ [];
+  routines = record { address = 5; arguments = 0; slots = record { typ = 0; by_reference = false } ∷ []; result = Some 0 } ∷ [];
+}
+
+-- the machine does the same
+abbrev pub TooDeepAgrees : Type 0
+TooDeepAgrees =
+    told (wider_run too_deep_image too_deep_code (record { replies = []; budget = 10000 }) 2100 (start (One (Int (pos 0)) ∷ [])))
+    ≡ record { output = []; calls = []; ticks = 2002; stop = Failed Depth }
