@@ -109,11 +109,13 @@ abbrev pub replies : Work → Answer → Act
 replies work (Replied r) = on_some (value_of_reply r) (λ value. On (push value work))
 replies work (Drained bytes) = Stops Sticks
 
+-- the call is asked, or its arguments refused
 abbrev pub calls : Calling → Work → Act
 calls (Makes call) work = Asks (Once call) (replies work)
 calls (Refuses kind) work = Stops (Fails kind)
 calls Unfit work = Stops Sticks
 
+-- the act of each
 abbrev pub wider_act : List (List ℕ) → Wider → List Place → Work → List (List Value) → Act
 wider_act constants (plain i) slots work store = act constants i slots work store
 wider_act constants (load_local slot) slots work store =
@@ -136,12 +138,14 @@ wider_named (plain i) = named_address i
 wider_named (step_to address) = Some address
 wider_named _ = None
 
+-- the instruction that was found is carried out
 abbrev pub wider_decoded : Image → World → Option Wider → ℕ → Work → Here → State → Machine
 wider_decoded image w None address work here s = Over Stuck address s
 wider_decoded image w (Some i) address work here s =
     settle image w (wider_act image.constants i here.slots work s.memory.store)
     (record { at = address; next = address + 1; named = unwrap_or (wider_named i) (address + 1) }) here s
 
+-- at most so many steps
 abbrev pub wider_run : Image → List Wider → World → ℕ → Machine → Machine
 wider_run image code w zero m = m
 wider_run image code w (suc n) (Over stop address s) = Over stop address s
@@ -161,12 +165,14 @@ main_code =
     ∷ plain Tick ∷ plain (LoadGlobal 0) ∷ plain Show ∷ plain Write ∷ hub isqueueempty 0 ∷ plain Show ∷ plain Write ∷ plain (PushBool 1) ∷ plain Line
     ∷ plain (PushInt (pos 0)) ∷ plain End ∷ []
 
+-- slot 0 is r, slot 1 is n, slot 2 is y
 abbrev pub addto_code : List Wider
 addto_code =
     plain Tick ∷ load_local 1 ∷ store_local 2
     ∷ plain Tick ∷ load_local 2 ∷ load_local 0 ∷ plain Swap ∷ plain Add ∷ store_local 0
     ∷ return ∷ []
 
+-- the main part, then the routine
 abbrev pub example_code : List Wider
 example_code = main_code ++ addto_code
 
@@ -194,6 +200,7 @@ example_course w = told (wider_run example_image example_code w 200 (start (One 
 
 -- Both sides.
 
+-- what the model means
 abbrev pub example_means : World → Outcome
 example_means w = meaning_of example [] w.replies w.budget
 
@@ -230,6 +237,7 @@ too_deep_code =
     plain Tick ∷ call_routine 0 ∷ plain (StoreGlobal 0) ∷ plain (PushInt (pos 0)) ∷ plain End
     ∷ plain Tick ∷ call_routine 0 ∷ store_local 0 ∷ load_local 0 ∷ return ∷ []
 
+-- the tables of the other model
 abbrev pub too_deep_image : Image
 too_deep_image = record example_image {
   globals = 0 ∷ [];

@@ -45,10 +45,12 @@ stop_by reply.PipeEnd = None
 abbrev pub with_call : Call → Counts → Counts
 with_call call counts = record counts { calls = counts.calls ++ call ∷ [] }
 
+-- a reply that goes on, or the stop that it is
 abbrev pub reply_or_stop : Option Stop → Reply → Counts → Told Reply
 reply_or_stop None r counts = Took r counts
 reply_or_stop (Some stop) r counts = Cut stop counts
 
+-- what a call comes to, with the reply that is found
 abbrev pub replied : Option Reply → Call → Counts → Told Reply
 replied None call counts = Cut (Asking call) counts
 replied (Some r) call counts = reply_or_stop (stop_by r) r (with_call call counts)
@@ -58,6 +60,7 @@ replied (Some r) call counts = reply_or_stop (stop_by r) r (with_call call count
 abbrev pub ask : World → Call → Counts → Told Reply
 ask w call counts = replied (slice_get w.replies (length counts.calls)) call counts
 
+-- a reply as the answer of a query
 abbrev pub as_answer : Told Reply → Told Answer
 as_answer (Took r counts) = Took (Replied r) counts
 as_answer (Cut stop counts) = Cut stop counts
@@ -68,6 +71,7 @@ pub data Piece : Type 0 where
   Last : Piece
   NoPiece : Piece
 
+-- the bytes of a pipe, or its end
 abbrev pub piece_in : Reply → Piece
 piece_in (reply.Bytes bytes) = Part bytes
 piece_in reply.PipeEnd = Last
@@ -95,6 +99,7 @@ abbrev pub further : Bool → List ℕ → Counts → (List ℕ → Counts → T
 further true bytes counts go = go bytes counts
 further false bytes counts go = Cut (Failed TooBig) counts
 
+-- what a call that takes from a pipe comes to, and what is done with the bytes so far
 abbrev pub taken : Option Stop → Piece → List ℕ → Counts → (List ℕ → Counts → Told Answer) → Told Answer
 taken (Some stop) piece sofar counts go = Cut stop counts
 taken None (Part bytes) sofar counts go = further (nat_le (length (sofar ++ bytes)) 1048576) (sofar ++ bytes) counts go
@@ -106,6 +111,7 @@ abbrev pub drain : Call → List Reply → List ℕ → Counts → Told Answer
 drain call [] sofar counts = Cut (Asking call) counts
 drain call (r ∷ rs) sofar counts = taken (stop_by r) (piece_in r) sofar (with_call call counts) (drain call rs)
 
+-- what a query comes to
 abbrev pub inquire : World → Query → Counts → Told Answer
 inquire w (Once call) counts = as_answer (ask w call counts)
 inquire w (UntilEnd call) counts = drain call (drop (length counts.calls) w.replies) [] counts
