@@ -13,13 +13,11 @@ IsSmall (text t) = length t < 2 ^ 32
 IsSmall (apply operator a b) = IsSmall a × IsSmall b
 IsSmall _ = Unit {0}
 
--- what is printed
 abbrev pub AreSmall : Shown → Type 0
 AreSmall nothing = Unit {0}
 AreSmall (one_more e es) = IsSmall e × AreSmall es
 
 abbrev mutual
-  -- a statement
   pub IsSmallEffect : Effect → Type 0
   IsSmallEffect (assign line scope n e) = IsSmall e
   IsSmallEffect (change line operator scope n e) = IsSmall e
@@ -32,12 +30,10 @@ abbrev mutual
   IsSmallEffect (next_ line) = Unit {0}
   IsSmallEffect unbuilt_effect = Unit {0}
 
-  -- branches
   pub AreSmallBranches : Branches → Type 0
   AreSmallBranches (else_ all) = IsSmallBlock all
   AreSmallBranches (elif line e all rest) = IsSmall e × IsSmallBlock all × AreSmallBranches rest
 
-  -- the statements of a block
   pub IsSmallBlock : Block → Type 0
   IsSmallBlock no_more = Unit {0}
   IsSmallBlock (first e rest) = IsSmallEffect e × IsSmallBlock rest

@@ -12,7 +12,6 @@ use Rattle.mos_meaning.specs.Meaning.{meaning_of}
 use Rattle.mos_meaning.specs.Working.{AllWork}
 use Rattle.bim_compile.specs.InSize.{IsInSize}
 
--- both have the same outcome
 abbrev pub Means : Program → Image → Type 0
 Means program image = (text : List ℕ) (replies : List Reply) (budget : ℕ)
     → (course_of image text replies budget).outcome ≡ meaning_of program text replies budget

@@ -37,10 +37,8 @@ pub fn compile(alloc: Global, tree: &Tree) -> Result<Image, NoMemory>
     ensures fields { IfOk result FitsFields }
 
     // It has few instructions for each node and statement of the model: 5, and 2 for the end.
-    ensures few { IfOk result (λ image. length image.code
-        ≤ 5 * size_of_block (statements_of tree.now) + 2) }
-    ensures size { IfOk result (λ image. code_size image.code
-        ≤ 13 * size_of_block (statements_of tree.now) + 6) }
+    ensures few { IfOk result (λ image. length image.code ≤ 5 * size_of_block (statements_of tree.now) + 2) }
+    ensures size { IfOk result (λ image. code_size image.code ≤ 13 * size_of_block (statements_of tree.now) + 6) }
 {
     machine_laws();
     working_models();
