@@ -4,4 +4,5 @@ pub mod Code
 pub mod Tables
 pub mod Limits
 pub mod Rules
+pub mod AddressLaws
 pub mod Examples

@@ -21,9 +21,11 @@ listed operands.None = []
 listed (operands.One n) = n ∷ []
 listed (operands.Two n m) = n ∷ m ∷ []
 
+-- a row by its columns
 abbrev pub row : ℕ → List ℕ → List ℕ → Row
 row code name operands = record { code = code; name = name; operands = operands }
 
+-- the code byte of each comparison
 abbrev pub code_of_comparison : Comparison → ℕ
 code_of_comparison Equal = 0x1B
 code_of_comparison NotEqual = 0x1C
@@ -32,6 +34,7 @@ code_of_comparison AtMost = 0x1E
 code_of_comparison Greater = 0x1F
 code_of_comparison AtLeast = 0x20
 
+-- the name of each
 abbrev pub name_of_comparison : Comparison → List ℕ
 name_of_comparison Equal = codes "Eq"
 name_of_comparison NotEqual = codes "Ne"

@@ -7,6 +7,7 @@ abbrev pub IsModels : Scope → Type 0
 IsModels Model = Unit {0}
 IsModels Own = ⊥
 
+-- an expression
 abbrev pub IsBuilt : Expression → Type 0
 IsBuilt (number n) = Unit {0}
 IsBuilt (text t) = Unit {0}
@@ -20,11 +21,13 @@ IsBuilt (invoke routine all) = ⊥
 IsBuilt (ask_hub function all) = ⊥
 IsBuilt unbuilt = ⊥
 
+-- what is printed
 abbrev pub AreBuilt : Shown → Type 0
 AreBuilt nothing = Unit {0}
 AreBuilt (one_more e es) = IsBuilt e × AreBuilt es
 
 abbrev mutual
+  -- a statement
   pub IsBuiltEffect : Effect → Type 0
   IsBuiltEffect (assign line scope n e) = IsModels scope × IsBuilt e
   IsBuiltEffect (change line operator scope n e) = IsModels scope × IsBuilt e
@@ -37,10 +40,12 @@ abbrev mutual
   IsBuiltEffect (perform line routine all) = ⊥
   IsBuiltEffect unbuilt_effect = ⊥
 
+  -- branches
   pub AreBuiltBranches : Branches → Type 0
   AreBuiltBranches (else_ all) = IsBuiltBlock all
   AreBuiltBranches (elif line e all rest) = IsBuilt e × IsBuiltBlock all × AreBuiltBranches rest
 
+  -- the statements of a block
   pub IsBuiltBlock : Block → Type 0
   IsBuiltBlock no_more = Unit {0}
   IsBuiltBlock (first e rest) = IsBuiltEffect e × IsBuiltBlock rest

@@ -27,11 +27,13 @@ texts_in (text t) = t ∷ []
 texts_in (apply operator a b) = texts_in a ++ texts_in b
 texts_in _ = []
 
+-- of what is printed
 abbrev pub texts_in_all : Shown → List (List ℕ)
 texts_in_all nothing = []
 texts_in_all (one_more e es) = texts_in e ++ texts_in_all es
 
 abbrev mutual
+  -- of a statement
   pub texts_in_effect : Effect → List (List ℕ)
   texts_in_effect (assign line scope n e) = texts_in e
   texts_in_effect (change line operator scope n e) = texts_in e
@@ -44,14 +46,17 @@ abbrev mutual
   texts_in_effect (next_ line) = []
   texts_in_effect unbuilt_effect = []
 
+  -- of branches
   pub texts_in_branches : Branches → List (List ℕ)
   texts_in_branches (else_ all) = texts_in_block all
   texts_in_branches (elif line e all rest) = texts_in e ++ (texts_in_block all ++ texts_in_branches rest)
 
+  -- of the statements of a block
   pub texts_in_block : Block → List (List ℕ)
   texts_in_block no_more = []
   texts_in_block (first e rest) = texts_in_effect e ++ texts_in_block rest
 
+-- the comparison of an instruction
 abbrev pub comparison_code : how.Comparison → Comparison
 comparison_code how.equal = Equal
 comparison_code how.not_equal = NotEqual
@@ -60,6 +65,7 @@ comparison_code how.at_most = AtMost
 comparison_code how.greater = Greater
 comparison_code how.at_least = AtLeast
 
+-- the instruction of an operator
 abbrev pub operator_code : how.Operator → Instruction
 operator_code how.sum = Add
 operator_code how.difference = Subtract
@@ -85,6 +91,7 @@ arguments_code names line k (one_more e es) =
 
 -- the address behind the code of a form that begins at `at`
 
+-- of an expression
 abbrev pub expression_end : ℕ → Expression → ℕ
 expression_end at (number n) = at + 5
 expression_end at (text t) = at + 5
@@ -93,11 +100,13 @@ expression_end at (variable scope n) = at + 5
 expression_end at (apply operator a b) = expression_end (expression_end at a) b + 1
 expression_end at _ = at
 
+-- of what is printed
 abbrev pub arguments_end : ℕ → Shown → ℕ
 arguments_end at nothing = at
 arguments_end at (one_more e es) = arguments_end (expression_end at e + 1 + 1) es
 
 abbrev mutual
+  -- of a statement
   pub effect_end : ℕ → Effect → ℕ
   effect_end at (assign line scope n e) = expression_end (at + 1) e + 5
   effect_end at (change line operator scope n e) = expression_end (at + 1) e + 5 + 1 + 1 + 5
@@ -110,10 +119,12 @@ abbrev mutual
   effect_end at (perform line routine all) = at
   effect_end at unbuilt_effect = at
 
+  -- of branches
   pub branches_end : ℕ → Branches → ℕ
   branches_end at (else_ all) = block_end at all
   branches_end at (elif line e all rest) = branches_end (block_end (expression_end at e + 5) all + 5) rest
 
+  -- of the statements of a block
   pub block_end : ℕ → Block → ℕ
   block_end at no_more = at
   block_end at (first e rest) = block_end (effect_end at e) rest
@@ -121,6 +132,7 @@ abbrev mutual
 -- the code of a statement that begins at `at`: `out` and `next` are where `break` and `next` lead. A loop
 -- tests behind its body, and each pass begins with the tick to which the test jumps back.
 abbrev mutual
+  -- of one statement
   pub effect_code : List Name → ℕ → (at out next : ℕ) → Effect → List Labelled
   effect_code names k at out next (assign line scope n e) =
       at_line line Tick ∷ (expression_code names line k e ++ at_line line (StoreGlobal (place_of n names)) ∷ [])
@@ -155,6 +167,7 @@ abbrev mutual
       ++ at_line line (JumpNot other) ∷ (block_code names l body out next all
       ++ at_line line (Jump end) ∷ branches_code names (l + length (texts_in_block all)) other end out next rest)
 
+  -- of the statements of a block
   pub block_code : List Name → ℕ → (at out next : ℕ) → Block → List Labelled
   block_code names k at out next no_more = []
   block_code names k at out next (first e rest) =
@@ -174,6 +187,7 @@ labelled_of model =
 abbrev pub instructions : List Labelled → List Instruction
 instructions labelled = map (λ (l : Labelled). l.instruction) labelled
 
+-- the whole image
 abbrev pub image_of : Block → Image
 image_of model = record {
   constants = texts_in_block model;

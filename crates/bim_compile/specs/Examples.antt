@@ -44,12 +44,15 @@ UntilTwoCode = (image_of until_two).code ≡
     ∷ Tick ∷ LoadGlobal 0 ∷ Show ∷ Write ∷ PushBool 1 ∷ Line
     ∷ PushInt (pos 0) ∷ End ∷ []
 
+-- the image of an `if` does what the model means
 abbrev pub LastWayCourse : Type 0
 LastWayCourse = course_of (image_of last_way) [] [] 10000000 ≡ record { outcome = outcome (codes "c") 2 (Exited (pos 0)); steps = 15 }
 
+-- so does that of a loop
 abbrev pub DownCourse : Type 0
 DownCourse = course_of (image_of down) [] [] 10000000 ≡ record { outcome = outcome [] 8 (Exited (pos 0)); steps = 44 }
 
+-- with one tick less than it needs
 abbrev pub DownSpent : Type 0
 DownSpent = course_of (image_of down) [] [] 7 ≡ record { outcome = outcome [] 7 Spent; steps = 33 }
 
@@ -57,5 +60,6 @@ DownSpent = course_of (image_of down) [] [] 7 ≡ record { outcome = outcome [] 
 abbrev pub EndlessSpent : Type 0
 EndlessSpent = course_of (image_of endless) [] [] 10 ≡ record { outcome = outcome (codes "a") 10 Spent; steps = 31 }
 
+-- so does that of a loop that is left by `break`
 abbrev pub UntilTwoCourse : Type 0
 UntilTwoCourse = course_of (image_of until_two) [] [] 10000000 ≡ record { outcome = outcome (codes "2\n") 10 (Exited (pos 0)); steps = 43 }

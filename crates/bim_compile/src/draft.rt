@@ -47,7 +47,8 @@ impl Draft {
     /// Puts an instruction of the piece on this line behind the code.
     pub(crate) fn put(&mut self, line: u32, instruction: Instruction) -> Result<(), NoMemory>
         requires { self.old.at + 5 < 2 ^ 32 }
-        ensures code { OnOk result (self.new.code ≡ self.old.code ++ at_line line instruction ∷ []) }
+        ensures code { OnOk result (self.new.code ≡ self.old.code
+            ++ at_line line instruction ∷ []) }
         ensures constants { OnOk result (self.new.constants ≡ self.old.constants) }
         ensures at { OnOk result (self.new.at ≡ self.old.at + width instruction) }
     {

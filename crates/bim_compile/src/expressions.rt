@@ -23,12 +23,16 @@ pub(crate) fn emit_expression(
 ) -> Result<(), NoMemory>
     requires built { IsBuilt (expression written.now) }
     requires few_names { length names.now < 2 ^ 31 }
-    requires few { length draft.old.constants + length (texts_in (expression written.now)) < 2 ^ 32 }
+    requires few { length draft.old.constants + length (texts_in (expression written.now))
+        < 2 ^ 32 }
     requires room { draft.old.at + 5 * size_of (expression written.now) + 5 < 2 ^ 32 }
-    ensures code { OnOk result (draft.new.code ≡ draft.old.code ++ expression_code names.now line (length draft.old.constants) (expression written.now)) }
-    ensures constants { OnOk result (draft.new.constants ≡ draft.old.constants ++ texts_in (expression written.now)) }
+    ensures code { OnOk result (draft.new.code ≡ draft.old.code
+        ++ expression_code names.now line (length draft.old.constants) (expression written.now)) }
+    ensures constants { OnOk result (draft.new.constants ≡ draft.old.constants
+        ++ texts_in (expression written.now)) }
     ensures at { OnOk result (draft.new.at ≡ expression_end draft.old.at (expression written.now)) }
-    ensures within { OnOk result (draft.new.at ≤ draft.old.at + 5 * size_of (expression written.now)) }
+    ensures within { OnOk result (draft.new.at
+        ≤ draft.old.at + 5 * size_of (expression written.now)) }
 {
     match written {
         Expr::Integer(number) => draft.put(line, Instruction::PushInt(*number)),
@@ -48,7 +52,8 @@ pub(crate) fn emit_expression(
 }
 
 fn instruction_of(operator: BinaryOperator) -> Option<Instruction>
-    ensures { MatchOption result (operator_of operator ≡ None) (λ i. (o : Operator) × (operator_of operator ≡ Some o) × (i ≡ operator_code o)) }
+    ensures { MatchOption result (operator_of operator
+        ≡ None) (λ i. (o : Operator) × (operator_of operator ≡ Some o) × (i ≡ operator_code o)) }
 {
     match operator {
         BinaryOperator::Plus => Some(Instruction::Add),
@@ -66,7 +71,8 @@ fn instruction_of(operator: BinaryOperator) -> Option<Instruction>
 fn emit_text(alloc: Global, draft: &mut Draft, line: u32, text: &Text) -> Result<(), NoMemory>
     requires few { length draft.old.constants + 1 < 2 ^ 32 }
     requires room { draft.old.at + 5 < 2 ^ 32 }
-    ensures code { OnOk result (draft.new.code ≡ draft.old.code ++ at_line line (Instruction.PushText (length draft.old.constants)) ∷ []) }
+    ensures code { OnOk result (draft.new.code ≡ draft.old.code
+        ++ at_line line (Instruction.PushText (length draft.old.constants)) ∷ []) }
     ensures constants { OnOk result (draft.new.constants ≡ draft.old.constants ++ text.now ∷ []) }
     ensures at { OnOk result (draft.new.at ≡ draft.old.at + 5) }
 {

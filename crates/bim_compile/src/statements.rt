@@ -26,12 +26,20 @@ pub(crate) fn emit_tops(
 ) -> Result<(), NoMemory>
     requires built { IsBuiltBlock (block (map top_effect tops.now)) }
     requires few_names { length names.now < 2 ^ 31 }
-    requires few { length draft.old.constants + length (texts_in_block (block (map top_effect tops.now))) < 2 ^ 32 }
-    requires room { draft.old.at + 13 * size_of_block (block (map top_effect tops.now)) + 13 < 2 ^ 32 }
-    ensures code { OnOk result (draft.new.code ≡ draft.old.code ++ block_code names.now (length draft.old.constants) draft.old.at exits.out exits.next (block (map top_effect tops.now))) }
-    ensures constants { OnOk result (draft.new.constants ≡ draft.old.constants ++ texts_in_block (block (map top_effect tops.now))) }
-    ensures at { OnOk result (draft.new.at ≡ block_end draft.old.at (block (map top_effect tops.now))) }
-    ensures within { OnOk result (draft.new.at ≤ draft.old.at + 13 * size_of_block (block (map top_effect tops.now))) }
+    requires few { length draft.old.constants + length (texts_in_block (block
+        (map top_effect tops.now)))
+        < 2 ^ 32 }
+    requires room { draft.old.at + 13 * size_of_block (block (map top_effect tops.now)) + 13
+        < 2 ^ 32 }
+    ensures code { OnOk result (draft.new.code ≡ draft.old.code
+        ++ block_code names.now (length draft.old.constants) draft.old.at exits.out exits.next
+        (block (map top_effect tops.now))) }
+    ensures constants { OnOk result (draft.new.constants ≡ draft.old.constants
+        ++ texts_in_block (block (map top_effect tops.now))) }
+    ensures at { OnOk result (draft.new.at
+        ≡ block_end draft.old.at (block (map top_effect tops.now))) }
+    ensures within { OnOk result (draft.new.at
+        ≤ draft.old.at + 13 * size_of_block (block (map top_effect tops.now))) }
 {
     for top in tops {
         emit_top(alloc, draft, names, exits, top)?;
@@ -48,12 +56,17 @@ fn emit_top(
 ) -> Result<(), NoMemory>
     requires built { IsBuiltEffect (top_effect top.now) }
     requires few_names { length names.now < 2 ^ 31 }
-    requires few { length draft.old.constants + length (texts_in_effect (top_effect top.now)) < 2 ^ 32 }
+    requires few { length draft.old.constants + length (texts_in_effect (top_effect top.now))
+        < 2 ^ 32 }
     requires room { draft.old.at + 13 * size_of_effect (top_effect top.now) + 13 < 2 ^ 32 }
-    ensures code { OnOk result (draft.new.code ≡ draft.old.code ++ effect_code names.now (length draft.old.constants) draft.old.at exits.out exits.next (top_effect top.now)) }
-    ensures constants { OnOk result (draft.new.constants ≡ draft.old.constants ++ texts_in_effect (top_effect top.now)) }
+    ensures code { OnOk result (draft.new.code ≡ draft.old.code
+        ++ effect_code names.now (length draft.old.constants) draft.old.at exits.out exits.next
+        (top_effect top.now)) }
+    ensures constants { OnOk result (draft.new.constants ≡ draft.old.constants
+        ++ texts_in_effect (top_effect top.now)) }
     ensures at { OnOk result (draft.new.at ≡ effect_end draft.old.at (top_effect top.now)) }
-    ensures within { OnOk result (draft.new.at ≤ draft.old.at + 13 * size_of_effect (top_effect top.now)) }
+    ensures within { OnOk result (draft.new.at
+        ≤ draft.old.at + 13 * size_of_effect (top_effect top.now)) }
 {
     match top {
         Top::Statement(statement) => emit_statement(alloc, draft, names, exits, statement),
@@ -71,12 +84,17 @@ fn emit_statement(
 ) -> Result<(), NoMemory>
     requires built { IsBuiltEffect (effect statement.now) }
     requires few_names { length names.now < 2 ^ 31 }
-    requires few { length draft.old.constants + length (texts_in_effect (effect statement.now)) < 2 ^ 32 }
+    requires few { length draft.old.constants + length (texts_in_effect (effect statement.now))
+        < 2 ^ 32 }
     requires room { draft.old.at + 13 * size_of_effect (effect statement.now) + 13 < 2 ^ 32 }
-    ensures code { OnOk result (draft.new.code ≡ draft.old.code ++ effect_code names.now (length draft.old.constants) draft.old.at exits.out exits.next (effect statement.now)) }
-    ensures constants { OnOk result (draft.new.constants ≡ draft.old.constants ++ texts_in_effect (effect statement.now)) }
+    ensures code { OnOk result (draft.new.code ≡ draft.old.code
+        ++ effect_code names.now (length draft.old.constants) draft.old.at exits.out exits.next
+        (effect statement.now)) }
+    ensures constants { OnOk result (draft.new.constants ≡ draft.old.constants
+        ++ texts_in_effect (effect statement.now)) }
     ensures at { OnOk result (draft.new.at ≡ effect_end draft.old.at (effect statement.now)) }
-    ensures within { OnOk result (draft.new.at ≤ draft.old.at + 13 * size_of_effect (effect statement.now)) }
+    ensures within { OnOk result (draft.new.at
+        ≤ draft.old.at + 13 * size_of_effect (effect statement.now)) }
 {
     match statement {
         Statement::Assign {
@@ -113,7 +131,8 @@ fn emit_statement(
 /// Adds the code of a statement that leads to another place.
 fn emit_exit(draft: &mut Draft, line: u32, to: u32) -> Result<(), NoMemory>
     requires { draft.old.at + 13 < 2 ^ 32 }
-    ensures code { OnOk result (draft.new.code ≡ draft.old.code ++ at_line line Instruction.Tick ∷ at_line line (Instruction.Jump to) ∷ []) }
+    ensures code { OnOk result (draft.new.code ≡ draft.old.code
+        ++ at_line line Instruction.Tick ∷ at_line line (Instruction.Jump to) ∷ []) }
     ensures constants { OnOk result (draft.new.constants ≡ draft.old.constants) }
     ensures at { OnOk result (draft.new.at ≡ draft.old.at + 1 + 5) }
 {
@@ -134,12 +153,21 @@ fn emit_branches(
     requires choice { IsChoice (effect statement.now) }
     requires built { AreBuiltBranches (choice_of (effect statement.now)) }
     requires few_names { length names.now < 2 ^ 31 }
-    requires few { length draft.old.constants + length (texts_in_branches (choice_of (effect statement.now))) < 2 ^ 32 }
-    requires room { draft.old.at + 13 * size_of_branches (choice_of (effect statement.now)) + 13 < 2 ^ 32 }
-    ensures code { OnOk result (draft.new.code ≡ draft.old.code ++ branches_code names.now (length draft.old.constants) draft.old.at end exits.out exits.next (choice_of (effect statement.now))) }
-    ensures constants { OnOk result (draft.new.constants ≡ draft.old.constants ++ texts_in_branches (choice_of (effect statement.now))) }
-    ensures at { OnOk result (draft.new.at ≡ branches_end draft.old.at (choice_of (effect statement.now))) }
-    ensures within { OnOk result (draft.new.at ≤ draft.old.at + 13 * size_of_branches (choice_of (effect statement.now))) }
+    requires few { length draft.old.constants + length (texts_in_branches (choice_of
+        (effect statement.now)))
+        < 2 ^ 32 }
+    requires room { draft.old.at + 13 * size_of_branches (choice_of (effect statement.now)) + 13
+        < 2 ^ 32 }
+    ensures code { OnOk result (draft.new.code ≡ draft.old.code
+        ++ branches_code names.now
+        (length draft.old.constants) draft.old.at end exits.out exits.next (choice_of
+        (effect statement.now))) }
+    ensures constants { OnOk result (draft.new.constants ≡ draft.old.constants
+        ++ texts_in_branches (choice_of (effect statement.now))) }
+    ensures at { OnOk result (draft.new.at
+        ≡ branches_end draft.old.at (choice_of (effect statement.now))) }
+    ensures within { OnOk result (draft.new.at
+        ≤ draft.old.at + 13 * size_of_branches (choice_of (effect statement.now))) }
 {
     let Statement::If {
         arms,
@@ -171,12 +199,17 @@ fn emit_loop(
     requires repeats { IsLoop (effect statement.now) }
     requires built { IsBuiltEffect (effect statement.now) }
     requires few_names { length names.now < 2 ^ 31 }
-    requires few { length draft.old.constants + length (texts_in_effect (effect statement.now)) < 2 ^ 32 }
+    requires few { length draft.old.constants + length (texts_in_effect (effect statement.now))
+        < 2 ^ 32 }
     requires room { draft.old.at + 13 * size_of_effect (effect statement.now) + 13 < 2 ^ 32 }
-    ensures code { OnOk result (draft.new.code ≡ draft.old.code ++ effect_code names.now (length draft.old.constants) draft.old.at exits.out exits.next (effect statement.now)) }
-    ensures constants { OnOk result (draft.new.constants ≡ draft.old.constants ++ texts_in_effect (effect statement.now)) }
+    ensures code { OnOk result (draft.new.code ≡ draft.old.code
+        ++ effect_code names.now (length draft.old.constants) draft.old.at exits.out exits.next
+        (effect statement.now)) }
+    ensures constants { OnOk result (draft.new.constants ≡ draft.old.constants
+        ++ texts_in_effect (effect statement.now)) }
     ensures at { OnOk result (draft.new.at ≡ effect_end draft.old.at (effect statement.now)) }
-    ensures within { OnOk result (draft.new.at ≤ draft.old.at + 13 * size_of_effect (effect statement.now)) }
+    ensures within { OnOk result (draft.new.at
+        ≤ draft.old.at + 13 * size_of_effect (effect statement.now)) }
 {
     let Statement::While {
         line,
@@ -197,7 +230,9 @@ fn emit_loop(
 /// Adds the code that leads to the first test of a loop, and the tick of a pass.
 fn emit_first_test(draft: &mut Draft, line: u32, test: u32) -> Result<(), NoMemory>
     requires { draft.old.at + 13 < 2 ^ 32 }
-    ensures code { OnOk result (draft.new.code ≡ draft.old.code ++ at_line line Instruction.Tick ∷ at_line line (Instruction.Jump test) ∷ at_line line Instruction.Tick ∷ []) }
+    ensures code { OnOk result (draft.new.code ≡ draft.old.code
+        ++ at_line line Instruction.Tick ∷ at_line line
+        (Instruction.Jump test) ∷ at_line line Instruction.Tick ∷ []) }
     ensures constants { OnOk result (draft.new.constants ≡ draft.old.constants) }
     ensures at { OnOk result (draft.new.at ≡ draft.old.at + 1 + 5 + 1) }
 {
@@ -217,12 +252,18 @@ fn emit_test(
 ) -> Result<(), NoMemory>
     requires built { IsBuilt (expression condition.now) }
     requires few_names { length names.now < 2 ^ 31 }
-    requires few { length draft.old.constants + length (texts_in (expression condition.now)) < 2 ^ 32 }
+    requires few { length draft.old.constants + length (texts_in (expression condition.now))
+        < 2 ^ 32 }
     requires room { draft.old.at + 5 * size_of (expression condition.now) + 5 < 2 ^ 32 }
-    ensures code { OnOk result (draft.new.code ≡ draft.old.code ++ (expression_code names.now line (length draft.old.constants) (expression condition.now) ++ at_line line (Instruction.JumpIf pass) ∷ [])) }
-    ensures constants { OnOk result (draft.new.constants ≡ draft.old.constants ++ texts_in (expression condition.now)) }
-    ensures at { OnOk result (draft.new.at ≡ expression_end draft.old.at (expression condition.now) + 5) }
-    ensures within { OnOk result (draft.new.at ≤ draft.old.at + 5 * size_of (expression condition.now) + 5) }
+    ensures code { OnOk result (draft.new.code ≡ draft.old.code
+        ++ (expression_code names.now line (length draft.old.constants) (expression condition.now)
+        ++ at_line line (Instruction.JumpIf pass) ∷ [])) }
+    ensures constants { OnOk result (draft.new.constants ≡ draft.old.constants
+        ++ texts_in (expression condition.now)) }
+    ensures at { OnOk result (draft.new.at
+        ≡ expression_end draft.old.at (expression condition.now) + 5) }
+    ensures within { OnOk result (draft.new.at
+        ≤ draft.old.at + 5 * size_of (expression condition.now) + 5) }
 {
     emit_expression(alloc, draft, names, line, condition)?;
     draft.put(line, Instruction::JumpIf(pass))
@@ -238,12 +279,17 @@ fn emit_block(
 ) -> Result<(), NoMemory>
     requires built { IsBuiltBlock (block_of all.now) }
     requires few_names { length names.now < 2 ^ 31 }
-    requires few { length draft.old.constants + length (texts_in_block (block_of all.now)) < 2 ^ 32 }
+    requires few { length draft.old.constants + length (texts_in_block (block_of all.now))
+        < 2 ^ 32 }
     requires room { draft.old.at + 13 * size_of_block (block_of all.now) + 13 < 2 ^ 32 }
-    ensures code { OnOk result (draft.new.code ≡ draft.old.code ++ block_code names.now (length draft.old.constants) draft.old.at exits.out exits.next (block_of all.now)) }
-    ensures constants { OnOk result (draft.new.constants ≡ draft.old.constants ++ texts_in_block (block_of all.now)) }
+    ensures code { OnOk result (draft.new.code ≡ draft.old.code
+        ++ block_code names.now (length draft.old.constants) draft.old.at exits.out exits.next
+        (block_of all.now)) }
+    ensures constants { OnOk result (draft.new.constants ≡ draft.old.constants
+        ++ texts_in_block (block_of all.now)) }
     ensures at { OnOk result (draft.new.at ≡ block_end draft.old.at (block_of all.now)) }
-    ensures within { OnOk result (draft.new.at ≤ draft.old.at + 13 * size_of_block (block_of all.now)) }
+    ensures within { OnOk result (draft.new.at
+        ≤ draft.old.at + 13 * size_of_block (block_of all.now)) }
 {
     for statement in all {
         emit_statement(alloc, draft, names, exits, statement)?;
@@ -262,12 +308,21 @@ fn emit_write(
 ) -> Result<(), NoMemory>
     requires built { AreBuilt (shown (map expression all.now)) }
     requires few_names { length names.now < 2 ^ 31 }
-    requires few { length draft.old.constants + length (texts_in_all (shown (map expression all.now))) < 2 ^ 32 }
+    requires few { length draft.old.constants + length (texts_in_all (shown
+        (map expression all.now)))
+        < 2 ^ 32 }
     requires room { draft.old.at + 7 * size_of_all (shown (map expression all.now)) + 13 < 2 ^ 32 }
-    ensures code { OnOk result (draft.new.code ≡ draft.old.code ++ at_line line Instruction.Tick ∷ (arguments_code names.now line (length draft.old.constants) (shown (map expression all.now)) ++ at_line line (Instruction.PushBool (from_bool newline)) ∷ at_line line Instruction.Line ∷ [])) }
-    ensures constants { OnOk result (draft.new.constants ≡ draft.old.constants ++ texts_in_all (shown (map expression all.now))) }
-    ensures at { OnOk result (draft.new.at ≡ arguments_end (draft.old.at + 1) (shown (map expression all.now)) + 5 + 1) }
-    ensures within { OnOk result (draft.new.at ≤ draft.old.at + 7 * size_of_all (shown (map expression all.now)) + 7) }
+    ensures code { OnOk result (draft.new.code ≡ draft.old.code
+        ++ at_line line Instruction.Tick ∷ (arguments_code names.now line
+        (length draft.old.constants) (shown (map expression all.now))
+        ++ at_line line (Instruction.PushBool
+        (from_bool newline)) ∷ at_line line Instruction.Line ∷ [])) }
+    ensures constants { OnOk result (draft.new.constants ≡ draft.old.constants
+        ++ texts_in_all (shown (map expression all.now))) }
+    ensures at { OnOk result (draft.new.at
+        ≡ arguments_end (draft.old.at + 1) (shown (map expression all.now)) + 5 + 1) }
+    ensures within { OnOk result (draft.new.at
+        ≤ draft.old.at + 7 * size_of_all (shown (map expression all.now)) + 7) }
 {
     draft.put(line, Instruction::Tick)?;
     emit_arguments(alloc, draft, names, line, all)?;
@@ -284,12 +339,19 @@ fn emit_arguments(
 ) -> Result<(), NoMemory>
     requires built { AreBuilt (shown (map expression all.now)) }
     requires few_names { length names.now < 2 ^ 31 }
-    requires few { length draft.old.constants + length (texts_in_all (shown (map expression all.now))) < 2 ^ 32 }
+    requires few { length draft.old.constants + length (texts_in_all (shown
+        (map expression all.now)))
+        < 2 ^ 32 }
     requires room { draft.old.at + 7 * size_of_all (shown (map expression all.now)) + 8 < 2 ^ 32 }
-    ensures code { OnOk result (draft.new.code ≡ draft.old.code ++ arguments_code names.now line (length draft.old.constants) (shown (map expression all.now))) }
-    ensures constants { OnOk result (draft.new.constants ≡ draft.old.constants ++ texts_in_all (shown (map expression all.now))) }
-    ensures at { OnOk result (draft.new.at ≡ arguments_end draft.old.at (shown (map expression all.now))) }
-    ensures within { OnOk result (draft.new.at ≤ draft.old.at + 7 * size_of_all (shown (map expression all.now))) }
+    ensures code { OnOk result (draft.new.code ≡ draft.old.code
+        ++ arguments_code names.now line (length draft.old.constants) (shown
+        (map expression all.now))) }
+    ensures constants { OnOk result (draft.new.constants ≡ draft.old.constants
+        ++ texts_in_all (shown (map expression all.now))) }
+    ensures at { OnOk result (draft.new.at
+        ≡ arguments_end draft.old.at (shown (map expression all.now))) }
+    ensures within { OnOk result (draft.new.at
+        ≤ draft.old.at + 7 * size_of_all (shown (map expression all.now))) }
 {
     for written in all {
         emit_expression(alloc, draft, names, line, written)?;
@@ -311,12 +373,22 @@ fn emit_assignment(
 ) -> Result<(), NoMemory>
     requires built { IsBuiltEffect (assignment line target.now operator (expression value.now)) }
     requires few_names { length names.now < 2 ^ 31 }
-    requires few { length draft.old.constants + length (texts_in_effect (assignment line target.now operator (expression value.now))) < 2 ^ 32 }
-    requires room { draft.old.at + 13 * size_of_effect (assignment line target.now operator (expression value.now)) + 13 < 2 ^ 32 }
-    ensures code { OnOk result (draft.new.code ≡ draft.old.code ++ effect_code names.now (length draft.old.constants) draft.old.at 0 0 (assignment line target.now operator (expression value.now))) }
-    ensures constants { OnOk result (draft.new.constants ≡ draft.old.constants ++ texts_in_effect (assignment line target.now operator (expression value.now))) }
-    ensures at { OnOk result (draft.new.at ≡ effect_end draft.old.at (assignment line target.now operator (expression value.now))) }
-    ensures within { OnOk result (draft.new.at ≤ draft.old.at + 13 * size_of_effect (assignment line target.now operator (expression value.now))) }
+    requires few { length draft.old.constants + length (texts_in_effect
+        (assignment line target.now operator (expression value.now)))
+        < 2 ^ 32 }
+    requires room { draft.old.at + 13 * size_of_effect (assignment line target.now operator
+        (expression value.now)) + 13
+        < 2 ^ 32 }
+    ensures code { OnOk result (draft.new.code ≡ draft.old.code
+        ++ effect_code names.now (length draft.old.constants) draft.old.at 0 0
+        (assignment line target.now operator (expression value.now))) }
+    ensures constants { OnOk result (draft.new.constants ≡ draft.old.constants
+        ++ texts_in_effect (assignment line target.now operator (expression value.now))) }
+    ensures at { OnOk result (draft.new.at
+        ≡ effect_end draft.old.at (assignment line target.now operator (expression value.now))) }
+    ensures within { OnOk result (draft.new.at
+        ≤ draft.old.at + 13 * size_of_effect (assignment line target.now operator
+        (expression value.now))) }
 {
     let Reference::Name(name) = target else {
         unreachable!()
@@ -341,7 +413,10 @@ fn emit_change(
 ) -> Result<(), NoMemory>
     requires room { draft.old.at + 17 < 2 ^ 32 }
     requires operator { width operator ≡ 1 }
-    ensures code { OnOk result (draft.new.code ≡ draft.old.code ++ at_line line (Instruction.LoadGlobal slot) ∷ at_line line Instruction.Swap ∷ at_line line operator ∷ []) }
+    ensures code { OnOk result (draft.new.code ≡ draft.old.code
+        ++ at_line line
+        (Instruction.LoadGlobal slot) ∷ at_line line Instruction.Swap ∷ at_line line operator ∷
+        []) }
     ensures constants { OnOk result (draft.new.constants ≡ draft.old.constants) }
     ensures at { OnOk result (draft.new.at ≡ draft.old.at + 5 + 1 + 1) }
 {

@@ -1,6 +1,6 @@
 -- Output, answered calls and ticks grow, within what the world gives.
 
-use Rattle.std.proofs.Common.{◌≡◌, ◌≤◌, ℕ, ◌+◌, zero, suc, Bool, true, false, List, [], ◌∷◌, ◌++◌, length, Option, Some, None, refl, sym, ap, ◌∙◌, subst, slice_get, nat_le, nat_lt, append_assoc, append-nil, length-append, arith}
+use Rattle.std.proofs.Common.{◌≡◌, ◌≤◌, ◌<◌, ℕ, ◌+◌, zero, suc, Bool, true, false, List, [], ◌∷◌, ◌++◌, length, Option, Some, None, refl, sym, ap, ◌∙◌, subst, slice_get, nat_le, nat_lt, drop, append_assoc, append-nil, length-append, arith}
 use Rattle.std.proofs.lemmas.Option.{slice_get_within}
 use Rattle.job_calls.specs.declared.reply.Reply.TheVariants as reply
 use Rattle.std.specs.Prelude.{if◌then◌else◌}
@@ -15,7 +15,7 @@ use Rattle.bim_code.specs.Code.{instruction_at}
 use Rattle.mos_value.specs.Values.{Value, Operand}
 use Rattle.run_state.specs.Stops.{Stop, Exited, Failed, Spent, Stopped, Asking, Stuck, Lost}
 use Rattle.run_state.specs.State.{World, State, Counts, counting, had, tick, tick_if, Gave, Halts, write}
-use Rattle.run_state.specs.Calls.{Query, Once, Answer, Replied, stop_by, with_call, reply_or_stop, replied, as_answer, inquire}
+use Rattle.run_state.specs.Calls.{Query, Once, UntilEnd, Answer, Replied, Drained, stop_by, with_call, reply_or_stop, replied, as_answer, Piece, Part, Last, NoPiece, piece_in, further, taken, drain, inquire}
 use Rattle.run_state.specs.Places.{Argument}
 use Rattle.bim_machine.specs.Machine.{Machine, At, Over, Work, Caller, Here, Halt, Exits, Fails, Sticks, stop_of, Site, Act, On, Jumps, Stops, Puts, Prints, Ticks, Asks, Enters, Leaves, on_out, stored, begins, begins_routine, enters, leaves, settle}
 use Rattle.bim_machine.specs.Instructions.{act}
@@ -109,27 +109,61 @@ get_none [] n e = omega arith
 get_none (r ∷ rs) zero e = cc
 get_none (r ∷ rs) (suc n) e = let h = get_none rs n e in omega (arith, h)
 
+-- the replies behind those that were taken
+drop_none : (all : List Reply) (n : ℕ) → drop n all ≡ [] → length all ≤ n
+drop_none [] n e = omega arith
+drop_none (r ∷ rs) zero e = cc
+drop_none (r ∷ rs) (suc n) e = let h = drop_none rs n e in omega (arith, h)
+
+drop_next : (all : List Reply) (n : ℕ) (r : Reply) (rs : List Reply) → drop n all ≡ r ∷ rs → (n < length all) × (drop (suc n) all ≡ rs)
+drop_next [] zero r rs e = cc
+drop_next [] (suc n) r rs e = cc
+drop_next (q ∷ qs) zero r rs e = let same : qs ≡ rs = cc in (omega arith, same)
+drop_next (q ∷ qs) (suc n) r rs e = let h = drop_next qs n r rs e in let less = h.0 in (omega (arith, less), h.1)
+
+-- one call more, which had a reply
+call_later : (w : World) (call : Call) (s : State) (m : Machine) → length s.counts.calls < length w.replies → Later w (counting (with_call call s.counts) s) m → Later w s m
+call_later w call s m some k =
+    then_later w s (counting (with_call call s.counts) s) m (record { output = whole_prefix s.memory.output; calls = longer_prefix s.counts.calls (call ∷ []); ticks = omega arith })
+    (λ f. f) (λ f. let l : length (s.counts.calls ++ call ∷ []) ≡ length s.counts.calls + 1 = omega (arith, length-append s.counts.calls (call ∷ [])) in omega (arith, l, some)) k
+
+drain_later : (w : World) (at : ℕ) (call : Call) (rs : List Reply) (sofar : List ℕ) (counts : Counts) (s : State) (go : Answer → State → Machine) → drop (length counts.calls) w.replies ≡ rs
+    → ((answer : Answer) (s1 : State) → Later w s1 (go answer s1)) → Later w (counting counts s) (on_out at (had (drain call rs sofar counts) s) go)
+drain_later w at call [] sofar counts s go e h = stays w (counting counts s) _ refl refl (drop_none w.replies (length counts.calls) e)
+drain_later w at call (r ∷ rs) sofar counts s go e h =
+    let next = drop_next w.replies (length counts.calls) r rs e in
+    let l : length (counts.calls ++ call ∷ []) ≡ suc (length counts.calls) = omega (arith, length-append counts.calls (call ∷ [])) in
+    let rest : drop (length (counts.calls ++ call ∷ [])) w.replies ≡ rs = ap (λ n. drop n w.replies) l ∙ next.1 in
+    call_later w call (counting counts s) _ next.0
+    (by_reply (stop_by r) refl (piece_in r) (λ bytes. drain_later w at call rs bytes (with_call call counts) s go rest h))
+  where
+    fitting : (b : Bool) (bytes : List ℕ) → Later w (counting (with_call call counts) s) (on_out at (had (drain call rs bytes (with_call call counts)) s) go)
+        → Later w (counting (with_call call counts) s) (on_out at (had (further b bytes (with_call call counts) (drain call rs)) s) go)
+    fitting true bytes later = later
+    fitting false bytes later = stays w (counting (with_call call counts) s) _ refl refl tt
+
+    by_reply : (o : Option Stop) → stop_by r ≡ o → (piece : Piece)
+        → ((bytes : List ℕ) → Later w (counting (with_call call counts) s) (on_out at (had (drain call rs bytes (with_call call counts)) s) go))
+        → Later w (counting (with_call call counts) s) (on_out at (had (taken o piece sofar (with_call call counts) (drain call rs)) s) go)
+    by_reply (Some stop) e piece later = stays w (counting (with_call call counts) s) _ refl refl (subst (AskedBy w at (counting (with_call call counts) s)) e (never_asked w at _ r))
+    by_reply None e (Part bytes) later = fitting (nat_le (length (sofar ++ bytes)) 1048576) (sofar ++ bytes) (later (sofar ++ bytes))
+    by_reply None e Last later = h (Drained sofar) (counting (with_call call counts) s)
+    by_reply None e NoPiece later = stays w (counting (with_call call counts) s) _ refl refl tt
+
 ask_later : (w : World) (at : ℕ) (query : Query) (s : State) (go : Answer → State → Machine)
     → ((answer : Answer) (s1 : State) → Later w s1 (go answer s1)) → Later w s (on_out at (had (inquire w query s.counts) s) go)
 ask_later w at (Once call) s go h = found (slice_get w.replies (length s.counts.calls)) refl
   where
-    further : (m : Machine) (r : Reply) → slice_get w.replies (length s.counts.calls) ≡ Some r → Later w (counting (with_call call s.counts) s) m → Later w s m
-    further m r some k =
-        then_later w s (counting (with_call call s.counts) s) m (record { output = whole_prefix s.memory.output; calls = longer_prefix s.counts.calls (call ∷ []); ticks = omega arith })
-        (λ f. f)
-        (λ f.
-        let l : length (s.counts.calls ++ call ∷ []) ≡ length s.counts.calls + 1 = omega (arith, length-append s.counts.calls (call ∷ [])) in
-        let i = slice_get_within w.replies (length s.counts.calls) r some in omega (arith, l, i)) k
-
     answered : (r : Reply) → slice_get w.replies (length s.counts.calls) ≡ Some r → (o : Option Stop) → stop_by r ≡ o
         → Later w s (on_out at (had (as_answer (reply_or_stop o r (with_call call s.counts))) s) go)
-    answered r some None e = further _ r some (h (Replied r) (counting (with_call call s.counts) s))
+    answered r some None e = call_later w call s _ (slice_get_within w.replies (length s.counts.calls) r some) (h (Replied r) (counting (with_call call s.counts) s))
     answered r some (Some stop) e =
-        further _ r some (stays w (counting (with_call call s.counts) s) _ refl refl (subst (AskedBy w at (counting (with_call call s.counts) s)) e (never_asked w at _ r)))
+        call_later w call s _ (slice_get_within w.replies (length s.counts.calls) r some) (stays w (counting (with_call call s.counts) s) _ refl refl (subst (AskedBy w at (counting (with_call call s.counts) s)) e (never_asked w at _ r)))
 
     found : (o : Option Reply) → slice_get w.replies (length s.counts.calls) ≡ o → Later w s (on_out at (had (as_answer (replied o call s.counts)) s) go)
     found None e = stays w s _ refl refl (get_none w.replies (length s.counts.calls) e)
     found (Some r) e = answered r e (stop_by r) refl
+ask_later w at (UntilEnd call) s go h = drain_later w at call (drop (length s.counts.calls) w.replies) [] s.counts s go refl h
 
 write_later : (w : World) (at : ℕ) (text : List ℕ) (s : State) (go : Unit {0} → State → Machine)
     → ((s1 : State) → Later w s1 (go tt s1)) → Later w s (on_out at (write text s) go)

@@ -1,6 +1,6 @@
 -- More replies and a greater budget change nothing before they are reached.
 
-use Rattle.std.proofs.Common.{◌≡◌, ℕ, ◌+◌, zero, suc, Bool, true, false, List, [], ◌∷◌, ◌++◌, length, Option, Some, None, refl, sym, ap, ◌∙◌, subst, slice_get, nat_lt, arith}
+use Rattle.std.proofs.Common.{◌≡◌, ℕ, ◌+◌, zero, suc, Bool, true, false, List, [], ◌∷◌, ◌++◌, length, Option, Some, None, refl, sym, ap, ◌∙◌, subst, slice_get, nat_lt, nat_le, drop, ◌⊎◌, inl, inr, arith}
 use Rattle.std.proofs.lemmas.Bool.Decides.{nat_tests}
 use Rattle.job_calls.specs.declared.call.Call.{Call}
 use Rattle.job_calls.specs.declared.reply.Reply.{Reply}
@@ -9,7 +9,7 @@ use Rattle.bim_code.specs.declared.instruction.Instruction.{Instruction}
 use Rattle.bim_code.specs.Code.{instruction_at}
 use Rattle.run_state.specs.Stops.{Stop}
 use Rattle.run_state.specs.State.{World, State, Counts, counting, had, tick, tick_if}
-use Rattle.run_state.specs.Calls.{Query, Once, Answer, Replied, stop_by, with_call, reply_or_stop, replied, as_answer, inquire}
+use Rattle.run_state.specs.Calls.{Query, Once, UntilEnd, Answer, Replied, stop_by, with_call, reply_or_stop, replied, as_answer, Piece, Part, Last, NoPiece, piece_in, further, taken, drain, inquire}
 use Rattle.bim_machine.specs.Machine.{Machine, At, Over, Work, Here, Site, Act, On, Jumps, Stops, Puts, Prints, Ticks, Asks, Enters, Leaves, on_out, settle}
 use Rattle.bim_machine.specs.Instructions.{act}
 use Rattle.bim_machine.specs.Courses.{site_of, decoded, step, run}
@@ -33,6 +33,36 @@ tick_more w replies extra at s go other h = tested (nat_lt s.counts.ticks w.budg
     tested true e g = let left : nat_lt s.counts.ticks (w.budget + extra) ≡ true = grind (arith, nat_tests, e) in rw left (h _ g)
     tested false e g = absurd g
 
+drain_more : (call : Call) (rs rest : List Reply) (sofar : List ℕ) (counts : Counts) (at : ℕ) (s : State) (go other : Answer → State → Machine)
+    → ((answer : Answer) (s1 : State) → Goes (go answer s1) → other answer s1 ≡ go answer s1)
+    → Goes (on_out at (had (drain call rs sofar counts) s) go)
+    → on_out at (had (drain call (rs ++ rest) sofar counts) s) other ≡ on_out at (had (drain call rs sofar counts) s) go
+drain_more call [] rest sofar counts at s go other h g = absurd g
+drain_more call (r ∷ rs) rest sofar counts at s go other h g =
+    by_reply (stop_by r) (piece_in r) g (λ bytes. drain_more call rs rest bytes (with_call call counts) at s go other h)
+  where
+    fitting : (b : Bool) (bytes : List ℕ) → Goes (on_out at (had (further b bytes (with_call call counts) (drain call rs)) s) go)
+        → (Goes (on_out at (had (drain call rs bytes (with_call call counts)) s) go)
+        → on_out at (had (drain call (rs ++ rest) bytes (with_call call counts)) s) other ≡ on_out at (had (drain call rs bytes (with_call call counts)) s) go)
+        → on_out at (had (further b bytes (with_call call counts) (drain call (rs ++ rest))) s) other ≡ on_out at (had (further b bytes (with_call call counts) (drain call rs)) s) go
+    fitting true bytes g later = later g
+    fitting false bytes g later = refl
+
+    by_reply : (o : Option Stop) (piece : Piece) → Goes (on_out at (had (taken o piece sofar (with_call call counts) (drain call rs)) s) go)
+        → ((bytes : List ℕ) → Goes (on_out at (had (drain call rs bytes (with_call call counts)) s) go)
+        → on_out at (had (drain call (rs ++ rest) bytes (with_call call counts)) s) other ≡ on_out at (had (drain call rs bytes (with_call call counts)) s) go)
+        → on_out at (had (taken o piece sofar (with_call call counts) (drain call (rs ++ rest))) s) other ≡ on_out at (had (taken o piece sofar (with_call call counts) (drain call rs)) s) go
+    by_reply (Some stop) piece g later = refl
+    by_reply None (Part bytes) g later = fitting (nat_le (length (sofar ++ bytes)) 1048576) (sofar ++ bytes) g (later (sofar ++ bytes))
+    by_reply None Last g later = h _ _ g
+    by_reply None NoPiece g later = refl
+
+-- what is left of more is what was left, and more; or nothing was left
+left_more : (all rest : List Reply) (n : ℕ) → (drop n all ≡ []) ⊎ (drop n (all ++ rest) ≡ drop n all ++ rest)
+left_more all rest zero = inr refl
+left_more [] rest (suc n) = inl refl
+left_more (r ∷ rs) rest (suc n) = left_more rs rest n
+
 ask_more : (w : World) (replies : List Reply) (extra at : ℕ) (query : Query) (s : State) (go other : Answer → State → Machine)
     → ((answer : Answer) (s1 : State) → Goes (go answer s1) → other answer s1 ≡ go answer s1)
     → Goes (on_out at (had (inquire w query s.counts) s) go)
@@ -50,6 +80,14 @@ ask_more w replies extra at (Once call) s go other h = found (slice_get w.replie
         ≡ on_out at (had (as_answer (replied o call s.counts)) s) go
     found None e g = absurd g
     found (Some r) e g = rw (get_more w.replies replies (length s.counts.calls) r e) (answered r (stop_by r) g)
+ask_more w replies extra at (UntilEnd call) s go other h = left (left_more w.replies replies (length s.counts.calls))
+  where
+    left : (drop (length s.counts.calls) w.replies ≡ []) ⊎ (drop (length s.counts.calls) (w.replies ++ replies) ≡ drop (length s.counts.calls) w.replies ++ replies)
+        → Goes (on_out at (had (drain call (drop (length s.counts.calls) w.replies) [] s.counts) s) go)
+        → on_out at (had (drain call (drop (length s.counts.calls) (w.replies ++ replies)) [] s.counts) s) other
+        ≡ on_out at (had (drain call (drop (length s.counts.calls) w.replies) [] s.counts) s) go
+    left (inl e) g = absurd (subst (λ (rs : List Reply). Goes (on_out at (had (drain call rs [] s.counts) s) go)) e g)
+    left (inr e) g = rw e (drain_more call (drop (length s.counts.calls) w.replies) replies [] s.counts at s go other h g)
 
 settle_more : (image : Image) (w : World) (replies : List Reply) (extra : ℕ) (a : Act) (site : Site) (here : Here) (s : State)
     → Goes (settle image w a site here s) → settle image (more w replies extra) a site here s ≡ settle image w a site here s

@@ -1,8 +1,9 @@
 -- The machine takes few steps for each tick: what is left to it falls at each step.
 
-use Rattle.std.proofs.Common.{◌≡◌, ◌≤◌, ◌<◌, ℕ, ◌+◌, ◌-◌, ◌*◌, zero, suc, Bool, true, false, List, [], ◌∷◌, ◌++◌, length, Option, Some, None, refl, sym, ap, ◌∙◌, subst, slice_get, nat_le, nat_lt, mul-add, arith}
+use Rattle.std.proofs.Common.{◌≡◌, ◌≤◌, ◌<◌, ℕ, ◌+◌, ◌-◌, ◌*◌, zero, suc, Bool, true, false, List, [], ◌∷◌, ◌++◌, length, Option, Some, None, refl, sym, ap, ◌∙◌, subst, slice_get, nat_le, nat_lt, drop, mul-add, arith}
 use Rattle.std.specs.Prelude.{if◌then◌else◌, unwrap_or}
 use Rattle.std.proofs.lemmas.Bool.Decides.{nat_tests}
+use Rattle.job_calls.specs.declared.call.Call.{Call}
 use Rattle.job_calls.specs.declared.reply.Reply.{Reply}
 use Rattle.bim_code.specs.declared.image.Image.{Image}
 use Rattle.bim_code.specs.declared.image.Routine.{Routine}
@@ -15,7 +16,7 @@ use Rattle.mos_value.specs.Values.{Value, Operand}
 use Rattle.mos_text.specs.declared.fault_kind.FaultKind.TheVariants.{OutFull}
 use Rattle.run_state.specs.Stops.{Stop, Failed}
 use Rattle.run_state.specs.State.{World, State, Counts, counting, had, tick, tick_if, Out, Gave, Halts, write}
-use Rattle.run_state.specs.Calls.{Query, Once, Answer, stop_by, with_call, reply_or_stop, replied, as_answer, inquire}
+use Rattle.run_state.specs.Calls.{Query, Once, UntilEnd, Answer, stop_by, with_call, reply_or_stop, replied, as_answer, Piece, Part, Last, NoPiece, piece_in, further, taken, drain, inquire}
 use Rattle.run_state.specs.Places.{Argument, most_calls}
 use Rattle.bim_machine.specs.Machine.{Machine, At, Over, Work, Caller, Here, Site, Act, On, Jumps, Stops, Puts, Prints, Ticks, Asks, Enters, Leaves, on_out, put_all, stored, begins, begins_routine, arguments_off, enters, leaves, settle}
 use Rattle.bim_machine.specs.Instructions.{act}
@@ -78,6 +79,27 @@ tick_fewer image w most at s go less h = tested (nat_lt s.counts.ticks w.budget)
         h (counting (record s.counts { ticks = s.counts.ticks + 1 }) s) one
     tested false e = stops _ at s less
 
+-- a pipe that is taken until its end
+drain_fewer : (image : Image) (w : World) (most at : ℕ) (call : Call) (rs : List Reply) (sofar : List ℕ) (counts : Counts) (s : State) (go : Answer → State → Machine)
+    → worth (length image.code) (w.budget - counts.ticks) < most
+    → ((answer : Answer) (s1 : State) → ticks_left w s1 ≡ w.budget - counts.ticks → Fewer image w most (go answer s1))
+    → Fewer image w most (on_out at (had (drain call rs sofar counts) s) go)
+drain_fewer image w most at call [] sofar counts s go less h = stops _ at (counting counts s) less
+drain_fewer image w most at call (r ∷ rs) sofar counts s go less h =
+    by_reply (stop_by r) (piece_in r) (λ bytes. drain_fewer image w most at call rs bytes (with_call call counts) s go less h)
+  where
+    fitting : (b : Bool) (bytes : List ℕ) → Fewer image w most (on_out at (had (drain call rs bytes (with_call call counts)) s) go)
+        → Fewer image w most (on_out at (had (further b bytes (with_call call counts) (drain call rs)) s) go)
+    fitting true bytes later = later
+    fitting false bytes later = stops _ at (counting (with_call call counts) s) less
+
+    by_reply : (o : Option Stop) (piece : Piece) → ((bytes : List ℕ) → Fewer image w most (on_out at (had (drain call rs bytes (with_call call counts)) s) go))
+        → Fewer image w most (on_out at (had (taken o piece sofar (with_call call counts) (drain call rs)) s) go)
+    by_reply (Some stop) piece later = stops stop at (counting (with_call call counts) s) less
+    by_reply None (Part bytes) later = fitting (nat_le (length (sofar ++ bytes)) 1048576) (sofar ++ bytes) (later (sofar ++ bytes))
+    by_reply None Last later = h _ (counting (with_call call counts) s) refl
+    by_reply None NoPiece later = stops _ at (counting (with_call call counts) s) less
+
 -- a call
 ask_fewer : (image : Image) (w : World) (most at : ℕ) (query : Query) (s : State) (go : Answer → State → Machine)
     → worth (length image.code) (ticks_left w s) < most
@@ -92,6 +114,7 @@ ask_fewer image w most at (Once call) s go less h = found (slice_get w.replies (
     found : (o : Option Reply) → Fewer image w most (on_out at (had (as_answer (replied o call s.counts)) s) go)
     found None = stops _ at s less
     found (Some r) = answered r (stop_by r)
+ask_fewer image w most at (UntilEnd call) s go less h = drain_fewer image w most at call (drop (length s.counts.calls) w.replies) [] s.counts s go less h
 
 -- what is written
 write_fewer : (image : Image) (w : World) (most at : ℕ) (text : List ℕ) (s : State) (go : Unit {0} → State → Machine)

@@ -22,6 +22,7 @@ site_of i address = record {
   named = unwrap_or (named_address i) (address + width i);
 }
 
+-- the instruction that was found is carried out
 abbrev pub decoded : Image → World → Option Instruction → ℕ → Work → Here → State → Machine
 decoded image w None address work here s = Over Stuck address s
 decoded image w (Some i) address work here s =
@@ -59,9 +60,11 @@ abbrev pub told : Machine → Outcome
 told (Over stop address s) = outcome_of stop s
 told (At address work here s) = outcome_of Stuck s
 
+-- what is told of the machine, with its steps
 abbrev pub told_course : Progress → Course
 told_course p = record { outcome = told p.machine; steps = p.steps }
 
+-- the course from a beginning
 abbrev pub course_from : Image → World → Beginning → Course
 course_from image w Refused = record { outcome = refused; steps = 0 }
 course_from image w Broken = record { outcome = outcome_of Stuck (beginning []); steps = 0 }

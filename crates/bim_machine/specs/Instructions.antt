@@ -34,6 +34,7 @@ abbrev pub own_fault : ℕ → Option FaultKind
 own_fault zero = None
 own_fault (suc n) = slice_get own_faults n
 
+-- the comparison that an instruction makes
 abbrev pub comparison_of : Comparison → how.Comparison
 comparison_of Equal = how.equal
 comparison_of NotEqual = how.not_equal
@@ -49,6 +50,7 @@ abbrev pub on_some : {A : Type 0} → Option A → (A → Act) → Act
 on_some None go = Stops Sticks
 on_some (Some x) go = go x
 
+-- the same with other operands
 abbrev pub with_stack : List Operand → Work → Work
 with_stack stack work = record work { stack = stack }
 
@@ -62,20 +64,24 @@ abbrev pub on_value : List Operand → Work → (Value → Work → Act) → Act
 on_value (Holds value ∷ below) work go = go value (with_stack below work)
 on_value _ work go = Stops Sticks
 
+-- an integer on top
 abbrev pub on_integer : List Operand → Work → (ℤ → Work → Act) → Act
 on_integer (Holds (One (Int n)) ∷ below) work go = go n (with_stack below work)
 on_integer _ work go = Stops Sticks
 
+-- a text on top
 abbrev pub on_text : List Operand → Work → (List ℕ → Work → Act) → Act
 on_text (Holds (One (Str t)) ∷ below) work go = go t (with_stack below work)
 on_text _ work go = Stops Sticks
 
+-- a truth on top
 abbrev pub on_truth : List Operand → Work → (Bool → Work → Act) → Act
 on_truth (Holds (One (Truth b)) ∷ below) work go = go b (with_stack below work)
 on_truth _ work go = Stops Sticks
 
 -- Answers of operators.
 
+-- the answer of an operator goes on top, or stops
 abbrev pub resulted : Result → Work → Act
 resulted (Gives value) work = On (push value work)
 resulted (Faults kind) work = Stops (Fails kind)
@@ -94,10 +100,12 @@ operate operation many work =
 
 -- Jumps by the truth on top, which they take.
 
+-- where it is true
 abbrev pub jumps_if : Bool → Work → Act
 jumps_if true work = Jumps work
 jumps_if false work = On work
 
+-- where it is false
 abbrev pub jumps_not : Bool → Work → Act
 jumps_not true work = On work
 jumps_not false work = Jumps work
@@ -106,6 +114,7 @@ jumps_not false work = Jumps work
 abbrev pub global : ℕ → Place
 global slot = record { frame = 0; slot = slot }
 
+-- the act of each instruction
 abbrev pub act : List (List ℕ) → Instruction → List Place → Work → List (List Value) → Act
 act constants Tick slots work store = Ticks (On work)
 act constants (PushInt n) slots work store = On (push (One (Int n)) work)

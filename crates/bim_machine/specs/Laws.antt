@@ -48,6 +48,7 @@ abbrev pub OverInTime : Type 0
 OverInTime = (image : Image) (w : World) (values : List Value) → KeepsTicks image
     → IsOver (run image w (most_steps image w.budget) 0 (start values)).machine
 
+-- the state of a machine
 abbrev pub state_in : Machine → State
 state_in (At address work here s) = s
 state_in (Over stop address s) = s
@@ -106,6 +107,7 @@ pub record Grows (before behind : State) : Type 0 where
   pub calls : IsPrefix before.counts.calls behind.counts.calls
   pub ticks : before.counts.ticks ≤ behind.counts.ticks
 
+-- whatever the machine does
 abbrev pub AllGrows : Type 0
 AllGrows = (image : Image) (w : World) (n steps : ℕ) (m : Machine) → Grows (state_in m) (state_in (run image w n steps m).machine)
 

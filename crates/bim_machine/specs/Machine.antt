@@ -48,6 +48,7 @@ pub data Halt : Type 0 where
   Fails : (kind : FaultKind) → Halt
   Sticks : Halt  -- it does not find what it wants
 
+-- the stop that a halt is
 abbrev pub stop_of : Halt → Stop
 stop_of (Exits code) = Exited code
 stop_of (Fails kind) = Failed kind
@@ -80,15 +81,18 @@ on_out at (Halts stop line s) go = Over stop at s
 abbrev pub idle : Work
 idle = record { stack = []; held = [] }
 
+-- a value on top
 abbrev pub push : Value → Work → Work
 push value work = record work { stack = Holds value ∷ work.stack }
 
 -- Values are put.
 
+-- values at places that are there, one after the other
 abbrev pub put_all : List (Place × Value) → List (List Value) → Option (List (List Value))
 put_all [] store = Some store
 put_all (one ∷ more) store = and_then (put one.0 one.1 store) (put_all more)
 
+-- what is put goes on
 abbrev pub stored : Option (List (List Value)) → Work → Site → Here → State → Machine
 stored None work site here s = Over Stuck site.at s
 stored (Some store) work site here s = At site.next work here (over store s)
@@ -105,6 +109,7 @@ arguments_off (slot ∷ slots) (Points place ∷ stack) sofar =
     if slot.by_reference then arguments_off slots stack (ByPlace place ∷ sofar) else None
 arguments_off (slot ∷ slots) (Walks left ∷ stack) sofar = None
 
+-- values of its own
 abbrev pub by_values : List Value → List Argument
 by_values [] = []
 by_values (value ∷ values) = ByValue value ∷ by_values values
@@ -120,6 +125,7 @@ begins (Some (given, stack)) (Some others) routine work site here s =
     } (over (entered slots s.memory.store) s)
 begins given others routine work site here s = Over Stuck site.at s
 
+-- the routine that was found begins
 abbrev pub begins_routine : Image → Option Routine → Work → Site → Here → State → Machine
 begins_routine image None work site here s = Over Stuck site.at s
 begins_routine image (Some routine) work site here s =
@@ -133,10 +139,12 @@ abbrev pub enters : Bool → Image → ℕ → Work → Site → Here → State 
 enters true image number work site here s = begins_routine image (slice_get image.routines number) work site here s
 enters false image number work site here s = Over (Failed Depth) site.at s
 
+-- the result of a routine on top, if it has one
 abbrev pub with_result : Option Value → Work → Work
 with_result None work = work
 with_result (Some value) work = push value work
 
+-- the nearest caller goes on
 abbrev pub leaves : List Caller → Option Value → Site → Here → State → Machine
 leaves [] result site here s = Over Stuck site.at s
 leaves (caller ∷ callers) result site here s =
@@ -145,6 +153,7 @@ leaves (caller ∷ callers) result site here s =
 
 -- What is to be done is done.
 
+-- the next state of the machine
 abbrev pub settle : Image → World → Act → Site → Here → State → Machine
 settle image w (On work) site here s = At site.next work here s
 settle image w (Jumps work) site here s = At site.named work here s

@@ -55,6 +55,7 @@ defaults_in types numbers = all_of (λ number. and_then (slice_get types number)
 
 -- Parameters.
 
+-- the value of a parameter where none is given
 abbrev pub default_value : List (List ℕ) → Default → Option Scalar
 default_value constants (Number n) = Some (scalar.Int n)
 default_value constants (Truth b) = Some (scalar.Bool b)
@@ -65,6 +66,7 @@ abbrev pub parameter_in : List (List ℕ) → table.Parameter → Option Paramet
 parameter_in constants p =
     and_then (slice_get constants p.name) (λ name. option_map (λ default. record { name = name; default = default }) (default_value constants p.default))
 
+-- the parameters of an image
 abbrev pub parameters_in : Image → Option (List Parameter)
 parameters_in image = all_of (parameter_in image.constants) image.params
 
@@ -87,9 +89,11 @@ with_given None image defaults = Refused
 with_given (Some given) image defaults =
     or_broken (and_then defaults (with_values (map (λ (p : table.Parameter). p.slot) image.params) given))
 
+-- the beginning, with the parameters that were found
 abbrev pub by_parameters : Option (List Parameter) → Image → List ℕ → Beginning
 by_parameters None image text = Broken
 by_parameters (Some params) image text = with_given (given_values params text) image (defaults_in image.types image.globals)
 
+-- the beginning of an image
 abbrev pub beginning_of : Image → List ℕ → Beginning
 beginning_of image text = by_parameters (parameters_in image) image text

@@ -74,6 +74,7 @@ after_statement Breaks s go = Gave Breaks s
 after_statement Continues s go = Gave Continues s
 
 abbrev mutual
+  -- of one statement
   pub effect_of : World → Routine → Names → Effect → Env → State → Out Flow
   effect_of w call names (assign line scope n e) env s =
       on_line line (ticking w s (λ s1. bind (value_of w call names e env s1) (λ v s2. assigned (place_in names env scope n) v s2)))
@@ -97,6 +98,7 @@ abbrev mutual
   branch_of w call names (elif line e all rest) env s =
       bind (on_line line (value_of w call names e env s)) (λ c s1. on_truth c s1 (effects_of w call names all env s1) (branch_of w call names rest env s1))
 
+  -- of the statements of a block
   pub effects_of : World → Routine → Names → Block → Env → State → Out Flow
   effects_of w call names no_more env s = Gave Goes s
   effects_of w call names (first e rest) env s =

@@ -18,6 +18,7 @@ use Rattle.mos_meaning.specs.Sources.{program_of}
 use Rattle.mos_meaning.specs.Meaning.{meaning_of}
 use Rattle.mos_meaning.specs.Follows.{Behaviour, behaviour_of, FollowsSources}
 
+-- an outcome without calls
 abbrev pub outcome : List ℕ → ℕ → Stop → Outcome
 outcome output ticks stop = record { output = output; calls = []; ticks = ticks; stop = stop }
 
@@ -98,6 +99,7 @@ parameter_image = record {
   code = LoadGlobal 0 ∷ Show ∷ Write ∷ LoadGlobal 1 ∷ Show ∷ Write ∷ PushBool 1 ∷ Line ∷ PushInt (pos 0) ∷ End ∷ [];
 }
 
+-- hello and a newline, with one tick
 abbrev pub HelloMeans : Type 0
 HelloMeans = meaning_of (program_of hello) [] [] 10000000 ≡ outcome (codes "hello\n") 1 (Exited (pos 0))
 
@@ -109,9 +111,11 @@ HelloSpent = meaning_of (program_of hello) [] [] 0 ≡ outcome [] 0 Spent
 abbrev pub HelloRefused : Type 0
 HelloRefused = meaning_of (program_of hello) (codes "N=1") [] 10000000 ≡ outcome [] 0 (Failed BadParam)
 
+-- two statements, and what the second one prints
 abbrev pub FiveMeans : Type 0
 FiveMeans = meaning_of (program_of five) [] [] 10000000 ≡ outcome (codes "5\n") 2 (Exited (pos 0))
 
+-- the fault of the sum
 abbrev pub TooMuchMeans : Type 0
 TooMuchMeans = meaning_of (program_of too_much) [] [] 10000000 ≡ outcome [] 1 (Failed Overflow)
 
@@ -130,12 +134,15 @@ ParameterMeans =
 abbrev pub DownMeans : Type 0
 DownMeans = meaning_of (program_of down) [] [] 10000000 ≡ outcome [] 8 (Exited (pos 0))
 
+-- one tick less than it needs
 abbrev pub DownSpent : Type 0
 DownSpent = meaning_of (program_of down) [] [] 7 ≡ outcome [] 7 Spent
 
+-- as many ticks as it needs
 abbrev pub DownEnough : Type 0
 DownEnough = meaning_of (program_of down) [] [] 8 ≡ outcome [] 8 (Exited (pos 0))
 
+-- what was written before stays written
 abbrev pub EndlessSpent : Type 0
 EndlessSpent = meaning_of (program_of endless) [] [] 100 ≡ outcome (codes "a") 100 Spent
 
@@ -165,6 +172,7 @@ MeaninglessOperands =
     × (course_of (record hello_image { code = Fault 13 ∷ [] }) [] [] 0 ≡ record { outcome = outcome [] 0 Stuck; steps = 1 })
     × (course_of (record hello_image { code = Fault 8 ∷ [] }) [] [] 0 ≡ record { outcome = outcome [] 0 (Failed BadParam); steps = 1 })
 
+-- the behaviour of the one file
 abbrev pub hello_behaviours : List (Option Behaviour)
 hello_behaviours = Some (behaviour_of (program_of hello) hello_image) ∷ []
 

@@ -17,7 +17,7 @@ use Rattle.mos_value.specs.Values.{Value, One, Place, Operand, Holds, Points, Wa
 use Rattle.mos_value.specs.Answers.{sum, compare, not_equal, range}
 use Rattle.run_state.specs.Stops.{Outcome, Stop, Exited, Failed, Spent, Stopped, Asking, Stuck}
 use Rattle.run_state.specs.State.{World, State}
-use Rattle.run_state.specs.Calls.{Query, Once, Answer, Replied}
+use Rattle.run_state.specs.Calls.{Query, Once, Answer, Replied, Drained}
 use Rattle.run_state.specs.HubFunctions.{HubFunction, isqueueempty, Calling, Makes, Refuses, Unfit, call_of, value_of_reply}
 use Rattle.run_state.specs.Places.{load}
 use Rattle.bim_machine.specs.Machine.{Work, Here, Machine, At, Over, Halt, Fails, Sticks, Act, On, Jumps, Stops, Puts, Asks, Enters, Leaves, Site, push, settle}
@@ -107,12 +107,15 @@ returns _ = Stops Sticks
 -- the value of a reply
 abbrev pub replies : Work → Answer → Act
 replies work (Replied r) = on_some (value_of_reply r) (λ value. On (push value work))
+replies work (Drained bytes) = Stops Sticks
 
+-- the call is asked, or its arguments refused
 abbrev pub calls : Calling → Work → Act
 calls (Makes call) work = Asks (Once call) (replies work)
 calls (Refuses kind) work = Stops (Fails kind)
 calls Unfit work = Stops Sticks
 
+-- the act of each
 abbrev pub wider_act : List (List ℕ) → Wider → List Place → Work → List (List Value) → Act
 wider_act constants (plain i) slots work store = act constants i slots work store
 wider_act constants (load_local slot) slots work store =
@@ -135,12 +138,14 @@ wider_named (plain i) = named_address i
 wider_named (step_to address) = Some address
 wider_named _ = None
 
+-- the instruction that was found is carried out
 abbrev pub wider_decoded : Image → World → Option Wider → ℕ → Work → Here → State → Machine
 wider_decoded image w None address work here s = Over Stuck address s
 wider_decoded image w (Some i) address work here s =
     settle image w (wider_act image.constants i here.slots work s.memory.store)
     (record { at = address; next = address + 1; named = unwrap_or (wider_named i) (address + 1) }) here s
 
+-- at most so many steps
 abbrev pub wider_run : Image → List Wider → World → ℕ → Machine → Machine
 wider_run image code w zero m = m
 wider_run image code w (suc n) (Over stop address s) = Over stop address s
@@ -160,12 +165,14 @@ main_code =
     ∷ plain Tick ∷ plain (LoadGlobal 0) ∷ plain Show ∷ plain Write ∷ hub isqueueempty 0 ∷ plain Show ∷ plain Write ∷ plain (PushBool 1) ∷ plain Line
     ∷ plain (PushInt (pos 0)) ∷ plain End ∷ []
 
+-- slot 0 is r, slot 1 is n, slot 2 is y
 abbrev pub addto_code : List Wider
 addto_code =
     plain Tick ∷ load_local 1 ∷ store_local 2
     ∷ plain Tick ∷ load_local 2 ∷ load_local 0 ∷ plain Swap ∷ plain Add ∷ store_local 0
     ∷ return ∷ []
 
+-- the main part, then the routine
 abbrev pub example_code : List Wider
 example_code = main_code ++ addto_code
 
@@ -193,6 +200,7 @@ example_course w = told (wider_run example_image example_code w 200 (start (One 
 
 -- Both sides.
 
+-- what the model means
 abbrev pub example_means : World → Outcome
 example_means w = meaning_of example [] w.replies w.budget
 
@@ -222,3 +230,22 @@ ExampleAgrees =
 -- a thousand calls stand inside one another, each with its tick and that of its statement, and the next one is too deep
 abbrev pub TooDeepMeans : Type 0
 TooDeepMeans = meaning_of too_deep [] [] 10000 ≡ record { output = []; calls = []; ticks = 2002; stop = Failed Depth }
+
+-- its code, and that of its routine
+abbrev pub too_deep_code : List Wider
+too_deep_code =
+    plain Tick ∷ call_routine 0 ∷ plain (StoreGlobal 0) ∷ plain (PushInt (pos 0)) ∷ plain End
+    ∷ plain Tick ∷ call_routine 0 ∷ store_local 0 ∷ load_local 0 ∷ return ∷ []
+
+-- the tables of the other model
+abbrev pub too_deep_image : Image
+too_deep_image = record example_image {
+  globals = 0 ∷ [];
+  routines = record { address = 5; arguments = 0; slots = record { typ = 0; by_reference = false } ∷ []; result = Some 0 } ∷ [];
+}
+
+-- the machine does the same
+abbrev pub TooDeepAgrees : Type 0
+TooDeepAgrees =
+    told (wider_run too_deep_image too_deep_code (record { replies = []; budget = 10000 }) 2100 (start (One (Int (pos 0)) ∷ [])))
+    ≡ record { output = []; calls = []; ticks = 2002; stop = Failed Depth }

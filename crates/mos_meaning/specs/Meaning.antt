@@ -22,6 +22,7 @@ abbrev pub result_of : Names → Env → Option Name → State → Out (Option V
 result_of names env None s = Gave None (over (left s.memory.store) s)
 result_of names env (Some n) s = bind (loaded (place_in names env Own n) s) (λ v s1. Gave (Some v) (over (left s1.memory.store) s1))
 
+-- values of its own
 abbrev pub by_values : List Value → List Argument
 by_values [] = []
 by_values (value ∷ values) = ByValue value ∷ by_values values
@@ -76,6 +77,7 @@ with_given w program None = refused
 with_given w program (Some given) =
     begun w program (with_values (map (λ (p : Parameter). place_of p.name program.names) program.params) given program.defaults)
 
+-- the meaning
 abbrev pub meaning_of : Program → List ℕ → List Reply → ℕ → Outcome
 meaning_of program text replies budget =
     with_given (record { replies = replies; budget = budget }) program (given_values program.params text)

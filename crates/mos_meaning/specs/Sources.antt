@@ -26,6 +26,7 @@ use Rattle.mos_meaning.specs.Syntax.{Scope, Own, Model, Expression, number, text
 
 -- Expressions.
 
+-- the operator that stands between two expressions
 abbrev pub operator_of : BinaryOperator → Option Operator
 operator_of Plus = Some sum
 operator_of Minus = Some difference
@@ -46,6 +47,7 @@ operator_of NotIn = None
 operator_of And = None
 operator_of Or = None
 
+-- an operator that can be run, on two expressions
 abbrev pub applied : Option Operator → Expression → Expression → Expression
 applied None a b = unbuilt
 applied (Some operator) a b = apply operator a b
@@ -59,9 +61,11 @@ expression_step (Named n) = variable Model n
 expression_step (Binary op a b) = applied (operator_of op) a b
 expression_step _ = unbuilt
 
+-- of the tree of an expression
 abbrev pub expression : Expr → Expression
 expression = fold-Expr Expression expression_step
 
+-- as what is printed
 abbrev pub shown : List Expression → Shown
 shown [] = nothing
 shown (e ∷ es) = one_more e (shown es)
@@ -74,6 +78,7 @@ procedure line called all =
     if bytes_eq (codes "writeln") called then write line true all
     else (if bytes_eq (codes "write") called then write line false all else unbuilt_effect)
 
+-- `:=`, `+=` and `-=` to a variable
 abbrev pub assignment : ℕ → Reference → Assignment → Expression → Effect
 assignment line (target.Name n) how.Set e = assign line Model n e
 assignment line (target.Name n) how.Add e = change line sum Model n e
@@ -83,14 +88,17 @@ assignment line (target.Field n field) by e = unbuilt_effect
 assignment line (target.CellField n all field) by e = unbuilt_effect
 assignment line target.Returned by e = unbuilt_effect
 
+-- statements one after the other
 abbrev pub block : List Effect → Block
 block [] = no_more
 block (e ∷ es) = first e (block es)
 
+-- `if` and each `elif`, then `else`
 abbrev pub branches : List (Arm Effect) → List Effect → Branches
 branches [] last = else_ (block last)
 branches (arm ∷ arms) last = elif arm.line (expression arm.condition) (block arm.body) (branches arms last)
 
+-- of one statement, given what stands in it
 abbrev pub effect_step : Statement-F Effect → Effect
 effect_step (Assign line to op value) = assignment line to op (expression value)
 effect_step (Call line called all) = procedure line called (shown (map expression all))
@@ -105,9 +113,11 @@ effect_step (Forall line over body) = unbuilt_effect
 effect_step (Repeat line body until_line condition) = unbuilt_effect
 effect_step (Initializations line direction name labels) = unbuilt_effect
 
+-- of the tree of a statement
 abbrev pub effect : Statement → Effect
 effect = fold-Statement Effect effect_step
 
+-- of the trees of statements
 abbrev pub block_of : List Statement → Block
 block_of all = block (map effect all)
 
@@ -115,9 +125,11 @@ block_of all = block (map effect all)
 abbrev pub in_arm : {A : Type 0} → (Statement → A) → Arm Statement → Arm A
 in_arm f arm = record { line = arm.line; condition = arm.condition; body = map f arm.body }
 
+-- of the trees of branches
 abbrev pub branches_of : List (Arm Statement) → List Statement → Branches
 branches_of arms last = branches (map (in_arm effect) arms) (map effect last)
 
+-- of a piece of a model
 abbrev pub top_effect : Top → Effect
 top_effect (top.Statement s) = effect s
 top_effect (top.Parameters line parameters) = unbuilt_effect
@@ -133,6 +145,7 @@ statements_of tree = block (map top_effect tree.tops)
 
 -- the names so far, and those that are assigned to in a form, in the order of the text
 abbrev mutual
+  -- behind a statement
   pub names_after : List Name → Effect → List Name
   names_after names (assign line scope n e) = with_name names n
   names_after names (if_ line all) = names_in_branches names all
@@ -145,10 +158,12 @@ abbrev mutual
   names_after names (next_ line) = names
   names_after names unbuilt_effect = names
 
+  -- behind branches
   pub names_in_branches : List Name → Branches → List Name
   names_in_branches names (else_ all) = names_from names all
   names_in_branches names (elif line e all rest) = names_in_branches (names_from names all) rest
 
+  -- behind the statements of a block
   pub names_from : List Name → Block → List Name
   names_from names no_more = names
   names_from names (first e rest) = names_from (names_after names e) rest

@@ -49,6 +49,7 @@ abbrev pub bound_in : List (Name × Scalar) → Name → Option Value
 bound_in [] n = None
 bound_in (one ∷ more) n = if bytes_eq n one.0 then Some (One one.1) else bound_in more n
 
+-- one more index name
 abbrev pub with_index : Name → Scalar → Env → Env
 with_index n x env = record env { bound = (n, x) ∷ env.bound }
 
@@ -74,6 +75,7 @@ made w (Makes call) s = bind (had (ask w call s.counts) s) (λ r s1. or_stop Stu
 made w (Refuses kind) s = Halts (Failed kind) None s
 made w Unfit s = Halts Stuck None s
 
+-- one more value
 abbrev pub with_first : Value → Option (List Value) → Option (List Value)
 with_first value None = None
 with_first value (Some values) = Some (value ∷ values)
@@ -93,6 +95,7 @@ sums w condition body (x ∷ xs) sofar s =
     (sums w condition body xs sofar s2)))
 
 abbrev mutual
+  -- the value of an expression
   pub value_of : World → Routine → Names → Expression → Env → State → Out Value
   value_of w call names (number n) env s = Gave (One (Int n)) s
   value_of w call names (text t) env s = answered (how.text t) s

@@ -47,6 +47,7 @@ IsComparison names (compare how) a b = IsNumeric names a × IsNumeric names b
 IsComparison names sum a b = ⊥
 IsComparison names difference a b = ⊥
 
+-- a truth, or a comparison
 abbrev pub IsCondition : List Name → Expression → Type 0
 IsCondition names (truth b) = Unit {0}
 IsCondition names (apply operator a b) = IsComparison names operator a b
@@ -60,11 +61,13 @@ IsCondition names (invoke routine all) = ⊥
 IsCondition names (ask_hub function all) = ⊥
 IsCondition names unbuilt = ⊥
 
+-- each of what is printed
 abbrev pub AreShown : List Name → Shown → Type 0
 AreShown names nothing = Unit {0}
 AreShown names (one_more e es) = IsShown names e × AreShown names es
 
 abbrev mutual
+  -- a statement
   pub Works : List Name → Effect → Type 0
   Works names (assign line scope n e) = IsVariable names scope n × IsNumeric names e
   Works names (change line operator scope n e) = IsSum operator × IsVariable names scope n × IsNumeric names e
@@ -77,10 +80,12 @@ abbrev mutual
   Works names (perform line routine all) = ⊥
   Works names unbuilt_effect = ⊥
 
+  -- branches
   pub BranchesWork : List Name → Branches → Type 0
   BranchesWork names (else_ all) = AllWork names all
   BranchesWork names (elif line e all rest) = IsCondition names e × AllWork names all × BranchesWork names rest
 
+  -- the statements of a block
   pub AllWork : List Name → Block → Type 0
   AllWork names no_more = Unit {0}
   AllWork names (first e rest) = Works names e × AllWork names rest
@@ -89,6 +94,7 @@ abbrev mutual
 abbrev pub NeverStuck : Program → Type 0
 NeverStuck program = (text : List ℕ) (replies : List Reply) (budget : ℕ) → (meaning_of program text replies budget).stop ≢ Stuck
 
+-- no run of the model is lost
 abbrev pub NeverLost : Program → Type 0
 NeverLost program = (text : List ℕ) (replies : List Reply) (budget : ℕ) → (meaning_of program text replies budget).stop ≢ Lost
 
@@ -96,5 +102,6 @@ NeverLost program = (text : List ℕ) (replies : List Reply) (budget : ℕ) → 
 abbrev pub WorkingNeverStuck : Type 0
 WorkingNeverStuck = (statements : Block) → AllWork (variables_of statements) statements → NeverStuck (program_of statements)
 
+-- none is lost
 abbrev pub WorkingNeverLost : Type 0
 WorkingNeverLost = (statements : Block) → AllWork (variables_of statements) statements → NeverLost (program_of statements)

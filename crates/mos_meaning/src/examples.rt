@@ -1,6 +1,6 @@
 //! Worked examples of the definitions: functions that do nothing, whose contracts are the examples.
 ghost use Rattle.mos_meaning.specs.Examples.{HelloMeans, HelloSpent, HelloRefused, FiveMeans, TooMuchMeans, LastWayMeans, ParameterMeans, DownMeans, DownSpent, DownEnough, EndlessSpent, UntilTwoMeans, HelloCourse, HelloCourseSpent, ParameterCourses, MeaninglessOperands, HelloFollows, TooFewLines, NoModel, AnotherSource};
-ghost use Rattle.mos_meaning.specs.FormsToCome.{ExampleMeans, ExampleAgrees, TooDeepMeans};
+ghost use Rattle.mos_meaning.specs.FormsToCome.{ExampleMeans, ExampleAgrees, TooDeepMeans, TooDeepAgrees};
 
 /// What a few models mean.
 pub fn meanings()
@@ -36,6 +36,7 @@ pub fn forms_to_come()
     ensures means { ExampleMeans }
     ensures agrees { ExampleAgrees }
     ensures too_deep { TooDeepMeans }
+    ensures too_deep_agrees { TooDeepAgrees }
 {}
 
 /// A run line that follows its source.

@@ -65,6 +65,7 @@ same_value (Model a) (Model b) = Some (nat_eq a b)
 same_value (Event a m) (Event b n) = Some (int_eq a b && int_eq m n)
 same_value a b = option_map is_eq (order_of a b)
 
+-- a comparison, where the two are of one kind
 abbrev pub compared : Comparison → Scalar → Scalar → Option Bool
 compared equal a b = same_value a b
 compared not_equal a b = option_map not (same_value a b)
@@ -84,6 +85,7 @@ truth (Some b) = Gives (One (Truth b))
 abbrev pub text : List ℕ → Result
 text bytes = if nat_le (length bytes) 1000000 then Gives (One (Str bytes)) else Faults TooBig
 
+-- the word of a truth
 abbrev pub truth_text : Bool → List ℕ
 truth_text true = codes "true"
 truth_text false = codes "false"

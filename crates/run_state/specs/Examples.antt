@@ -7,7 +7,7 @@ use Rattle.job_calls.specs.declared.call.Call.TheVariants as call
 use Rattle.job_calls.specs.declared.reply.Reply.TheVariants as reply
 use Rattle.run_state.specs.Stops.{Failed, Spent, Stopped, Asking}
 use Rattle.run_state.specs.State.{Took, Cut, tick}
-use Rattle.run_state.specs.Calls.{ask}
+use Rattle.run_state.specs.Calls.{ask, inquire, UntilEnd, Drained}
 use Rattle.run_state.specs.Parameters.{Parameter, given_values}
 
 -- an integer, a text and a truth
@@ -41,6 +41,14 @@ Replies =
     ∷ Cut Stopped (record { calls = call.IsEmpty ∷ call.Wait ∷ []; ticks = 3 })
     ∷ Cut (Failed Busy) (record { calls = call.IsEmpty ∷ call.Wait ∷ []; ticks = 3 })
     ∷ Cut (Asking call.Wait) (record { calls = call.IsEmpty ∷ []; ticks = 3 }) ∷ []
+
+-- a pipe is taken until its end; where it has not ended, the call is asked once more
+abbrev pub Drains : Type 0
+Drains =
+    map (λ replies. inquire (record { replies = replies; budget = 0 }) (UntilEnd (call.PipeTake (codes "p"))) (record { calls = []; ticks = 0 }))
+    ((reply.Bytes (1 ∷ 2 ∷ []) ∷ reply.Bytes (3 ∷ []) ∷ reply.PipeEnd ∷ []) ∷ (reply.Bytes (1 ∷ []) ∷ []) ∷ [])
+    ≡ Took (Drained (1 ∷ 2 ∷ 3 ∷ [])) (record { calls = call.PipeTake (codes "p") ∷ call.PipeTake (codes "p") ∷ call.PipeTake (codes "p") ∷ []; ticks = 0 })
+    ∷ Cut (Asking (call.PipeTake (codes "p"))) (record { calls = call.PipeTake (codes "p") ∷ []; ticks = 0 }) ∷ []
 
 -- the last tick of a budget, and one more
 abbrev pub Ticks : Type 0

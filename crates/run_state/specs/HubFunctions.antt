@@ -24,6 +24,7 @@ pub data Calling : Type 0 where
   Refuses : (kind : FaultKind) → Calling
   Unfit : Calling
 
+-- the call of each function
 abbrev pub call_of : HubFunction → List Value → Calling
 call_of isqueueempty [] = Makes call.IsEmpty
 call_of isqueueempty _ = Unfit

@@ -23,6 +23,7 @@ pub record Parameter : Type 0 where
 abbrev pub is_blank : ℕ → Bool
 is_blank byte = nat_eq byte 32 || nat_eq byte 9 || nat_eq byte 13
 
+-- without the blanks in front
 abbrev pub skip_blanks : List ℕ → List ℕ
 skip_blanks [] = []
 skip_blanks (byte ∷ more) = if is_blank byte then skip_blanks more else byte ∷ more
@@ -52,6 +53,7 @@ items_from quote item (byte ∷ more) =
     (if ends_item quote byte then item ∷ [] else [])
     ++ items_from (open_behind quote byte) (if ends_item quote byte then [] else item ++ byte ∷ []) more
 
+-- the items of a text; the empty text has none
 abbrev pub items_of : List ℕ → List (List ℕ)
 items_of [] = []
 items_of text = items_from None [] text
@@ -70,6 +72,7 @@ quoted quote more =
     then Some (Quoted (take (length more - 1) more))
     else None
 
+-- a value as it is written, where it is one
 abbrev pub written_of : List ℕ → Option Written
 written_of [] = Some (Bare [])
 written_of (byte ∷ more) =
@@ -81,6 +84,7 @@ abbrev pub digits_from : ℕ → List ℕ → Option ℕ
 digits_from n [] = Some n
 digits_from n (d ∷ ds) = if nat_le 48 d && nat_le d 57 then digits_from (10 * n + (d - 48)) ds else None
 
+-- at least one decimal digit
 abbrev pub digits : List ℕ → Option ℕ
 digits [] = None
 digits (d ∷ ds) = digits_from 0 (d ∷ ds)
@@ -91,15 +95,18 @@ signed_digits [] = None
 signed_digits (byte ∷ more) =
     if nat_eq byte 45 then option_map (λ n. pos 0 -ℤ pos n) (digits more) else option_map pos (digits (byte ∷ more))
 
+-- an integer of 32 bits
 abbrev pub fitting : Option ℤ → Option Scalar
 fitting None = None
 fitting (Some n) = if is_integer n then Some (Int n) else None
 
+-- `true` or `false`
 abbrev pub truth_of : List ℕ → Option Scalar
 truth_of text =
     if bytes_eq text (codes "true") then Some (Truth true)
     else (if bytes_eq text (codes "false") then Some (Truth false) else None)
 
+-- a text of at most 1,000,000 bytes
 abbrev pub text_of : List ℕ → Option Scalar
 text_of text = if nat_le (length text) 1000000 then Some (Str text) else None
 
@@ -116,6 +123,7 @@ value_like (Event class value) written = None
 
 -- The values of the parameters.
 
+-- what is done with what is there
 abbrev pub and_then : {A B : Type 0} → Option A → (A → Option B) → Option B
 and_then None go = None
 and_then (Some x) go = go x

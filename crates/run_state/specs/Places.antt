@@ -10,6 +10,7 @@ abbrev pub load_in : List (List Value) → (frame slot : ℕ) → Option Value
 load_in [] frame slot = None
 load_in (f ∷ fs) frame slot = if nat_eq frame (length fs) then slice_get f slot else load_in fs frame slot
 
+-- the value at a place
 abbrev pub load : Place → List (List Value) → Option Value
 load place store = load_in store place.frame place.slot
 
@@ -17,6 +18,7 @@ load place store = load_in store place.frame place.slot
 abbrev pub put_slot : List Value → ℕ → Value → Option (List Value)
 put_slot f slot value = if nat_lt slot (length f) then Some (slice_set f slot value) else None
 
+-- another value in a slot of a frame that is there
 abbrev pub put_in : List (List Value) → (frame slot : ℕ) → Value → Option (List (List Value))
 put_in [] frame slot value = None
 put_in (f ∷ fs) frame slot value =
@@ -54,6 +56,7 @@ argument_places frame slot (ByPlace place ∷ rest) = place ∷ argument_places 
 abbrev pub entered : List Argument → List (List Value) → List (List Value)
 entered slots store = map value_in slots ∷ store
 
+-- the store behind a routine that was left
 abbrev pub left : List (List Value) → List (List Value)
 left [] = []
 left (f ∷ fs) = fs

@@ -24,6 +24,7 @@ pub record Counts : Type 0 where
   pub calls : List Call  -- answered, in order
   pub ticks : ℕ  -- taken
 
+-- the state of a run
 pub record State : Type 0 where
   pub memory : Memory
   pub counts : Counts
@@ -39,6 +40,7 @@ beginning values = record {
 abbrev pub over : List (List Value) → State → State
 over store s = record s { memory = record s.memory { store = store } }
 
+-- with other counts
 abbrev pub counting : Counts → State → State
 counting counts s = record s { counts = counts }
 
@@ -68,6 +70,7 @@ abbrev pub line_or : Option ℕ → ℕ → ℕ
 line_or None line = line
 line_or (Some inner) line = inner
 
+-- what arises in the piece on this line
 abbrev pub on_line : {A : Type 0} → ℕ → Out A → Out A
 on_line line (Gave x s) = Gave x s
 on_line line (Halts stop inner s) = Halts stop (Some (line_or inner line)) s
@@ -90,10 +93,12 @@ pub data Told (A : Type 0) : Type 0 where
   Took : (x : A) (counts : Counts) → Told A
   Cut : (stop : Stop) (counts : Counts) → Told A
 
+-- what is had of the world, with the state behind it
 abbrev pub had : {A : Type 0} → Told A → State → Out A
 had (Took x counts) s = Gave x (counting counts s)
 had (Cut stop counts) s = Halts stop None (counting counts s)
 
+-- a tick, if one is left
 abbrev pub tick_if : Bool → Counts → Told (Unit {0})
 tick_if true counts = Took tt (record counts { ticks = counts.ticks + 1 })
 tick_if false counts = Cut Spent counts
