@@ -1,78 +1,90 @@
--- What was prepared, written and put says what the status says.
+-- An answer that was found and delivered is what the program answers.
 
-use Rattle.std.proofs.Common.{◌≡◌, ◌≤◌, ℕ, List, [], ◌∷◌, Option, Some, refl, sym, ap, ◌∙◌, subst, inr, arith}
-use Rattle.mos_text.specs.Content.{put_file, lose_file, known_of}
-use Rattle.mos_text.specs.SinkBytes.{appended, AppendedPart}
-use Rattle.job_calls.specs.declared.end.End.{End}
-use Rattle.mosel_run.specs.declared.jobs.Output.{Output}
+use Rattle.std.proofs.Common.{◌≡◌, ◌≤◌, ℕ, List, Option, Some, None, refl, sym, ap, ◌∙◌, subst, arith}
+use Rattle.mos_text.specs.Content.{Files}
+use Rattle.mos_text.specs.declared.folder.Got.{Got}
+use Rattle.mos_text.specs.declared.folder.Got.TheVariants.{Bytes, Missing as NotThere, TooLarge as TooLong, Failed, NoMemory as WantsMemory}
+use Rattle.job_calls.specs.declared.entry.Entry.{Entry}
+use Rattle.job_calls.specs.Runs.{Opening}
+use Rattle.mos_words.specs.Words.{command_of}
+use Rattle.mos_words.specs.declared.words.commands.Command.{Command}
+use Rattle.mos_words.specs.declared.words.commands.Command.TheVariants.{Run}
+use Rattle.mosel_run.specs.declared.answer.Answer.{Answer}
 use Rattle.mosel_run.specs.declared.status.Status.{Status}
-use Rattle.mosel_run.specs.declared.status.Status.TheVariants.{Done, FolderFault, MasterFailed, MasterSpent, NoMemory}
-use Rattle.mosel_run.specs.Answered.{Disk, Paper, IsLine, IsReport, line, report, WrotePart, Reports, putting, Answered}
-use Rattle.mosel_run.specs.Puts.{Put}
-use Rattle.mosel_run.specs.Reported.{EndedWell, EndedBadly, EndedSpent, EndedSomehow, AllPut, PutUpTo}
-use Rattle.mosel_run.specs.Storing.{IsPut, Stores}
+use Rattle.mosel_run.specs.Answered.{IsCommandAnswer, IsAnswer, Answered, delivered, no_memory}
+use Rattle.mosel_run.specs.Answers.{IsUnreadAnswer}
+use Rattle.mosel_run.specs.Delivered.{Delivered, whole, unwritten, unput, no_memory_to_write, no_memory_to_put, WrotePart}
+use Rattle.mosel_run.specs.Jobs.{AnyJournal, OneThread}
+use Rattle.mosel_run.specs.Run.{Request, IsRunAnswer, unread, all_read, IsAnswerTo, refusal, report, IsReport}
+use Rattle.mosel_run.specs.States.{FolderState, SinkState, Devices, folder_state}
 
--- a report that was written, by what is put
-reports : (words : List (List ℕ)) (before after : Disk) (paper paper_after : Paper) (output : Output)
-    (ended : Option End → Type 0) (stored : List Put → Type 0)
-    → IsReport words before.content output → paper_after.bytes ≡ appended paper.bytes output.report
-    → ended (Some output.end) → stored (record { name = output.image_name; bytes = output.image } ∷ [])
-    → Reports words before after paper paper_after ended stored
-reports words before after paper paper_after output ended stored r written e s = record {
-  name = r.name;
-  lanes = r.lanes;
-  budget = r.budget;
-  runs = r.runs;
-  reported = record {
-    source = r.source;
-    tree = r.is.tree;
-    image = r.is.image;
-    journal = r.is.journal;
-    lines = r.is.lines;
-    source_is = r.source_is;
-    job = r.is.job;
-    ends = subst ended (sym r.is.finish) e;
-    reported = written ∙ ap (appended paper.bytes) r.is.report;
-    puts = subst stored (sym r.is.puts) s;
-  };
-}
+later_unread : (before middle after : FolderState) (name : List ℕ) (got : Got) (answer : Answer) → middle.faults ≤ after.faults
+    → IsUnreadAnswer before middle name got answer → IsUnreadAnswer before after name got answer
+later_unread before middle after name NotThere answer later h = h
+later_unread before middle after name TooLong answer later h = h
+later_unread before middle after name Failed answer later h = (h.0, (let rose = h.1 in omega arith))
+later_unread before middle after name (Bytes bytes) answer later h = absurd h
+later_unread before middle after name WantsMemory answer later h = absurd h
 
-all_put : (before middle after : Disk) (output : Output) → middle.content ≡ before.content → IsPut output middle after
-    → AllPut before.content after.content (record { name = output.image_name; bytes = output.image } ∷ [])
-all_put before middle after output same put = put ∙ ap (λ content. put_file content output.image_name output.image) same
+later_run : (journals : Opening → List Entry → Type 0) (asked : Request) (before middle after : FolderState) (answer : Answer) → middle.faults ≤ after.faults
+    → IsRunAnswer journals asked before middle answer → IsRunAnswer journals asked before after answer
+later_run journals asked before middle after answer later (unread name got u a) = unread name got u (later_unread before middle after name got answer later a)
+later_run journals asked before middle after answer later (all_read sources r a) = all_read sources r a
 
-pub stored : (words : List (List ℕ)) (before middle after : Disk) (paper paper_after : Paper) (output : Output) (status : Status)
-    → IsReport words before.content output → middle.content ≡ before.content → before.faults ≤ middle.faults
-    → paper_after.bytes ≡ appended paper.bytes output.report → Stores output middle after status
-    → Answered words before after paper paper_after status
-stored words before middle after paper paper_after output Done r same later written h =
-    reports words before after paper paper_after output EndedWell (AllPut before.content after.content) r written h.0 (all_put before middle after output same h.1)
-stored words before middle after paper paper_after output MasterFailed r same later written h =
-    reports words before after paper paper_after output EndedBadly (AllPut before.content after.content) r written h.0 (all_put before middle after output same h.1)
-stored words before middle after paper paper_after output MasterSpent r same later written h =
-    reports words before after paper paper_after output EndedSpent (AllPut before.content after.content) r written h.0 (all_put before middle after output same h.1)
-stored words before middle after paper paper_after output (FolderFault name) r same later written h =
-    inr (
-      reports words before after paper paper_after output EndedSomehow (PutUpTo name before.content after.content) r written tt (record {
-        first = [];
-        failed = record { name = output.image_name; bytes = output.image };
-        rest = [];
-        puts_are = refl;
-        name_is = sym h.0;
-        content = h.1 ∙ ap (λ content. lose_file content output.image_name) same ∙ ap (lose_file before.content) (sym h.0);
-      }),
-      (let rose = h.2 in omega arith),
-    )
-stored words before middle after paper paper_after output NoMemory r same later written h =
-    putting output r written (λ other apart. h other apart ∙ ap (λ content. known_of content other) same)
-stored words before middle after paper paper_after output status r same later written h = absurd h.0
+-- an answer stays one where the folder's count rises further
+later_answer : (journals : Opening → List Entry → Type 0) (command : Option Command) (before middle after : FolderState) (answer : Answer) → middle.faults ≤ after.faults
+    → IsCommandAnswer journals command before middle answer → IsCommandAnswer journals command before after answer
+later_answer journals None before middle after answer later h = h
+later_answer journals (Some (Run name lanes budget)) before middle after answer later h = later_run journals _ before middle after answer later h
 
-pub report_cut : (words : List (List ℕ)) (before after : Disk) (paper paper_after : Paper) (output : Output)
-    → IsReport words before.content output → AppendedPart paper.bytes paper_after.bytes output.report
-    → WrotePart words before after paper paper_after
-report_cut words before after paper paper_after output r part = record { text = output.report; text_is = report output r; part = part }
+-- a delivery from a folder that holds the same, and whose count did not fall before it
+same_folder : (answer : Answer) (content : Option Files) (faults middle : ℕ) (sink : SinkState) (after : Devices) (status : Status) → faults ≤ middle
+    → Delivered answer (record { folder = folder_state content middle; sink = sink }) after status
+    → Delivered answer (record { folder = folder_state content faults; sink = sink }) after status
+same_folder answer content faults middle sink after status later (whole s is wrote put) = whole s is wrote put
+same_folder answer content faults middle sink after _ later (unwritten p rose) = unwritten (record { part = p.part; nothing_put = p.nothing_put }) rose
+same_folder answer content faults middle sink after _ later (unput name wrote p rose) = unput name wrote p (omega arith)
+same_folder answer content faults middle sink after _ later (no_memory_to_write p) = no_memory_to_write (record { part = p.part; nothing_put = p.nothing_put })
+same_folder answer content faults middle sink after _ later (no_memory_to_put name wrote p) = no_memory_to_put name wrote p
 
-pub line_cut : (words : List (List ℕ)) (before after : Disk) (paper paper_after : Paper) (text : List ℕ) (status : Status)
-    → IsLine words before after text status → AppendedPart paper.bytes paper_after.bytes text
-    → WrotePart words before after paper paper_after
-line_cut words before after paper paper_after text status l part = record { text = text; text_is = line text status l; part = part }
+pub answered : (words : List (List ℕ)) (content between : Option Files) (faults middle : ℕ) (sink : SinkState) (after : Devices) (answer : Answer) (status : Status)
+    → between ≡ content → faults ≤ middle → middle ≤ after.folder.faults
+    → IsAnswer OneThread words (folder_state content faults) (folder_state between middle) answer
+    → Delivered answer (record { folder = folder_state between middle; sink = sink }) after status
+    → Answered OneThread words (record { folder = folder_state content faults; sink = sink }) after status
+answered words content between faults middle sink after answer status same earlier later is h =
+    delivered status answer
+    (later_answer OneThread (command_of words) (folder_state content faults) (folder_state between middle) after.folder answer later is)
+    (same_folder answer content faults middle sink after status earlier
+    (subst (λ (held : Option Files). Delivered answer (record { folder = folder_state held middle; sink = sink }) after status) same h))
+
+-- what one thread writes is a journal
+any_answer_to : (asked : Request) (sources : List (List ℕ)) (answer : Answer) → IsAnswerTo OneThread asked sources answer → IsAnswerTo AnyJournal asked sources answer
+any_answer_to asked sources answer (refusal line kind r) = refusal line kind r
+any_answer_to asked sources answer (report r) = report (record {
+  files = r.files;
+  models = r.models;
+  master = r.master;
+  journal = r.journal;
+  lines = r.lines;
+  judged = r.judged;
+  master_is = r.master_is;
+  job = record { whole = r.job.whole; written = tt; follows = r.job.follows };
+  text = r.text;
+  puts = r.puts;
+  status = r.status;
+})
+
+any_run : (asked : Request) (before after : FolderState) (answer : Answer) → IsRunAnswer OneThread asked before after answer → IsRunAnswer AnyJournal asked before after answer
+any_run asked before after answer (unread name got u a) = unread name got u a
+any_run asked before after answer (all_read sources r a) = all_read sources r (any_answer_to asked sources answer a)
+
+any_answer : (command : Option Command) (before after : FolderState) (answer : Answer) → IsCommandAnswer OneThread command before after answer
+    → IsCommandAnswer AnyJournal command before after answer
+any_answer None before after answer h = h
+any_answer (Some (Run name lanes budget)) before after answer h = any_run _ before after answer h
+
+pub any_journal : (words : List (List ℕ)) (before after : Devices) (status : Status) → Answered OneThread words before after status
+    → Answered AnyJournal words before after status
+any_journal words before after status (delivered s answer is d) = delivered s answer (any_answer (command_of words) before.folder after.folder answer is) d
+any_journal words before after _ (no_memory held same) = no_memory held same

@@ -1,151 +1,199 @@
--- Each status comes in its own way alone, so that the words and the file tell it.
+-- Each status comes in its own way alone, so that the words and the files tell it.
 
-use Rattle.std.proofs.Common.{◌≡◌, ◌≤◌, ◌<◌, ℕ, List, Option, Some, None, length, refl, sym, ap, ◌∙◌, subst, inl, inr, arith}
-use Rattle.mos_text.specs.Content.{Files, Known, Absent, Holds, known_of}
-use Rattle.mos_text.specs.Gets.{Answers}
+use Rattle.std.proofs.Common.{◌≡◌, ℕ, List, [], ◌∷◌, Option, Some, None, refl, sym, ap, ◌∙◌, subst, inl, inr}
+use Rattle.std.specs.Prelude.{slice_get, ◌⊎◌}
+use Rattle.mos_text.specs.Content.{Files}
 use Rattle.mos_text.specs.declared.folder.Got.{Got}
-use Rattle.mos_text.specs.declared.folder.Got.TheVariants.{Bytes, Missing as NotThere, TooLarge as TooLong}
+use Rattle.mos_text.specs.declared.folder.Got.TheVariants.{Bytes, Missing as NotThere, TooLarge as TooLong, Failed, NoMemory as WantsMemory}
 use Rattle.mos_text.specs.declared.kind.Kind.{Kind}
 use Rattle.mos_tree.specs.declared.source.Tree.{Tree}
+use Rattle.job_calls.specs.declared.end.End.{End}
+use Rattle.job_calls.specs.declared.entry.Entry.{Entry}
+use Rattle.job_calls.specs.declared.entry.Listed.{Listed}
+use Rattle.job_calls.specs.Runs.{Opening}
 use Rattle.mos_words.specs.Words.{command_of}
+use Rattle.mos_words.specs.declared.words.commands.Command.{Command}
 use Rattle.mos_words.specs.declared.words.commands.Command.TheVariants.{Run}
+use Rattle.mosel_run.specs.declared.answer.Answer.{Answer}
 use Rattle.mosel_run.specs.declared.status.Status.{Status}
-use Rattle.mosel_run.specs.declared.status.Status.TheVariants.{Done, Usage, Refused, Missing, TooLarge, FolderFault, SinkFault, MasterFailed, MasterSpent, NoMemory}
-use Rattle.mosel_run.specs.Answered.{Disk, Paper, Runs, source_limit, Answered}
-use Rattle.mosel_run.specs.Exact.{ExactUsage, ExactMissing, ExactTooLarge, ExactRefused, ExactReport}
-use Rattle.mosel_run.specs.Accepted.{IsAccepted, IsRefusedAt, IsOnlyTree, IsOnlyRefusal}
+use Rattle.mosel_run.specs.declared.status.Status.TheVariants.{Done, Usage, Refused, Missing, TooLarge, FolderFault, SinkFault, StartRefused, MasterFailed, MasterSpent, Stalled, BadInput, NoMemory, RunNoMemory}
+use Rattle.mosel_run.specs.declared.wanted.Wanted.{Wanted}
+use Rattle.mosel_run.specs.Accepted.{IsAccepted, IsRefusedAt, IsOnlyRefusal}
+use Rattle.mosel_run.specs.Answered.{IsCommandAnswer, Answered, delivered, no_memory, request_of}
+use Rattle.mosel_run.specs.Answers.{IsUnreadAnswer}
+use Rattle.mosel_run.specs.Delivered.{Delivered, whole, unwritten, unput, no_memory_to_write, no_memory_to_put}
+use Rattle.mosel_run.specs.Exact.{Hides, IsReported, Only, Finds, ExactUsage, ExactMissing, ExactTooLarge, ExactRefused, ExactReport}
+use Rattle.mosel_run.specs.Jobs.{Model, IsModelOf, AreJudged, IsJudged}
+use Rattle.mosel_run.specs.Known.{Finding, AllThere, FirstAbsent, FirstTooLong, NotKnown, finding_of}
+use Rattle.mosel_run.specs.Run.{Request, IsRunAnswer, unread, all_read, IsAnswerTo, refusal, report, IsStatusOf}
+use Rattle.mosel_run.specs.States.{FolderState, Devices}
+use Rattle.mosel_run.proofs.Findings.{Agrees, all_agree, absent_agrees, too_long_agrees}
 
-one_refusal : (source : List ℕ) (first second : ℕ) (kind other : Kind) → IsOnlyRefusal source first kind → IsRefusedAt source second other → Refused first kind ≡ Refused second other
-one_refusal source first second kind other only k =
-    let both = only.one second other k in
-    ap (λ (line : ℕ). Refused line kind) both.0 ∙ ap (Refused second) both.1
+abbrev Journals : Type 1
+Journals = Opening → List Entry → Type 0
 
-no_run : (words : List (List ℕ)) (name : List ℕ) (lanes budget : ℕ) → Runs words name lanes budget → command_of words ≡ None → ⊥
-no_run words name lanes budget runs none = let e : Some (Run name lanes budget) ≡ None = sym runs ∙ none in cc
+-- an answer by what was found of the files
+data Cases (journals : Journals) (asked : Request) (found : Finding) (answer : Answer) : Type 0 where
+  absent : (name : List ℕ) → answer.status ≡ Missing name → Agrees (FirstAbsent name) found → Cases journals asked found answer
+  too_long : (name : List ℕ) → answer.status ≡ TooLarge name → Agrees (FirstTooLong name) found → Cases journals asked found answer
+  failed : (name : List ℕ) → answer.status ≡ FolderFault name → Cases journals asked found answer
+  read : (sources : List (List ℕ)) → Agrees (AllThere sources) found → IsAnswerTo journals asked sources answer → Cases journals asked found answer
 
-one_name : (words : List (List ℕ)) (name other : List ℕ) (lanes budget others ticks : ℕ) → Runs words name lanes budget → Runs words other others ticks → other ≡ name
-one_name words name other lanes budget others ticks runs again =
-    let e : Some (Run other others ticks) ≡ Some (Run name lanes budget) = sym again ∙ runs in cc
+cases_of : (journals : Journals) (asked : Request) (before after : FolderState) (answer : Answer) → IsRunAnswer journals asked before after answer
+    → Cases journals asked (finding_of before.content asked.wanted) answer
+cases_of journals asked before after answer (unread name NotThere u a) =
+    absent name (ap (λ (x : Answer). x.status) a) (absent_agrees before.content asked.wanted name u)
+cases_of journals asked before after answer (unread name TooLong u a) =
+    too_long name (ap (λ (x : Answer). x.status) a) (too_long_agrees before.content asked.wanted name u)
+cases_of journals asked before after answer (unread name Failed u a) = failed name (ap (λ (x : Answer). x.status) a.0)
+cases_of journals asked before after answer (unread name (Bytes bytes) u a) = absurd a
+cases_of journals asked before after answer (unread name WantsMemory u a) = absurd a
+cases_of journals asked before after answer (all_read sources r a) = read sources (all_agree before.content asked.wanted sources r) a
 
--- what the folder may answer at the one name that the words run
-at_name : (words : List (List ℕ)) (content : Option Files) (name other : List ℕ) (lanes budget others ticks : ℕ) (known : Known) (got : Got)
-    → Runs words name lanes budget → Runs words other others ticks → known_of content name ≡ known
-    → Answers (known_of content other) source_limit got → Answers known source_limit got
-at_name words content name other lanes budget others ticks known got runs again is h =
-    subst (λ (k : Known). Answers k source_limit got) is
-    (subst (λ (n : List ℕ). Answers (known_of content n) source_limit got) (one_name words name other lanes budget others ticks runs again) h)
+-- of the words' own command
+by_command : (journals : Journals) (command : Command) (before after : FolderState) (answer : Answer)
+    → IsCommandAnswer journals (Some command) before after answer
+    → Cases journals (request_of command) (finding_of before.content (request_of command).wanted) answer
+by_command journals (Run name lanes budget) before after answer h = cases_of journals _ before after answer h
 
-pub exact_usage : (words : List (List ℕ)) (before after : Disk) (paper paper_after : Paper) (status : Status)
-    → Answered words before after paper paper_after status → ExactUsage words status
-exact_usage words before after paper paper_after Done h none = absurd (no_run words h.name h.lanes h.budget h.runs none)
-exact_usage words before after paper paper_after MasterFailed h none = absurd (no_run words h.name h.lanes h.budget h.runs none)
-exact_usage words before after paper paper_after MasterSpent h none = absurd (no_run words h.name h.lanes h.budget h.runs none)
-exact_usage words before after paper paper_after Usage h none = inl refl
-exact_usage words before after paper paper_after (Refused line kind) h none = absurd (no_run words h.line.name h.line.lanes h.line.budget h.line.runs none)
-exact_usage words before after paper paper_after (Missing name) h none = absurd (no_run words name h.line.0.lanes h.line.0.budget h.line.0.runs none)
-exact_usage words before after paper paper_after (TooLarge name) h none = absurd (no_run words name h.line.0.lanes h.line.0.budget h.line.0.runs none)
-exact_usage words before after paper paper_after (FolderFault name) h none = inr tt
-exact_usage words before after paper paper_after SinkFault h none = inr tt
-exact_usage words before after paper paper_after NoMemory h none = inr tt
-exact_usage words before after paper paper_after status h none = absurd h.line
+-- what holds of the answer's status and of those that hide it holds of the status that comes
+lifted : (Good : Status → Type 0) (answer : Answer) (before after : Devices) (status : Status)
+    → ((s : Status) → Hides s → Good s) → Good answer.status → Delivered answer before after status → Good status
+lifted Good answer before after status hides good (whole s is wrote put) = subst Good (sym is) good
+lifted Good answer before after _ hides good (unwritten p rose) = hides SinkFault tt
+lifted Good answer before after _ hides good (unput name wrote p rose) = hides (FolderFault name) tt
+lifted Good answer before after _ hides good (no_memory_to_write p) = hides NoMemory tt
+lifted Good answer before after _ hides good (no_memory_to_put name wrote p) = hides NoMemory tt
 
-pub exact_missing : (words : List (List ℕ)) (before after : Disk) (paper paper_after : Paper) (status : Status)
-    → Answered words before after paper paper_after status → ExactMissing words before.content status
-exact_missing words before after paper paper_after Done h name lanes budget runs absent =
-    absurd (at_name words before.content name h.name lanes budget h.lanes h.budget Absent (Bytes h.reported.source) runs h.runs absent h.reported.source_is)
-exact_missing words before after paper paper_after MasterFailed h name lanes budget runs absent =
-    absurd (at_name words before.content name h.name lanes budget h.lanes h.budget Absent (Bytes h.reported.source) runs h.runs absent h.reported.source_is)
-exact_missing words before after paper paper_after MasterSpent h name lanes budget runs absent =
-    absurd (at_name words before.content name h.name lanes budget h.lanes h.budget Absent (Bytes h.reported.source) runs h.runs absent h.reported.source_is)
-exact_missing words before after paper paper_after Usage h name lanes budget runs absent = absurd (no_run words name lanes budget runs h.line.0)
-exact_missing words before after paper paper_after (Refused line kind) h name lanes budget runs absent =
-    absurd (at_name words before.content name h.line.name lanes budget h.line.lanes h.line.budget Absent (Bytes h.line.source) runs h.line.runs absent h.line.source_is)
-exact_missing words before after paper paper_after (Missing other) h name lanes budget runs absent =
-    inl (ap Missing (one_name words name other lanes budget h.line.0.lanes h.line.0.budget runs h.line.0.runs))
-exact_missing words before after paper paper_after (TooLarge other) h name lanes budget runs absent =
-    absurd (at_name words before.content name other lanes budget h.line.0.lanes h.line.0.budget Absent TooLong runs h.line.0.runs absent h.line.1)
-exact_missing words before after paper paper_after (FolderFault other) h name lanes budget runs absent = inr tt
-exact_missing words before after paper paper_after SinkFault h name lanes budget runs absent = inr tt
-exact_missing words before after paper paper_after NoMemory h name lanes budget runs absent = inr tt
-exact_missing words before after paper paper_after status h name lanes budget runs absent = absurd h.line
+-- the same, by what is found of the files of the words' command
+by_finding : (Good : Status → Type 0) (journals : Journals) (words : List (List ℕ)) (before after : Devices) (status : Status) (found : Finding)
+    → ((s : Status) → Hides s → Good s)
+    → ((asked : Request) (answer : Answer) → Cases journals asked found answer → Good answer.status)
+    → Finds words before.folder.content found → Answered journals words before after status → Good status
+by_finding Good journals words before after status found hides good finds (delivered s answer is d) =
+    let h : IsCommandAnswer journals (Some finds.0) before.folder after.folder answer =
+    subst (λ (c : Option Command). IsCommandAnswer journals c before.folder after.folder answer) finds.1 is in
+    lifted Good answer before after s hides
+    (good (request_of finds.0) answer
+    (subst (λ (f : Finding). Cases journals (request_of finds.0) f answer) finds.2 (by_command journals finds.0 before.folder after.folder answer h)))
+    d
+by_finding Good journals words before after _ found hides good finds (no_memory held same) = hides NoMemory tt
 
--- bytes above the limit are not given
-not_given : (bytes source : List ℕ) → source_limit < length bytes → Answers (Holds bytes) source_limit (Bytes source) → ⊥
-not_given bytes source long h = let few = h.1 in absurd (omega arith)
+hidden : (expected s : Status) → Hides s → Only expected s
+hidden expected s h = inr h
 
-pub exact_too_large : (words : List (List ℕ)) (before after : Disk) (paper paper_after : Paper) (status : Status)
-    → Answered words before after paper paper_after status → ExactTooLarge words before.content status
-exact_too_large words before after paper paper_after Done h name lanes budget bytes runs is long =
-    absurd (not_given bytes h.reported.source long (at_name words before.content name h.name lanes budget h.lanes h.budget (Holds bytes) (Bytes h.reported.source) runs h.runs is h.reported.source_is))
-exact_too_large words before after paper paper_after MasterFailed h name lanes budget bytes runs is long =
-    absurd (not_given bytes h.reported.source long (at_name words before.content name h.name lanes budget h.lanes h.budget (Holds bytes) (Bytes h.reported.source) runs h.runs is h.reported.source_is))
-exact_too_large words before after paper paper_after MasterSpent h name lanes budget bytes runs is long =
-    absurd (not_given bytes h.reported.source long (at_name words before.content name h.name lanes budget h.lanes h.budget (Holds bytes) (Bytes h.reported.source) runs h.runs is h.reported.source_is))
-exact_too_large words before after paper paper_after Usage h name lanes budget bytes runs is long = absurd (no_run words name lanes budget runs h.line.0)
-exact_too_large words before after paper paper_after (Refused line kind) h name lanes budget bytes runs is long =
-    absurd (not_given bytes h.line.source long (at_name words before.content name h.line.name lanes budget h.line.lanes h.line.budget (Holds bytes) (Bytes h.line.source) runs h.line.runs is h.line.source_is))
-exact_too_large words before after paper paper_after (Missing other) h name lanes budget bytes runs is long =
-    absurd (at_name words before.content name other lanes budget h.line.0.lanes h.line.0.budget (Holds bytes) NotThere runs h.line.0.runs is h.line.1)
-exact_too_large words before after paper paper_after (TooLarge other) h name lanes budget bytes runs is long =
-    inl (ap TooLarge (one_name words name other lanes budget h.line.0.lanes h.line.0.budget runs h.line.0.runs))
-exact_too_large words before after paper paper_after (FolderFault other) h name lanes budget bytes runs is long = inr tt
-exact_too_large words before after paper paper_after SinkFault h name lanes budget bytes runs is long = inr tt
-exact_too_large words before after paper paper_after NoMemory h name lanes budget bytes runs is long = inr tt
-exact_too_large words before after paper paper_after status h name lanes budget bytes runs is long = absurd h.line
+pub exact_usage : (journals : Journals) (words : List (List ℕ)) (before after : Devices) (status : Status)
+    → Answered journals words before after status → ExactUsage words status
+exact_usage journals words before after status (delivered s answer is d) none =
+    lifted (Only Usage) answer before after s (hidden Usage)
+    (inl (ap (λ (x : Answer). x.status) (subst (λ (c : Option Command). IsCommandAnswer journals c before.folder after.folder answer) none is)))
+    d
+exact_usage journals words before after _ (no_memory held same) none = inr tt
 
--- the source that was read is the one that the folder holds
-same_source : (words : List (List ℕ)) (content : Option Files) (name other : List ℕ) (lanes budget others ticks : ℕ) (source read : List ℕ)
-    → Runs words name lanes budget → Runs words other others ticks → known_of content name ≡ Holds source
-    → Answers (known_of content other) source_limit (Bytes read) → read ≡ source
-same_source words content name other lanes budget others ticks source read runs again is h =
-    (at_name words content name other lanes budget others ticks (Holds source) (Bytes read) runs again is h).0
+missing_by : (journals : Journals) (name : List ℕ) (asked : Request) (answer : Answer) → Cases journals asked (FirstAbsent name) answer → Only (Missing name) answer.status
+missing_by journals name asked answer (absent other is a) = let same : other ≡ name = cc in inl (is ∙ ap Missing same)
+missing_by journals name asked answer (too_long other is a) = absurd cc
+missing_by journals name asked answer (failed other is) = inr (subst Hides (sym is) tt)
+missing_by journals name asked answer (read sources a h) = absurd cc
 
--- a refused source is not reported
-no_report : (words : List (List ℕ)) (content : Option Files) (name other : List ℕ) (lanes budget others ticks : ℕ) (source read : List ℕ) (line : ℕ) (kind : Kind) (tree : Tree)
-    → Runs words name lanes budget → Runs words other others ticks → known_of content name ≡ Holds source
-    → Answers (known_of content other) source_limit (Bytes read) → IsRefusedAt source line kind → IsOnlyTree read tree → ⊥
-no_report words content name other lanes budget others ticks source read line kind tree runs again is h refused only =
-    only.never line kind (subst (λ (s : List ℕ). IsRefusedAt s line kind) (sym (same_source words content name other lanes budget others ticks source read runs again is h)) refused)
+pub exact_missing : (journals : Journals) (words : List (List ℕ)) (before after : Devices) (status : Status)
+    → Answered journals words before after status → ExactMissing words before.folder.content status
+exact_missing journals words before after status h name finds =
+    by_finding (Only (Missing name)) journals words before after status (FirstAbsent name) (hidden (Missing name)) (missing_by journals name) finds h
 
--- a file that is in size is not too long
-in_size : (bytes : List ℕ) → length bytes ≤ source_limit → Answers (Holds bytes) source_limit TooLong → ⊥
-in_size bytes few long = absurd (omega arith)
+too_large_by : (journals : Journals) (name : List ℕ) (asked : Request) (answer : Answer) → Cases journals asked (FirstTooLong name) answer → Only (TooLarge name) answer.status
+too_large_by journals name asked answer (absent other is a) = absurd cc
+too_large_by journals name asked answer (too_long other is a) = let same : other ≡ name = cc in inl (is ∙ ap TooLarge same)
+too_large_by journals name asked answer (failed other is) = inr (subst Hides (sym is) tt)
+too_large_by journals name asked answer (read sources a h) = absurd cc
 
-pub exact_refused : (words : List (List ℕ)) (before after : Disk) (paper paper_after : Paper) (status : Status)
-    → Answered words before after paper paper_after status → ExactRefused words before.content status
-exact_refused words before after paper paper_after Done h name lanes budget source line kind runs is few refused =
-    absurd (no_report words before.content name h.name lanes budget h.lanes h.budget source h.reported.source line kind h.reported.tree runs h.runs is h.reported.source_is refused h.reported.job.only)
-exact_refused words before after paper paper_after MasterFailed h name lanes budget source line kind runs is few refused =
-    absurd (no_report words before.content name h.name lanes budget h.lanes h.budget source h.reported.source line kind h.reported.tree runs h.runs is h.reported.source_is refused h.reported.job.only)
-exact_refused words before after paper paper_after MasterSpent h name lanes budget source line kind runs is few refused =
-    absurd (no_report words before.content name h.name lanes budget h.lanes h.budget source h.reported.source line kind h.reported.tree runs h.runs is h.reported.source_is refused h.reported.job.only)
-exact_refused words before after paper paper_after Usage h name lanes budget source line kind runs is few refused = absurd (no_run words name lanes budget runs h.line.0)
-exact_refused words before after paper paper_after (Refused at why) h name lanes budget source line kind runs is few refused =
-    let read = same_source words before.content name h.line.name lanes budget h.line.lanes h.line.budget source h.line.source runs h.line.runs is h.line.source_is in
-    inl (one_refusal source at line why kind (subst (λ (s : List ℕ). IsOnlyRefusal s at why) read h.line.only) refused)
-exact_refused words before after paper paper_after (Missing other) h name lanes budget source line kind runs is few refused =
-    absurd (at_name words before.content name other lanes budget h.line.0.lanes h.line.0.budget (Holds source) NotThere runs h.line.0.runs is h.line.1)
-exact_refused words before after paper paper_after (TooLarge other) h name lanes budget source line kind runs is few refused =
-    absurd (in_size source few (at_name words before.content name other lanes budget h.line.0.lanes h.line.0.budget (Holds source) TooLong runs h.line.0.runs is h.line.1))
-exact_refused words before after paper paper_after (FolderFault other) h name lanes budget source line kind runs is few refused = inr tt
-exact_refused words before after paper paper_after SinkFault h name lanes budget source line kind runs is few refused = inr tt
-exact_refused words before after paper paper_after NoMemory h name lanes budget source line kind runs is few refused = inr tt
-exact_refused words before after paper paper_after status h name lanes budget source line kind runs is few refused = absurd h.line
+pub exact_too_large : (journals : Journals) (words : List (List ℕ)) (before after : Devices) (status : Status)
+    → Answered journals words before after status → ExactTooLarge words before.folder.content status
+exact_too_large journals words before after status h name finds =
+    by_finding (Only (TooLarge name)) journals words before after status (FirstTooLong name) (hidden (TooLarge name)) (too_large_by journals name) finds h
 
-pub exact_report : (words : List (List ℕ)) (before after : Disk) (paper paper_after : Paper) (status : Status)
-    → Answered words before after paper paper_after status → ExactReport words before.content status
-exact_report words before after paper paper_after Done h name lanes budget source tree runs is few form = inl tt
-exact_report words before after paper paper_after MasterFailed h name lanes budget source tree runs is few form = inl tt
-exact_report words before after paper paper_after MasterSpent h name lanes budget source tree runs is few form = inl tt
-exact_report words before after paper paper_after Usage h name lanes budget source tree runs is few form = absurd (no_run words name lanes budget runs h.line.0)
-exact_report words before after paper paper_after (Refused at kind) h name lanes budget source tree runs is few form =
-    let read = same_source words before.content name h.line.name lanes budget h.line.lanes h.line.budget source h.line.source runs h.line.runs is h.line.source_is in
-    absurd (h.line.only.never tree (subst (λ (s : List ℕ). IsAccepted s tree) (sym read) form))
-exact_report words before after paper paper_after (Missing other) h name lanes budget source tree runs is few form =
-    absurd (at_name words before.content name other lanes budget h.line.0.lanes h.line.0.budget (Holds source) NotThere runs h.line.0.runs is h.line.1)
-exact_report words before after paper paper_after (TooLarge other) h name lanes budget source tree runs is few form =
-    absurd (in_size source few (at_name words before.content name other lanes budget h.line.0.lanes h.line.0.budget (Holds source) TooLong runs h.line.0.runs is h.line.1))
-exact_report words before after paper paper_after (FolderFault other) h name lanes budget source tree runs is few form = inr tt
-exact_report words before after paper paper_after SinkFault h name lanes budget source tree runs is few form = inr tt
-exact_report words before after paper paper_after NoMemory h name lanes budget source tree runs is few form = inr tt
-exact_report words before after paper paper_after status h name lanes budget source tree runs is few form = absurd h.line
+inside : {A : Type 0} (x y : A) → Some x ≡ Some y → x ≡ y
+inside x y e = cc
+
+-- the first of the files of a job is a model
+master_by : (file : Listed) (found : Option Model) (master : Model) (source : List ℕ) → file.bytes ≡ source → found ≡ Some master → IsJudged file found → IsModelOf source master
+master_by file (Some model) master source bytes is h =
+    subst (λ (m : Model). IsModelOf source m) (inside model master is) (subst (λ (b : List ℕ). IsModelOf b model) bytes h.model_is)
+master_by file None master source bytes is h = absurd cc
+
+master_of : (wanted : List Wanted) (source : List ℕ) (others : List (List ℕ)) (files : List Listed) (models : List (Option Model)) (master : Model)
+    → slice_get models 0 ≡ Some (Some master) → AreJudged wanted (source ∷ others) files models → IsModelOf source master
+master_of (want ∷ wanted) source others (file ∷ files) (model ∷ models) master is h =
+    master_by file model master source h.1 (inside model (Some master) is) h.2
+master_of (want ∷ wanted) source others (file ∷ files) [] master is h = absurd h
+master_of (want ∷ wanted) source others [] models master is h = absurd h
+master_of [] source others files models master is h = absurd h
+
+same_source : (sources others : List (List ℕ)) (source : List ℕ) → AllThere sources ≡ AllThere (source ∷ others) → sources ≡ source ∷ others
+same_source sources others source e = cc
+
+refused_by : (journals : Journals) (source : List ℕ) (others : List (List ℕ)) (line : ℕ) (kind : Kind) → IsRefusedAt source line kind
+    → (asked : Request) (sources : List (List ℕ)) (answer : Answer) → sources ≡ source ∷ others → IsAnswerTo journals asked sources answer → Only (Refused line kind) answer.status
+refused_by journals source others line kind refused asked sources answer same (refusal at what r) =
+    let first : source ≡ r.source = inside source r.source (sym (ap (λ all. slice_get all 0) same) ∙ r.source_is) in
+    let both = r.only.one line kind (subst (λ (s : List ℕ). IsRefusedAt s line kind) first refused) in
+    inl (ap (λ (x : Answer). x.status) r.answer_is ∙ ap (λ (l : ℕ). Refused l what) both.0 ∙ ap (Refused line) both.1)
+refused_by journals source others line kind refused asked sources answer same (report r) =
+    let model : IsModelOf source r.master =
+    master_of asked.wanted source others r.files r.models r.master r.master_is (subst (λ (all : List (List ℕ)). AreJudged asked.wanted all r.files r.models) same r.judged) in
+    absurd (model.only.never line kind refused)
+
+refused_case : (journals : Journals) (source : List ℕ) (others : List (List ℕ)) (line : ℕ) (kind : Kind) → IsRefusedAt source line kind
+    → (asked : Request) (answer : Answer) → Cases journals asked (AllThere (source ∷ others)) answer → Only (Refused line kind) answer.status
+refused_case journals source others line kind refused asked answer (absent other is a) = absurd cc
+refused_case journals source others line kind refused asked answer (too_long other is a) = absurd cc
+refused_case journals source others line kind refused asked answer (failed other is) = inr (subst Hides (sym is) tt)
+refused_case journals source others line kind refused asked answer (read sources a h) =
+    refused_by journals source others line kind refused asked sources answer (same_source sources others source a) h
+
+pub exact_refused : (journals : Journals) (words : List (List ℕ)) (before after : Devices) (status : Status)
+    → Answered journals words before after status → ExactRefused words before.folder.content status
+exact_refused journals words before after status h source others line kind finds refused =
+    by_finding (Only (Refused line kind)) journals words before after status (AllThere (source ∷ others)) (hidden (Refused line kind))
+    (refused_case journals source others line kind refused) finds h
+
+-- a status of a job is one of a report
+of_report : (end : Option End) (status : Status) → IsStatusOf end status → IsReported status
+of_report end Done h = tt
+of_report end MasterFailed h = tt
+of_report end MasterSpent h = tt
+of_report end Usage h = absurd h
+of_report end (Refused line kind) h = absurd h
+of_report end (Missing name) h = absurd h
+of_report end (TooLarge name) h = absurd h
+of_report end (FolderFault name) h = absurd h
+of_report end SinkFault h = absurd h
+of_report end StartRefused h = absurd h
+of_report end Stalled h = absurd h
+of_report end (BadInput name at rule) h = absurd h
+of_report end NoMemory h = absurd h
+of_report end RunNoMemory h = absurd h
+
+abbrev Reports : Status → Type 0
+Reports status = IsReported status ⊎ Hides status
+
+report_by : (journals : Journals) (source : List ℕ) (others : List (List ℕ)) (tree : Tree) → IsAccepted source tree
+    → (asked : Request) (sources : List (List ℕ)) (answer : Answer) → sources ≡ source ∷ others → IsAnswerTo journals asked sources answer → Reports answer.status
+report_by journals source others tree accepted asked sources answer same (refusal at what r) =
+    let first : source ≡ r.source = inside source r.source (sym (ap (λ all. slice_get all 0) same) ∙ r.source_is) in
+    absurd (r.only.never tree (subst (λ (s : List ℕ). IsAccepted s tree) first accepted))
+report_by journals source others tree accepted asked sources answer same (report r) = inl (of_report _ answer.status r.status)
+
+report_case : (journals : Journals) (source : List ℕ) (others : List (List ℕ)) (tree : Tree) → IsAccepted source tree
+    → (asked : Request) (answer : Answer) → Cases journals asked (AllThere (source ∷ others)) answer → Reports answer.status
+report_case journals source others tree accepted asked answer (absent other is a) = absurd cc
+report_case journals source others tree accepted asked answer (too_long other is a) = absurd cc
+report_case journals source others tree accepted asked answer (failed other is) = inr (subst Hides (sym is) tt)
+report_case journals source others tree accepted asked answer (read sources a h) =
+    report_by journals source others tree accepted asked sources answer (same_source sources others source a) h
+
+pub exact_report : (journals : Journals) (words : List (List ℕ)) (before after : Devices) (status : Status)
+    → Answered journals words before after status → ExactReport words before.folder.content status
+exact_report journals words before after status h source others tree finds accepted =
+    by_finding Reports journals words before after status (AllThere (source ∷ others)) (λ s hides. inr hides)
+    (report_case journals source others tree accepted) finds h

@@ -1,10 +1,10 @@
-pub mod Legality
-pub mod Whole
-pub mod WholeJobs
+pub mod ReadingFiles
+pub mod PuttingFiles
+pub mod Opening
+pub mod Reports
 pub mod Answering
+pub mod Findings
 pub mod Exactness
-pub mod SpreadCode
-pub mod Courses
 pub mod Rooms
 pub mod Layers
 pub mod Judging
@@ -13,3 +13,4 @@ pub mod KnownNames
 pub mod KnownExpressions
 pub mod KnownStatements
 pub mod SmallModels
+pub mod LastPuts

@@ -13,7 +13,7 @@ use Rattle.mos_check.specs.NotBuilt.{unbuilt_of}
 use Rattle.mos_check.specs.Names.{Names, Found, Wrong, Knows, check_of}
 use Rattle.mosel_run.specs.declared.reader.fault.ReadFault.{ReadFault}
 use Rattle.mosel_run.specs.declared.reader.fault.ReadFault.TheVariants.{At, NoMemory}
-use Rattle.mosel_run.specs.Accepted.{IsSound, IsWrongAt, not_built, found, IsAccepted, IsRefusedAt, unparsed, wrong}
+use Rattle.mosel_run.specs.Accepted.{IsOnlyRefusal, IsSound, IsWrongAt, not_built, found, IsAccepted, IsRefusedAt, unparsed, wrong}
 use Rattle.mosel_run.specs.ReadAnswers.{IsRefusal, IsJudged, GivesTree, GivesRefusal, of_syntax}
 
 abbrev Same : ℕ → Kind → ℕ → Kind → Type 0
@@ -101,3 +101,13 @@ syntax-only_refusal _ (syntax.At at what) result only named e _ _ (unparsed sour
     handed-on (λ (r : Result Tree ReadFault). GivesRefusal r line kind) (At at what) result (named line kind h) e
 syntax-only_refusal _ (syntax.At at what) result only named e _ _ (wrong source line kind tree h w) = absurd (only tree h)
 syntax-only_refusal source syntax.NoMemory result only named e line kind refused = handed-on (λ (r : Result Tree ReadFault). GivesRefusal r line kind) NoMemory result tt e
+
+-- a refusal of the reader is the only one
+pub only-refusal : (source : List ℕ) (fault : ReadFault) (line : ℕ) (kind : Kind) → fault ≡ At line kind
+    → ((tree : Tree) → IsAccepted source tree → GivesTree (Err fault) tree)
+    → ((at : ℕ) (what : Kind) → IsRefusedAt source at what → GivesRefusal (Err fault) at what)
+    → IsOnlyRefusal source line kind
+only-refusal source fault line kind is no_tree one = record {
+  one = λ at what h. subst (λ (f : ReadFault). GivesRefusal (Err f) at what) is (one at what h);
+  never = λ tree h. subst (λ (f : ReadFault). GivesTree (Err f) tree) is (no_tree tree h);
+}

@@ -32,6 +32,13 @@ pub data IsRefusedAt : List ℕ → ℕ → Kind → Type 0 where
   unparsed : (source : List ℕ) (line : ℕ) (kind : Kind) → IsSyntaxFault source line kind → IsRefusedAt source line kind
   wrong : (source : List ℕ) (line : ℕ) (kind : Kind) (tree : Tree) → IsParsed source tree → IsWrongAt tree line kind → IsRefusedAt source line kind
 
+-- the code of a source that is refused: 1 for a fault of tokens or grammar and for a piece that cannot be
+-- run, 2 for what the check finds
+pub data HasCode : List ℕ → ℕ → Type 0 where
+  no_sentence : (source : List ℕ) (line : ℕ) (kind : Kind) → IsSyntaxFault source line kind → HasCode source 1
+  not_runnable : (source : List ℕ) (tree : Tree) (line : ℕ) (kind : Kind) → IsParsed source tree → unbuilt_of tree ≡ Some (line, kind) → HasCode source 1
+  not_checked : (source : List ℕ) (tree : Tree) (line : ℕ) (kind : Kind) → IsParsed source tree → unbuilt_of tree ≡ None → check_of tree ≡ Wrong line kind → HasCode source 2
+
 -- the source has one tree, and no fault
 pub record IsOnlyTree (source : List ℕ) (tree : Tree) : Type 0 where
   pub one : (other : Tree) → IsAccepted source other → tree ≡ other

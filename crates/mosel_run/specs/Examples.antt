@@ -1,13 +1,11 @@
 -- Worked examples: what a whole job is, and what is none.
 
-use Rattle.std.specs.Prelude.{◌≡◌, List, [], ◌∷◌, ◌++◌, Option, Some, pos, codes}
-use Rattle.mos_text.specs.Content.{Files, Holds, known_of}
-use Rattle.job_calls.specs.declared.call.Call.TheVariants.{Open, Claim, Quit, Finish, Wait, Compile, Write}
+use Rattle.std.specs.Prelude.{◌≡◌, List, [], ◌∷◌, Some, pos, codes}
+use Rattle.job_calls.specs.declared.call.Call.TheVariants.{Compile, Write}
 use Rattle.job_calls.specs.declared.end.End.TheVariants as end
 use Rattle.job_calls.specs.declared.entry.Entry.{Entry}
-use Rattle.job_calls.specs.declared.reply.Reply.TheVariants.{Opened, Claimed, Code, Unit as Acknowledged}
+use Rattle.job_calls.specs.declared.reply.Reply.TheVariants.{Code, Unit as Acknowledged}
 use Rattle.job_calls.specs.Runs.{Opening}
-use Rattle.job_calls.specs.Replies.{AllFit}
 use Rattle.job_calls.specs.ReportExamples.{hello_entries, hello_file, entry}
 use Rattle.bim_code.specs.Tables.{image_bytes}
 use Rattle.mos_meaning.specs.Examples.{hello, hello_image}
@@ -17,14 +15,14 @@ use Rattle.mos_tree.specs.declared.statement.Statement.TheVariants as statement
 use Rattle.mos_tree.specs.declared.source.ModelName.TheVariants.{Quoted}
 use Rattle.mos_tree.specs.declared.source.Top.TheVariants as top
 use Rattle.mos_tree.specs.declared.source.Tree.{Tree}
-use Rattle.mosel_run.specs.Jobs.{opening_on}
-use Rattle.mosel_run.specs.Puts.{Put, puts_of}
-use Rattle.mosel_run.specs.Reported.{IsWhole, AllPut}
-use Rattle.mosel_run.specs.Schedule.{schedule_of}
+use Rattle.lane_step.specs.Alone.{opening_with}
+use Rattle.lane_step.specs.Schedule.{schedule_of}
+use Rattle.lane_step.specs.Whole.{IsWhole}
+use Rattle.mosel_run.specs.Puts.{puts_of}
 
 -- the job of hello on one lane
 abbrev pub hello_opening : Opening
-hello_opening = opening_on (codes "hello.mos") (codes "model \"hello\"\nwriteln(\"hello\")\nend-model\n") 1 10000000
+hello_opening = opening_with 1 10000000 (hello_file ∷ [])
 
 -- its journal is that of the one-thread schedule
 abbrev pub HelloSchedule : Type 0
@@ -32,7 +30,7 @@ HelloSchedule = schedule_of hello_opening (end.Code (pos 0)) ≡ hello_entries
 
 -- its image is put under the source's name with another ending
 abbrev pub HelloPuts : Type 0
-HelloPuts = puts_of hello_opening hello_entries (Some record { statements = hello; image = hello_image } ∷ [])
+HelloPuts = puts_of hello_opening hello_entries (Some hello_image ∷ [])
     ≡ record { name = codes "hello.bim"; bytes = image_bytes hello_image } ∷ []
 
 -- the bytes of that image, by lines: heading; constants; types, parameters, globals, routines, points; code
@@ -73,35 +71,8 @@ puts_entries =
 
 -- of two images under one name the last is put, in the place of the first; the block of memory is no file
 abbrev pub PutsInOrder : Type 0
-PutsInOrder = puts_of hello_opening puts_entries (Some record { statements = hello; image = hello_image } ∷ [])
+PutsInOrder = puts_of hello_opening puts_entries (Some hello_image ∷ [])
     ≡ record { name = codes "hello.bim"; bytes = image_bytes hello_image }
     ∷ record { name = codes "c.bim"; bytes = image_bytes hello_image }
     ∷ record { name = codes "o.dat"; bytes = codes "v: 2\n" }
     ∷ []
-
--- a whole job has the files that its `Open` lists, by name and bytes, and no others
-abbrev pub ListsItsFiles : Type 0
-ListsItsFiles = (o : Opening) → IsWhole o hello_entries → o.files ≡ hello_file ∷ []
-
--- the journal without its last entry: lane 0 was not told that the job is done
-abbrev pub untold : List Entry
-untold =
-    entry [] (Open 1 10000000 [] (hello_file ∷ [])) Opened
-    ∷ entry [] Claim (Claimed 0 0 [])
-    ∷ entry (0 ∷ []) (Finish (end.Code (pos 0))) Acknowledged
-    ∷ []
-
-abbrev pub UntoldLane : Type 0
-UntoldLane = (o : Opening) → IsWhole o untold → ⊥
-
--- no lane has quit
-abbrev pub SomeoneQuits : Type 0
-SomeoneQuits = (o : Opening) → IsWhole o (hello_entries ++ entry [] Quit Acknowledged ∷ []) → ⊥
-
--- a reply for each call
-abbrev pub TooFewReplies : Type 0
-TooFewReplies = AllFit (Wait ∷ []) [] → ⊥
-
--- what is put is what the folder then has, to the byte
-abbrev pub HoldsWhatIsPut : Type 0
-HoldsWhatIsPut = (files : Files) (after : Option Files) (put : Put) → AllPut (Some files) after (put ∷ []) → known_of after put.name ≡ Holds put.bytes

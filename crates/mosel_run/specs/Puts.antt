@@ -13,43 +13,42 @@ use Rattle.job_calls.specs.declared.entry.Entry.{Entry}
 use Rattle.job_calls.specs.declared.entry.Listed.{Listed}
 use Rattle.job_calls.specs.Runs.{Opening, last_given}
 use Rattle.bim_code.specs.Tables.{image_bytes}
-use Rattle.mos_meaning.specs.Follows.{Model}
-
--- a name with the bytes that it is given
-pub record Put : Type 0 where
-  pub name : List ℕ
-  pub bytes : List ℕ
+use Rattle.bim_code.specs.declared.image.Image.{Image}
+use Rattle.mosel_run.specs.declared.answer.Put.{Put}
 
 -- the name of a source's image: `.bim` in place of `.mos`
 abbrev pub image_name : List ℕ → List ℕ
 image_name source = take (length source - 4) source ++ codes ".bim"
 
-abbrev pub image_of_model : Option (Option Model) → List ℕ
-image_of_model (Some (Some model)) = image_bytes model.image
-image_of_model _ = []
+-- the bytes of an image; a file that has none gives none
+abbrev pub bytes_of_image : Option (Option Image) → List ℕ
+bytes_of_image (Some (Some image)) = image_bytes image
+bytes_of_image (Some None) = []
+bytes_of_image None = []
 
--- the models by the names of their files
-abbrev pub bytes_of_source : List Listed → List (Option Model) → List ℕ → List ℕ
-bytes_of_source [] models name = []
+-- the images by the names of their files
+abbrev pub bytes_of_source : List Listed → List (Option Image) → List ℕ → List ℕ
+bytes_of_source [] images name = []
 bytes_of_source (file ∷ files) [] name = []
-bytes_of_source (file ∷ files) (model ∷ models) name =
-    if bytes_eq file.name name then image_of_model (Some model) else bytes_of_source files models name
+bytes_of_source (file ∷ files) (image ∷ images) name =
+    if bytes_eq file.name name then bytes_of_image (Some image) else bytes_of_source files images name
 
 -- a block of memory is no file
 abbrev pub plain_write : List ℕ → List ℕ → Option Put
 plain_write name bytes = if starts_with nat_eq name (codes "shmem:") then None else Some record { name = name; bytes = bytes }
 
 -- what an entry puts
-abbrev pub put_of : List Listed → List (Option Model) → Call → Reply → Option Put
-put_of files models (Compile src dst) (Code code) =
-    if nat_eq code 0 then Some record { name = dst; bytes = bytes_of_source files models src } else None
-put_of files models (Write name bytes) Acknowledged = plain_write name bytes
-put_of files models call reply = None
+abbrev pub put_of : List Listed → List (Option Image) → Call → Reply → Option Put
+put_of files images (Compile src dst) (Code code) =
+    if nat_eq code 0 then Some record { name = dst; bytes = bytes_of_source files images src } else None
+put_of files images (Write name bytes) Acknowledged = plain_write name bytes
+put_of files images call reply = None
 
 -- what a list of puts gives a name last
 abbrev pub named : List ℕ → Put → Option (List ℕ)
 named name put = if bytes_eq put.name name then Some put.bytes else None
 
+-- the last bytes that a name is given
 abbrev pub bytes_of : List Put → List ℕ → List ℕ
 bytes_of puts name = unwrap_or (last_given (named name) puts) []
 
@@ -57,20 +56,24 @@ bytes_of puts name = unwrap_or (last_given (named name) puts) []
 abbrev pub with_put : List (List ℕ) → Put → List (List ℕ)
 with_put names put = if list_any (bytes_eq put.name) names then names else names ++ put.name ∷ []
 
+-- the names of these puts behind others
 abbrev pub names_of : List (List ℕ) → List Put → List (List ℕ)
 names_of names [] = names
 names_of names (put ∷ puts) = names_of (with_put names put) puts
 
+-- each name with its last bytes
 abbrev pub last_puts : List Put → List Put
 last_puts puts = map (λ name. record { name = name; bytes = bytes_of puts name }) (names_of [] puts)
 
-abbrev pub master_put : List Listed → List (Option Model) → List Put
-master_put [] models = []
-master_put (file ∷ files) models = record { name = image_name file.name; bytes = image_of_model (slice_get models 0) } ∷ []
+-- the image of the first file, under its own name
+abbrev pub master_put : List Listed → List (Option Image) → List Put
+master_put [] images = []
+master_put (file ∷ files) images = record { name = image_name file.name; bytes = bytes_of_image (slice_get images 0) } ∷ []
 
-abbrev pub puts_of : Opening → List Entry → List (Option Model) → List Put
-puts_of o journal models =
-    master_put o.files models ++ last_puts (filter_map (λ e. put_of o.files models e.call e.reply) journal)
+-- what a journal puts, where the listed files have these images
+abbrev pub puts_of : Opening → List Entry → List (Option Image) → List Put
+puts_of o journal images =
+    master_put o.files images ++ last_puts (filter_map (λ e. put_of o.files images e.call e.reply) journal)
 
 -- the folder's content after these puts, one after the other
 abbrev pub put_all : Option Files → List Put → Option Files

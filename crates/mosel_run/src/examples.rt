@@ -1,5 +1,5 @@
 //! Worked examples of the definitions: functions that do nothing, whose contracts are the examples.
-ghost use Rattle.mosel_run.specs.Examples.{HelloSchedule, HelloPuts, HelloBytes, HelloStatements, HelloIsWhole, PutsInOrder, ListsItsFiles, UntoldLane, SomeoneQuits, TooFewReplies, HoldsWhatIsPut};
+ghost use Rattle.mosel_run.specs.Examples.{HelloSchedule, HelloPuts, HelloBytes, HelloStatements, HelloIsWhole, PutsInOrder};
 
 use job_calls::journals::hello_journal;
 
@@ -21,13 +21,4 @@ pub fn hello_model()
 /// What a job with several files puts.
 pub fn several_puts()
     ensures { PutsInOrder }
-{}
-
-/// What keeps a journal, its replies or a folder from being those of a job.
-pub fn refused_jobs()
-    ensures lists_its_files { ListsItsFiles }
-    ensures untold_lane { UntoldLane }
-    ensures someone_quits { SomeoneQuits }
-    ensures too_few_replies { TooFewReplies }
-    ensures holds_what_is_put { HoldsWhatIsPut }
 {}

@@ -1,21 +1,23 @@
-//! What the program does: it reads the source, runs the model, and writes the report and the image,
-//! over any folder and any sink.
+//! What the program does: it reads the files that its words name, runs their job, and writes the report
+//! and the images, over any folder and any sink. What is to be answered is found before anything is
+//! written; then it is delivered.
 #![tactic(auto)]
 
-mod arithmetic;
-mod code;
+mod answer;
+mod deliver;
 mod examples;
-mod halt;
-mod jobs;
-mod machine;
-mod prepared;
+mod image;
+mod laws;
 mod reader;
-mod runner;
-mod schedule;
+mod run;
 mod status;
 mod top;
+mod wanted;
 
-pub use examples::{hello_job, hello_model, refused_jobs, several_puts};
+pub use answer::{Answer, Put};
+pub use examples::{hello_job, hello_model, several_puts};
+pub use laws::{last_puts_stay, sources_are_judged, whole_jobs};
 pub use mos_check::not_built;
 pub use status::Status;
 pub use top::tool;
+pub use wanted::Wanted;

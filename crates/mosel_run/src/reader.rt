@@ -83,6 +83,3 @@ fn fault_of(verdict: Verdict) -> ReadFault
         kind: verdict.kind,
     }
 }
-
-#[cfg(test)]
-mod tests;

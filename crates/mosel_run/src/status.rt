@@ -1,3 +1,4 @@
+//! How the program ends.
 ghost use Rattle.std.specs.Prelude.{◌≡◌};
 ghost use Rattle.mosel_run.specs.Statuses.{code_of};
 
@@ -57,56 +58,5 @@ impl Status {
             Status::NoMemory => 12,
             Status::RunNoMemory => 13,
         }
-    }
-}
-
-#[cfg(test)]
-mod tests {
-    use super::*;
-    use std::alloc::Global;
-    use std::process::Abort;
-    use std::test::Fail;
-
-    fn name(alloc: Global) -> Result<Text, Fail> {
-        Ok(Text::new(alloc, b"a.mos")?)
-    }
-
-    fn ends_with(rt: &impl Abort, status: Status, code: u8) {
-        assert_eq!(rt; status.code(), code);
-    }
-
-    #[test]
-    fn codes(rt: HostRuntime) -> Result<(), Fail> {
-        let alloc = rt.alloc();
-        ends_with(&rt, Status::Done, 0);
-        ends_with(&rt, Status::Usage, 1);
-        ends_with(
-            &rt,
-            Status::Refused {
-                line: 1,
-                kind: Kind::Syntax,
-            },
-            2,
-        );
-        ends_with(&rt, Status::Missing { name: name(alloc)? }, 3);
-        ends_with(&rt, Status::TooLarge { name: name(alloc)? }, 4);
-        ends_with(&rt, Status::FolderFault { name: name(alloc)? }, 5);
-        ends_with(&rt, Status::SinkFault, 6);
-        ends_with(&rt, Status::StartRefused, 7);
-        ends_with(&rt, Status::MasterFailed, 8);
-        ends_with(&rt, Status::MasterSpent, 9);
-        ends_with(&rt, Status::Stalled, 10);
-        ends_with(
-            &rt,
-            Status::BadInput {
-                name: name(alloc)?,
-                at: 0,
-                rule: 1,
-            },
-            11,
-        );
-        ends_with(&rt, Status::NoMemory, 12);
-        ends_with(&rt, Status::RunNoMemory, 13);
-        Ok(())
     }
 }

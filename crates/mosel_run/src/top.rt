@@ -1,33 +1,41 @@
 //! All that the program does.
-ghost use Rattle.std.specs.Prelude.{◌≡◌, ◌≢◌, ◌≤◌, Some};
-ghost use Rattle.mos_text.specs.Content.{put_file, lose_file, SameElsewhere};
-ghost use Rattle.mos_text.specs.Faults.{Rose};
-ghost use Rattle.mos_text.specs.SinkBytes.{appended, AppendedPart};
-ghost use Rattle.mosel_run.specs.Answered.{Answered};
+ghost use Rattle.std.specs.Prelude.{◌≡◌, ◌≤◌, IfOk};
+ghost use Rattle.mosel_run.specs.Answered.{Answered, IsAnswer};
 ghost use Rattle.mosel_run.specs.Exact.{ExactUsage, ExactMissing, ExactTooLarge, ExactRefused, ExactReport};
-ghost use Rattle.mosel_run.specs.Outputs.{IsOwnEnd};
-ghost use Rattle.mosel_run.specs.Storing.{Stores, Ends};
+ghost use Rattle.mosel_run.specs.Jobs.{AnyJournal, OneThread};
+ghost use Rattle.mosel_run.specs.States.{folder_state, devices};
 
-use crate::jobs::Output;
-use crate::prepared::{Prepared, prepare};
+use crate::answer::{Answer, usage};
+use crate::deliver::deliver;
+use crate::run::answer_run;
 use crate::status::Status;
-use job_calls::End;
-use mos_text::{Folder, Sink, Stored, Text, Written, write_whole};
+use mos_text::{Folder, NoMemory, Sink, Text};
+use mos_words::{Command, WordFault, command};
 use std::alloc::Global;
 
-/// Does what the words ask for: gets the file that they name from the folder, runs the job, writes
+/// Does what the words ask for: gets the files that they name from the folder, runs the job, writes
 /// one report or one line to the sink, and puts the files of the job into the folder. The first word
 /// is the program's name and is not looked at. What each status says stands in `specs/Answered`, and
-/// which one comes, by the words and what is known of the file, in `specs/Exact`.
+/// which one comes, by the words and what is known of the files, in `specs/Exact`.
 pub fn tool<F: Folder, K: Sink>(
     alloc: Global,
     words: &[Text],
     folder: &mut F,
     sink: &mut K,
 ) -> Status
-    ensures answered { Answered words.now (record { content = F.content folder.old; faults = F.faults folder.old }) (record { content = F.content folder.new; faults = F.faults folder.new }) (record { bytes = K.bytes sink.old; faults = K.faults sink.old }) (record { bytes = K.bytes sink.new; faults = K.faults sink.new }) result }
+    // The answer that the words ask for is delivered, as far as the status says.
+    ensures answered { Answered AnyJournal words.now
+        (devices (F.content folder.old) (F.faults folder.old) (K.bytes sink.old) (K.faults sink.old))
+        (devices (F.content folder.new) (F.faults folder.new) (K.bytes sink.new) (K.faults sink.new))
+        result }
 
-    // By the words and the file alone, where no device fails and memory is there.
+    // Its journal is the one that a single thread writes.
+    ensures one_thread { Answered OneThread words.now
+        (devices (F.content folder.old) (F.faults folder.old) (K.bytes sink.old) (K.faults sink.old))
+        (devices (F.content folder.new) (F.faults folder.new) (K.bytes sink.new) (K.faults sink.new))
+        result }
+
+    // By the words and the files alone, where no device fails and memory is there.
     ensures usage { ExactUsage words.now result }
     ensures missing { ExactMissing words.now (F.content folder.old) result }
     ensures too_large { ExactTooLarge words.now (F.content folder.old) result }
@@ -46,52 +54,36 @@ fn perform<F: Folder, K: Sink>(
     folder: &mut F,
     sink: &mut K,
 ) -> Status
-    ensures answered { Answered words.now (record { content = F.content folder.old; faults = F.faults folder.old }) (record { content = F.content folder.new; faults = F.faults folder.new }) (record { bytes = K.bytes sink.old; faults = K.faults sink.old }) (record { bytes = K.bytes sink.new; faults = K.faults sink.new }) result }
+    ensures one_thread { Answered OneThread words.now
+        (devices (F.content folder.old) (F.faults folder.old) (K.bytes sink.old) (K.faults sink.old))
+        (devices (F.content folder.new) (F.faults folder.new) (K.bytes sink.new) (K.faults sink.new))
+        result }
     ensures folder_faults { F.faults folder.old ≤ F.faults folder.new }
     ensures sink_faults { K.faults sink.old ≤ K.faults sink.new }
 {
-    match prepare(alloc, words, folder) {
-        Ok(Prepared::Report(output)) => match write_whole(sink, output.report.as_bytes()) {
-            Written::Whole => store(alloc, output, folder),
-            Written::Failed => Status::SinkFault,
-            Written::NoMemory => Status::NoMemory,
-        },
-        Ok(Prepared::Line { text, status }) => match write_whole(sink, text.as_bytes()) {
-            Written::Whole => status,
-            Written::Failed => Status::SinkFault,
-            Written::NoMemory => Status::NoMemory,
-        },
+    match find_answer(alloc, words, folder) {
+        Ok(answer) => deliver(alloc, answer, folder, sink),
         Err(_) => Status::NoMemory,
     }
 }
 
-/// Puts the image of a job whose report is written.
-fn store<F: Folder>(alloc: Global, output: Output, folder: &mut F) -> Status
-    requires { IsOwnEnd output.end }
-    ensures stored { Stores output (record { content = F.content folder.old; faults = F.faults folder.old }) (record { content = F.content folder.new; faults = F.faults folder.new }) result }
+/// The answer that the words ask for. Nothing is written or put.
+fn find_answer<F: Folder>(alloc: Global, words: &[Text], folder: &mut F) -> Result<Answer, NoMemory>
+    ensures answer { IfOk result (IsAnswer OneThread words.now
+        (folder_state (F.content folder.old) (F.faults folder.old))
+        (folder_state (F.content folder.new) (F.faults folder.new))) }
+    ensures content { F.content folder.new ≡ F.content folder.old }
     ensures later { F.faults folder.old ≤ F.faults folder.new }
 {
-    match folder.put(alloc, &output.image_name, output.image.as_bytes()) {
-        Stored::Done => status_of(output.end),
-        Stored::Failed => Status::FolderFault {
-            name: output.image_name,
-        },
-        Stored::NoMemory => Status::NoMemory,
+    match command(alloc, words) {
+        Ok(
+            Command::Run {
+                source,
+                lanes,
+                budget,
+            },
+        ) => answer_run(alloc, source, lanes, budget, folder),
+        Err(WordFault::Usage) => usage(alloc),
+        Err(WordFault::NoMemory) => Err(NoMemory),
     }
 }
-
-/// The status of a job whose run 0 ended so.
-fn status_of(end: End) -> Status
-    requires { IsOwnEnd end }
-    ensures { Ends result end }
-{
-    match end {
-        End::Code(0) => Status::Done,
-        End::Code(_) | End::Fault(_) => Status::MasterFailed,
-        End::Spent => Status::MasterSpent,
-        End::Stopped | End::NoMemory => unreachable!(),
-    }
-}
-
-#[cfg(test)]
-mod tests;

@@ -1,3 +1,4 @@
+//! Why a source has given no tree.
 use mos_check::CheckFault;
 use mos_parse::SyntaxFault;
 use mos_text::{Kind, NoMemory};

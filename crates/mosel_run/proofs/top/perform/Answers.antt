@@ -1,46 +1,20 @@
--- what was prepared, written and put says what the status says
-use Rattle.std.proofs.Common.{ap, refl, subst, ◌∙◌}
-use Rattle.mos_text.specs.SinkBytes.{appended, AppendedPart}
-use Rattle.mosel_run.specs.Answered.{writing}
-use Rattle.mosel_run.proofs.Answering.{stored, report_cut, line_cut}
+-- the answer is delivered; or memory was wanting to find it
+use Rattle.std.proofs.Common.{refl}
+use Rattle.mosel_run.specs.Answered.{no_memory}
+use Rattle.mosel_run.specs.States.{sink_state, devices}
+use Rattle.mosel_run.proofs.Answering.{answered}
 use Rattle.mosel_run.proofs.top.perform.Goals as goal
 
-pub returns-in-Whole-clause-answered : goal.returns-in-Whole-clause-answered
-returns-in-Whole-clause-answered g c =
-    stored _ _ (record { content = g.F.Folder.content c.prepare.new.folder; faults = g.F.Folder.faults c.prepare.new.folder }) _ _ _ c.in-Ok-Report.output _
-    (rw c.in-Ok-Report.field-0-is at c.in-Ok-Report.ensures.prepared)
-    c.in-Ok-Report.ensures.content c.in-Ok-Report.ensures.later
-    (c.in-Whole.ensures.whole refl ∙ ap (appended (g.K.Sink.bytes c.args.sink.now)) c.as_bytes.ensures)
-    c.store.ensures.stored
+pub returns-in-Ok-clause-one_thread : goal.returns-in-Ok-clause-one_thread
+returns-in-Ok-clause-one_thread g c =
+    answered c.args.words.now
+    (g.F.Folder.content c.args.folder.now) (g.F.Folder.content c.find_answer.new.folder)
+    (g.F.Folder.faults c.args.folder.now) (g.F.Folder.faults c.find_answer.new.folder)
+    (sink_state (g.K.Sink.bytes c.args.sink.now) (g.K.Sink.faults c.args.sink.now))
+    (devices (g.F.Folder.content c.deliver.new.folder) (g.F.Folder.faults c.deliver.new.folder) (g.K.Sink.bytes c.deliver.new.sink) (g.K.Sink.faults c.deliver.new.sink))
+    c.in-Ok.answer c.deliver.result
+    c.in-Ok.ensures.content c.in-Ok.ensures.later c.deliver.ensures.folder_faults
+    c.in-Ok.ensures.answer c.deliver.ensures.delivered
 
-pub returns-in-Failed-clause-answered : goal.returns-in-Failed-clause-answered
-returns-in-Failed-clause-answered g c = (
-  report_cut _ _ _ _ _ c.in-Ok-Report.output
-      (rw c.in-Ok-Report.field-0-is at c.in-Ok-Report.ensures.prepared)
-      (subst (AppendedPart (g.K.Sink.bytes c.args.sink.now) (g.K.Sink.bytes c.write_whole.new.sink)) c.as_bytes.ensures c.in-Failed.ensures.part),
-  c.in-Ok-Report.ensures.content,
-  c.in-Failed.ensures.failed refl,
-)
-
-pub returns-in-Ok-Report-clause-answered : goal.returns-in-Ok-Report-clause-answered
-returns-in-Ok-Report-clause-answered g c =
-    writing c.in-Ok-Report.ensures.content
-    (report_cut _ _ _ _ _ c.in-Ok-Report.output
-    (rw c.in-Ok-Report.field-0-is at c.in-Ok-Report.ensures.prepared)
-    (subst (AppendedPart (g.K.Sink.bytes c.args.sink.now) (g.K.Sink.bytes c.write_whole.new.sink)) c.as_bytes.ensures c.in-NoMemory.ensures.part))
-
-pub returns-in-Failed-write_whole-clause-answered : goal.returns-in-Failed-write_whole-clause-answered
-returns-in-Failed-write_whole-clause-answered g c = (
-  line_cut _ _ _ _ _ c.in-Ok-Line.text c.in-Ok-Line.status
-      (rw c.in-Ok-Line.field-0-is at c.in-Ok-Line.ensures.prepared)
-      (subst (AppendedPart (g.K.Sink.bytes c.args.sink.now) (g.K.Sink.bytes c.write_whole-in-Ok-Line.new.sink)) c.as_bytes-in-Ok-Line.ensures c.in-Failed-write_whole.ensures.part),
-  c.in-Ok-Line.ensures.content,
-  c.in-Failed-write_whole.ensures.failed refl,
-)
-
-pub returns-in-Ok-Line-clause-answered : goal.returns-in-Ok-Line-clause-answered
-returns-in-Ok-Line-clause-answered g c =
-    writing c.in-Ok-Line.ensures.content
-    (line_cut _ _ _ _ _ c.in-Ok-Line.text c.in-Ok-Line.status
-    (rw c.in-Ok-Line.field-0-is at c.in-Ok-Line.ensures.prepared)
-    (subst (AppendedPart (g.K.Sink.bytes c.args.sink.now) (g.K.Sink.bytes c.write_whole-in-Ok-Line.new.sink)) c.as_bytes-in-Ok-Line.ensures c.in-NoMemory-write_whole.ensures.part))
+pub returns-in-Err-clause-one_thread : goal.returns-in-Err-clause-one_thread
+returns-in-Err-clause-one_thread g c = no_memory c.in-Err.ensures.content refl

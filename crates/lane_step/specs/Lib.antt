@@ -1,0 +1,4 @@
+pub mod Whole
+pub mod Alone
+pub mod Schedule
+pub mod Lines

@@ -1,0 +1,22 @@
+-- The journal of a job that came to its end.
+
+use Rattle.std.specs.Prelude.{◌≡◌, ℕ, ◌<◌, true, false, List, [], ◌∷◌, Some}
+use Rattle.job_calls.specs.declared.entry.Entry.{Entry}
+use Rattle.job_calls.specs.Words.{own_entries, has_quit, run_count, is_finished, is_claim, is_done}
+use Rattle.job_calls.specs.Runs.{Opening, opening}
+use Rattle.job_calls.specs.Legal.{IsLegal}
+
+-- the last of the entries is a `Claim` answered `Done`
+abbrev pub EndsDone : List Entry → Type 0
+EndsDone [] = ⊥
+EndsDone (e ∷ []) = (is_claim e.call ≡ true) × (is_done e.reply ≡ true)
+EndsDone (e ∷ d ∷ es) = EndsDone (d ∷ es)
+
+-- one hub can have written it, opened so; no lane quit, each run ended, and each lane was told last that
+-- the job is done
+pub record IsWhole (o : Opening) (journal : List Entry) : Type 0 where
+  pub legal : IsLegal journal
+  pub opened : opening journal ≡ Some o
+  pub no_quit : has_quit journal ≡ false
+  pub all_finished : (run : ℕ) → run < run_count journal → is_finished run journal ≡ true
+  pub all_done : (lane : ℕ) → lane < o.lanes → EndsDone (own_entries lane journal)

@@ -1,0 +1,25 @@
+-- What a whole run of an image is: the course of the image.
+
+use Rattle.std.specs.Prelude.{◌≡◌, ℕ, []}
+use Rattle.bim_code.specs.declared.image.Image.{Image}
+use Rattle.mos_meaning.specs.State.{Outcome, Stop}
+use Rattle.mos_meaning.specs.State as stop
+use Rattle.mos_meaning.specs.Machine.{course_of}
+use Rattle.mos_vm.specs.declared.stop.Stop.{Stop as VmStop}
+use Rattle.mos_vm.specs.declared.stop.Stop.TheVariants as vm
+use Rattle.mos_vm.specs.declared.runner.RunResult.{RunResult}
+
+-- the same stop in the words of the definitions
+abbrev pub stop_of : VmStop → Stop
+stop_of (vm.Exited code) = stop.Exited code
+stop_of (vm.Failed kind) = stop.Failed kind
+stop_of vm.Spent = stop.Spent
+stop_of vm.Stuck = stop.Stuck
+
+-- the outcome of a run that made no call
+abbrev pub outcome_of : RunResult → Outcome
+outcome_of ran = record { output = ran.output; calls = []; ticks = ran.ticks; stop = stop_of ran.stop }
+
+-- the run is the course of the image, with no replies
+abbrev pub IsCourse : Image → ℕ → RunResult → Type 0
+IsCourse image budget ran = course_of image [] [] budget ≡ record { outcome = outcome_of ran; steps = ran.steps }

@@ -1,0 +1,72 @@
+-- Laws of jobs, of what they put, and of sources.
+
+use Rattle.std.specs.Prelude.{◌≡◌, ℕ, ◌<◌, false, List, Option, Some, None, length, slice_get, ◌⊎◌}
+use Rattle.mos_text.specs.Content.{Files, Holds, known_of}
+use Rattle.mos_text.specs.declared.kind.Kind.{Kind}
+use Rattle.mos_tree.specs.declared.source.Tree.{Tree}
+use Rattle.job_calls.specs.declared.entry.Entry.{Entry}
+use Rattle.job_calls.specs.declared.entry.Listed.{Listed}
+use Rattle.job_calls.specs.declared.run_line.RunLine.{RunLine}
+use Rattle.job_calls.specs.Words.{own_entries, has_quit, run_count, is_finished}
+use Rattle.job_calls.specs.Runs.{Opening, opening, source_of, last_given}
+use Rattle.mos_meaning.specs.Follows.{Behaviour, FollowsSources}
+use Rattle.mos_parse.specs.Parsed.{IsParsed, IsSyntaxFault}
+use Rattle.lane_step.specs.Whole.{EndsDone, IsWhole}
+use Rattle.mosel_run.specs.declared.answer.Put.{Put}
+use Rattle.mosel_run.specs.Accepted.{IsAccepted, IsRefusedAt}
+use Rattle.mosel_run.specs.Puts.{named, last_puts, put_all}
+
+-- a whole job has the lanes, the budget and the files that its `Open` says, and no others
+abbrev pub OneOpening : Type 0
+OneOpening = (o other : Opening) (journal : List Entry) → IsWhole o journal → IsWhole other journal → o ≡ other
+
+abbrev pub NobodyQuit : Type 0
+NobodyQuit = (o : Opening) (journal : List Entry) → IsWhole o journal → has_quit journal ≡ false
+
+-- a run without an end is no run of a whole job
+abbrev pub EveryRunEnded : Type 0
+EveryRunEnded = (o : Opening) (journal : List Entry) (run : ℕ) → IsWhole o journal → is_finished run journal ≡ false → run < run_count journal → ⊥
+
+-- each lane was told last that the job is done
+abbrev pub EveryLaneDone : Type 0
+EveryLaneDone = (o : Opening) (journal : List Entry) (lane : ℕ) → IsWhole o journal → lane < o.lanes → EndsDone (own_entries lane journal)
+
+abbrev pub LineForEachRun : Type 0
+LineForEachRun = (journal : List Entry) (lines : List RunLine) (behaviours : List (Option Behaviour))
+    → FollowsSources journal lines behaviours → length lines ≡ run_count journal
+
+-- a file that can be run is the source of each run that has a line
+abbrev pub EachRunHasASource : Type 0
+EachRunHasASource = (journal : List Entry) (lines : List RunLine) (behaviours : List (Option Behaviour)) (run source : ℕ) (line : RunLine)
+    → FollowsSources journal lines behaviours → slice_get lines run ≡ Some line → source_of run journal ≡ Some source
+    → slice_get behaviours source ≡ Some None → ⊥
+
+-- its line has the name of that file
+abbrev pub EachLineNamesItsSource : Type 0
+EachLineNamesItsSource = (journal : List Entry) (lines : List RunLine) (behaviours : List (Option Behaviour)) (run source : ℕ) (line : RunLine) (o : Opening) (file : Listed)
+    → FollowsSources journal lines behaviours → slice_get lines run ≡ Some line → opening journal ≡ Some o → source_of run journal ≡ Some source
+    → slice_get o.files source ≡ Some file → line.source ≡ file.name
+
+-- a name that is given bytes has the last of them when all is put
+abbrev pub LastPutStays : Type 0
+LastPutStays = (files : Files) (puts : List Put) (name bytes : List ℕ) → last_given (named name) puts ≡ Some bytes
+    → known_of (put_all (Some files) (last_puts puts)) name ≡ Holds bytes
+
+-- a name that is given none is what it was
+abbrev pub OthersStay : Type 0
+OthersStay = (files : Files) (puts : List Put) (name : List ℕ) → last_given (named name) puts ≡ None
+    → known_of (put_all (Some files) (last_puts puts)) name ≡ known_of (Some files) name
+
+abbrev pub HasATree : List ℕ → Type 0
+HasATree source = (tree : Tree) × IsParsed source tree
+
+abbrev pub HasAFault : List ℕ → Type 0
+HasAFault source = (line : ℕ) × (kind : Kind) × IsSyntaxFault source line kind
+
+abbrev pub IsJudgedSource : List ℕ → Type 0
+IsJudgedSource source =
+    ((tree : Tree) × IsAccepted source tree) ⊎ ((line : ℕ) × (kind : Kind) × IsRefusedAt source line kind)
+
+-- a source that has a tree or a fault is accepted, or refused at a line
+abbrev pub SourcesAreJudged : Type 0
+SourcesAreJudged = (source : List ℕ) → HasATree source ⊎ HasAFault source → IsJudgedSource source

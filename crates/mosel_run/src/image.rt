@@ -1,0 +1,43 @@
+//! The image of an accepted source, and its name.
+ghost use Rattle.std.specs.Prelude.{◌≡◌, ◌<◌, ◌^◌, true, IfOk};
+ghost use Rattle.bim_code.specs.Code.{code_size};
+ghost use Rattle.bim_code.specs.Limits.{FitsFields};
+ghost use Rattle.bim_compile.specs.Means.{Means, NeverStuck};
+ghost use Rattle.bim_compile.specs.Plain.{IsPlain};
+ghost use Rattle.mos_meaning.specs.MachineLaws.{KeepsTicks};
+ghost use Rattle.mos_meaning.specs.Syntax.{statements_of};
+ghost use Rattle.mos_words.specs.Words.{is_source_name};
+ghost use Rattle.mosel_run.specs.Accepted.{IsSound};
+ghost use Rattle.mosel_run.specs.InSize.{IsInSize};
+ghost use Rattle.mosel_run.specs.Puts.{image_name};
+
+use bim_code::Image;
+use bim_compile::compile;
+use mos_text::{NoMemory, Text};
+use mos_tree::Tree;
+use std::alloc::Global;
+
+/// The image of a sound tree, with which the machine is never stuck.
+pub(crate) fn image_of(alloc: Global, tree: &Tree) -> Result<Image, NoMemory>
+    requires sound { IsSound tree.now }
+    requires in_size { IsInSize (statements_of tree.now) }
+    ensures means { IfOk result (Means (statements_of tree.now)) }
+    ensures never_stuck { NeverStuck (statements_of tree.now) }
+    ensures keeps { IfOk result KeepsTicks }
+    ensures fields { IfOk result FitsFields }
+    ensures plain { IfOk result IsPlain }
+    ensures small { IfOk result (λ image. code_size image.code < 2 ^ 30) }
+{
+    compile(alloc, tree)
+}
+
+/// The name of a source's image: `.bim` in place of the last four bytes.
+pub(crate) fn name_of_image(alloc: Global, source: &Text) -> Result<Text, NoMemory>
+    requires { is_source_name source.now ≡ true }
+    ensures { IfOk result (λ name. name ≡ image_name source.now) }
+{
+    let source = source.as_str();
+    let mut name = String::from_str(alloc, &source[..source.len() - 4])?;
+    name.push_str(".bim")?;
+    Ok(Text::from_string(name))
+}
