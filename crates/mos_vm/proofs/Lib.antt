@@ -1,2 +1,2 @@
 pub mod AddressLemmas
-pub mod CourseLemmas
+
