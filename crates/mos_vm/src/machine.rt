@@ -1,8 +1,5 @@
 //! The machine that carries out an image: what is at hand, the values of global slots, output and ticks.
-ghost use Rattle.std.specs.Prelude.{◌≡◌, ◌∷◌, [], List, IfOk, Some};
-ghost use Rattle.mos_value.specs.Values.{Value as Meant};
-ghost use Rattle.bim_machine.specs.Machine.{Puts, Prints, Ticks, On, idle};
-ghost use Rattle.bim_machine.specs.Instructions.{global};
+ghost use Rattle.std.specs.Prelude.{◌≡◌, ℕ, IfOk};
 ghost use Rattle.bim_machine.specs.Machine.{stop_of as halted};
 ghost use Rattle.mos_vm.specs.Courses.{stop_of};
 ghost use Rattle.mos_vm.specs.Rows.{act_of, halt_of};
@@ -112,7 +109,7 @@ impl Machine {
 
     /// Puts a value into a global slot.
     fn put(&mut self, slot: u32, value: Value) -> Control
-        ensures { Settles 0 (Puts ((global slot, value) ∷ []) self.old.work) self.old result self.new }
+        ensures { (budget : ℕ) → Settles budget (act_of (asked.Puts slot value) self.old.work) self.old result self.new }
     {
         if slot as usize >= self.globals.len() {
             return Control::Halts(Stop::Stuck);
@@ -123,7 +120,7 @@ impl Machine {
 
     /// Writes all that is held, or nothing where that would be too much.
     fn print(&mut self) -> Result<Control, NoMemory>
-        ensures { IfOk result (λ control. Settles 0 (act_of asked.Prints self.old.work) self.old control self.new) }
+        ensures { IfOk result (λ control. (budget : ℕ) → Settles budget (act_of asked.Prints self.old.work) self.old control self.new) }
     {
         if self.output.len() + self.work.held().len() > OUTPUT_LIMIT {
             return Ok(Control::Halts(Stop::Failed(FaultKind::OutFull)));
@@ -135,7 +132,7 @@ impl Machine {
 
     /// Takes a tick, where one is left.
     fn tick(&mut self, budget: u32) -> Control
-        ensures { Settles budget (Ticks (On self.old.work)) self.old result self.new }
+        ensures { Settles budget (act_of asked.Ticks self.old.work) self.old result self.new }
     {
         if self.ticks >= budget {
             return Control::Halts(Stop::Spent);

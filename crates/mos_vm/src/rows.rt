@@ -127,12 +127,15 @@ fn store(work: &mut Work, slot: u32) -> Asked
 fn swap(work: &mut Work) -> Result<Asked, NoMemory>
     ensures { IfOk result (λ asked. AsksAnywhere Instruction.Swap work.old asked work.new) }
 {
-    match work.pop_two() {
-        Some((below, above)) => {
-            work.push(above)?;
-            work.push(below)?;
-            Ok(Asked::On)
-        }
+    match work.pop() {
+        Some(above) => match work.pop() {
+            Some(below) => {
+                work.push(above)?;
+                work.push(below)?;
+                Ok(Asked::On)
+            }
+            None => Ok(Asked::Stops(Halt::Sticks)),
+        },
         None => Ok(Asked::Stops(Halt::Sticks)),
     }
 }
