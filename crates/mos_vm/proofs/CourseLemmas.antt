@@ -1,6 +1,6 @@
 -- The course of an image, step by step.
 
-use Rattle.std.proofs.Common.{◌≡◌, ◌≤◌, ◌<◌, ◌^◌, ◌*◌, ℕ, ◌+◌, List, [], length, Option, Some, None, refl, sym, ap, ◌∙◌, mul-le-mul_right, true, false, arith}
+use Rattle.std.proofs.Common.{◌≡◌, ◌≤◌, ◌<◌, ◌^◌, ◌*◌, ℕ, ◌+◌, List, [], length, Option, Some, None, refl, sym, ap, ◌∙◌, subst, mul-le-mul_right, true, false, arith}
 use Rattle.std.proofs.lemmas.Bool.Decides.{nat_tests}
 use Rattle.std.specs.Prelude.{nat_le}
 use Rattle.bim_code.specs.declared.image.Image.{Image}
@@ -8,15 +8,17 @@ use Rattle.bim_code.specs.declared.instruction.Instruction.{Instruction}
 use Rattle.bim_code.specs.Code.{instruction_at, code_size}
 use Rattle.run_state.specs.Stops.{Stop, Stuck, Course, Outcome}
 use Rattle.run_state.specs.State.{State}
+use Rattle.mos_value.specs.Values.{Value}
+use Rattle.bim_machine.specs.Starts.{Begins, beginning_of}
 use Rattle.bim_machine.specs.Machine.{Machine, At, Over}
-use Rattle.bim_machine.specs.Courses.{Progress, site_of, decoded, step, main, most_steps, told_course}
-use Rattle.bim_machine.specs.Laws.{IsOver, StepByStep, StaysOver}
+use Rattle.bim_machine.specs.Courses.{Progress, site_of, decoded, step, main, most_steps, told_course, course_from}
+use Rattle.bim_machine.specs.Laws.{IsOver, StepByStep, StaysOver, TicksWithin}
 use Rattle.mos_vm.specs.declared.stop.Stop.{Stop as VmStop}
 use Rattle.mos_vm.specs.declared.stop.Control.{Control}
 use Rattle.mos_vm.specs.declared.runner.RunResult.{RunResult}
-use Rattle.mos_vm.specs.Courses.{stop_of}
+use Rattle.mos_vm.specs.Courses.{stop_of, IsCourse}
 use Rattle.mos_vm.specs.ByAddress.{by_address, found_at}
-use Rattle.mos_vm.specs.Stepping.{Kept, world, machine_after, IsStep, IsResultOf}
+use Rattle.mos_vm.specs.Stepping.{Kept, begun, world, machine_after, IsStep, IsResultOf}
 use Rattle.mos_vm.specs.Running.{standing, behind, IsOverInTime, IsRunOf}
 use Rattle.mos_vm.proofs.AddressLemmas.{begun_is, length_within}
 
@@ -59,7 +61,7 @@ one_step image budget kept n address old found by_step stands is =
     let steps : 0 + n + 1 ≡ n + 1 = omega arith in
     by_step image (world budget) n 0 address old.work main old.state (standing 0 kept) (ap (λ (p : Progress). p.machine) stands)
     ∙ ap (λ k. record { steps = k; machine = step image (world budget) address old.work main old.state }) steps
-    ∙ ap (λ begun. record { steps = n + 1; machine = decoded image (world budget) begun address old.work main old.state }) is
+    ∙ ap (λ there. record { steps = n + 1; machine = decoded image (world budget) there address old.work main old.state }) is
 
 -- one instruction leads on
 pub leads_on : (image : Image) (budget : ℕ) (kept : Kept) (n address : ℕ) (old : Kept) (i : Instruction) (flow : Control) (new : Kept) → StepByStep
@@ -87,3 +89,12 @@ is_run image budget kept n address how new ran stays few over told_is =
     record { stop = stop_of how; address = address; state = new.state; by = ap (λ (p : Progress). p.machine) over } in
     ap told_course (stays image (world budget) (n + 1) (most_steps image budget) 0 (standing 0 kept) is_over (omega (arith, few)) ∙ over)
     ∙ course_eq _ _ _ _ (sym told_is.0) (sym told_is.1)
+
+-- a run from the beginning is the course of the image
+pub course_by : (image : Image) (budget : ℕ) (values : List Value) (ran : RunResult) → beginning_of image [] ≡ Begins values
+    → IsRunOf image budget (begun values) ran → IsCourse image budget ran
+course_by image budget values ran begins is = ap (course_from image (world budget)) begins ∙ is
+
+-- whose ticks are within its budget
+pub ticks_of : (image : Image) (budget : ℕ) (ran : RunResult) → TicksWithin → IsCourse image budget ran → ran.ticks ≤ budget
+ticks_of image budget ran within is = subst (λ (course : Course). course.outcome.ticks ≤ budget) is (within image [] [] budget)

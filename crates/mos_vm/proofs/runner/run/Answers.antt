@@ -1,11 +1,9 @@
 -- by the laws of the machine
-use Rattle.std.proofs.Common.{◌≡◌, ◌≤◌, sym, ap, ◌∙◌, subst, []}
+use Rattle.std.proofs.Common.{sym, subst}
 use Rattle.std.proofs.lemmas.Result.{IfOk-weaker}
-use Rattle.run_state.specs.Stops.{Course}
-use Rattle.bim_machine.specs.Courses.{course_of}
-use Rattle.mos_vm.specs.Courses.{IsCourse}
 use Rattle.mos_vm.specs.Running.{IsOverInTime}
 use Rattle.mos_vm.specs.Stepping.{world}
+use Rattle.mos_vm.proofs.CourseLemmas.{course_by, ticks_of}
 use Rattle.mos_vm.proofs.runner.run.Goals as goal
 
 pub go-requires-clause-over : goal.go-requires-clause-over
@@ -14,4 +12,10 @@ go-requires-clause-over c =
     (c.machine_laws.ensures.over_in_time c.args.image.now (world c.args.budget) c.in-Some.values c.requires.keeps)
 
 pub returns-in-Some-clause-ticks : goal.returns-in-Some-clause-ticks
-returns-in-Some-clause-ticks c = ?
+returns-in-Some-clause-ticks c =
+    let image = c.args.image.now in
+    let begins = rw c.in-Some.is at c.in_ok-values.ensures in
+    let from_there = rw c.begin.ensures at c.go.ensures in
+    IfOk-weaker c.go.result _ _
+    (λ ran is. ticks_of image c.args.budget ran c.machine_laws.ensures.ticks_within (course_by image c.args.budget c.in-Some.values ran (sym begins) is))
+    from_there
