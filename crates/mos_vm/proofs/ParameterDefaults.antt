@@ -15,10 +15,10 @@ abbrev at_once : List table.Parameter → Option (List Parameter) → List Value
 at_once ps found frame =
     and_then found (λ qs. with_values (map (λ (p : table.Parameter). p.slot) ps) (map (λ (q : Parameter). q.default) qs) frame)
 
-chosen : (b : Bool) (f : List Value) (go : List Value → Option (List Value)) (o : Option (List Value)) → go f ≡ o
+if_there : (b : Bool) (f : List Value) (go : List Value → Option (List Value)) (o : Option (List Value)) → go f ≡ o
     → and_then (if b then Some f else None) go ≡ (if b then o else None)
-chosen true f go o e = e
-chosen false f go o e = refl
+if_there true f go o e = e
+if_there false f go o e = refl
 
 none_either : (b : Bool) → (if b then None else None) ≡ (let none : Option (List Value) = None in none)
 none_either true = refl
@@ -31,10 +31,10 @@ one_more : (constants : List (List ℕ)) (p : table.Parameter) (ps : List table.
 one_more constants p ps None found frame rest = refl
 one_more constants p ps (Some q) None frame rest =
     let put : List Value = slice_set frame p.slot (One q.default) in
-    chosen (nat_lt p.slot (length frame)) put (with_defaults constants ps) None (rest put) ∙ none_either (nat_lt p.slot (length frame))
+    if_there (nat_lt p.slot (length frame)) put (with_defaults constants ps) None (rest put) ∙ none_either (nat_lt p.slot (length frame))
 one_more constants p ps (Some q) (Some qs) frame rest =
     let put : List Value = slice_set frame p.slot (One q.default) in
-    chosen (nat_lt p.slot (length frame)) put (with_defaults constants ps) _ (rest put)
+    if_there (nat_lt p.slot (length frame)) put (with_defaults constants ps) _ (rest put)
 
 one_by_one : (constants : List (List ℕ)) (ps : List table.Parameter) (frame : List Value)
     → with_defaults constants ps frame ≡ at_once ps (all_of (parameter_in constants) ps) frame
@@ -42,13 +42,13 @@ one_by_one constants [] frame = refl
 one_by_one constants (p ∷ ps) frame =
     one_more constants p ps (parameter_in constants p) (all_of (parameter_in constants) ps) frame (λ f. one_by_one constants ps f)
 
-begun : (image : Image) (found : Option (List Parameter)) (frame : List Value) → defaults_in image.types image.globals ≡ Some frame
+begins_with : (image : Image) (found : Option (List Parameter)) (frame : List Value) → defaults_in image.types image.globals ≡ Some frame
     → or_broken (at_once image.params found frame) ≡ by_parameters found image []
-begun image None frame e = refl
-begun image (Some qs) frame e =
+begins_with image None frame e = refl
+begins_with image (Some qs) frame e =
     ap (λ defaults. or_broken (and_then defaults (with_values (map (λ (p : table.Parameter). p.slot) image.params) (map (λ (q : Parameter). q.default) qs)))) (sym e)
 
 pub begins_so : (image : Image) (frame : List Value) (all : Option (List Value)) → defaults_in image.types image.globals ≡ Some frame
     → all ≡ with_defaults image.constants image.params frame → or_broken all ≡ beginning_of image []
 begins_so image frame all e is =
-    ap or_broken (is ∙ one_by_one image.constants image.params frame) ∙ begun image (parameters_in image) frame e
+    ap or_broken (is ∙ one_by_one image.constants image.params frame) ∙ begins_with image (parameters_in image) frame e

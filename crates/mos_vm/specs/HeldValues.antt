@@ -59,8 +59,8 @@ abbrev pub text_in : Value → Option (List ℕ)
 text_in value = and_then (scalar_in value) text_of_scalar
 
 -- an integer, where it has 32 bits
-abbrev pub fitting : ℤ → Option ℤ
-fitting n = if is_integer n then Some n else None
+abbrev pub in_range : ℤ → Option ℤ
+in_range n = if is_integer n then Some n else None
 
 -- it as an answer, or the fault of one that does not fit
 abbrev pub integer_of : Option ℤ → Result

@@ -43,6 +43,6 @@ result_of (answer.Faults kind) = Faults kind
 result_of answer.Sticks = NoAnswer
 
 -- an operand that was wanted goes on, where it was found
-abbrev pub taken : {A : Type 0} → Option A → Work → (A → Work → Act) → Act
-taken None work go = Stops Sticks
-taken (Some x) work go = go x work
+abbrev pub with_top : {A : Type 0} → Option A → Work → (A → Work → Act) → Act
+with_top None work go = Stops Sticks
+with_top (Some x) work go = go x work

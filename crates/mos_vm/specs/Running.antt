@@ -13,16 +13,16 @@ use Rattle.mos_vm.specs.Courses.{outcome_of}
 use Rattle.mos_vm.specs.Stepping.{Kept, world}
 
 -- a machine at an address
-abbrev pub standing : ℕ → Kept → Machine
-standing address kept = At address kept.work main kept.state
+abbrev pub machine_at : ℕ → Kept → Machine
+machine_at address kept = At address kept.work main kept.state
 
 -- the machine behind so many steps from address 0
-abbrev pub behind : Image → ℕ → Kept → ℕ → Progress
-behind image budget kept n = run image (world budget) n 0 (standing 0 kept)
+abbrev pub after_steps : Image → ℕ → Kept → ℕ → Progress
+after_steps image budget kept n = run image (world budget) n 0 (machine_at 0 kept)
 
 -- it is over after as many steps as a course is given
 abbrev pub IsOverInTime : Image → ℕ → Kept → Type 0
-IsOverInTime image budget kept = IsOver (behind image budget kept (most_steps image budget)).machine
+IsOverInTime image budget kept = IsOver (after_steps image budget kept (most_steps image budget)).machine
 
 -- what is told of a run
 abbrev pub course_of_run : RunResult → Course
@@ -30,7 +30,7 @@ course_of_run ran = record { outcome = outcome_of ran; steps = ran.steps }
 
 -- it is all that the machine does
 abbrev pub IsRunOf : Image → ℕ → Kept → RunResult → Type 0
-IsRunOf image budget kept ran = told_course (behind image budget kept (most_steps image budget)) ≡ course_of_run ran
+IsRunOf image budget kept ran = told_course (after_steps image budget kept (most_steps image budget)) ≡ course_of_run ran
 
 -- the run of an image without a beginning
 abbrev pub IsBroken : RunResult → Type 0

@@ -26,8 +26,8 @@ abbrev pub world : ℕ → World
 world budget = record { replies = []; budget = budget }
 
 -- a machine that begins with these values in its global slots
-abbrev pub begun : List Value → Kept
-begun values = record { work = idle; state = beginning values }
+abbrev pub machine_with : List Value → Kept
+machine_with values = record { work = idle; state = beginning values }
 
 -- the machine behind an instruction, or where that names, or over
 abbrev pub machine_after : Site → Control → Kept → Machine

@@ -2,7 +2,7 @@
 ghost use Rattle.std.specs.Prelude.{◌≡◌, ◌∷◌, [], IfOk, ◌+ℤ◌, ◌-ℤ◌};
 ghost use Rattle.mos_value.specs.Answers.{answer, between, sum, difference, compare, show, text, truth, compared, order_of, same_value};
 ghost use Rattle.bim_machine.specs.Instructions.{comparison_of};
-ghost use Rattle.mos_vm.specs.HeldValues.{fitting, integer_of};
+ghost use Rattle.mos_vm.specs.HeldValues.{in_range, integer_of};
 ghost use Rattle.mos_vm.specs.Rows.{result_of};
 
 use crate::printing::printed_form;
@@ -64,8 +64,8 @@ pub(crate) fn comparison(how: Comparison, left: Value, right: Value) -> Answer
 }
 
 /// The printed form of a value, as a text.
-pub(crate) fn shown(alloc: Global, value: Value) -> Result<Answer, NoMemory>
-    ensures { IfOk result (λ shown. result_of shown ≡ answer show (value ∷ [])) }
+pub(crate) fn printed_text(alloc: Global, value: Value) -> Result<Answer, NoMemory>
+    ensures { IfOk result (λ printed. result_of printed ≡ answer show (value ∷ [])) }
 {
     match value.into_scalar() {
         Some(value) => Ok(text(printed_form(alloc, value)?)),
@@ -84,13 +84,13 @@ pub(crate) fn text(bytes: Text) -> Answer
 }
 
 fn sum_of(left: i32, right: i32) -> Option<i32>
-    ensures { result ≡ fitting (left +ℤ right) }
+    ensures { result ≡ in_range (left +ℤ right) }
 {
     left.checked_add(right)
 }
 
 fn difference_of(left: i32, right: i32) -> Option<i32>
-    ensures { result ≡ fitting (left -ℤ right) }
+    ensures { result ≡ in_range (left -ℤ right) }
 {
     left.checked_sub(right)
 }

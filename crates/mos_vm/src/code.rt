@@ -20,10 +20,7 @@ pub(crate) fn by_address(
     Ok(cells)
 }
 
-fn push_one(
-    cells: &mut Vec<Option<Instruction>>,
-    instruction: Instruction,
-) -> Result<(), NoMemory>
+fn push_one(cells: &mut Vec<Option<Instruction>>, instruction: Instruction) -> Result<(), NoMemory>
     ensures { OnOk result (cells.new.items ≡ cells.old.items ++ cells_of instruction) }
 {
     cells.push(Some(instruction))?;
@@ -54,9 +51,8 @@ pub(crate) fn target(instruction: Instruction, next: u32) -> u32
     ensures { result ≡ target instruction next }
 {
     match instruction {
-        Instruction::Jump(address)
-        | Instruction::JumpIf(address)
-        | Instruction::JumpNot(address) => address,
+        Instruction::Jump(address) | Instruction::JumpIf(address) | Instruction::JumpNot(address) =>
+            address,
         Instruction::Tick
         | Instruction::PushInt(_)
         | Instruction::PushBool(_)

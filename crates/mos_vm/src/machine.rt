@@ -4,7 +4,7 @@ ghost use Rattle.bim_machine.specs.Machine.{stop_of as halted};
 ghost use Rattle.mos_vm.specs.Courses.{stop_of};
 ghost use Rattle.mos_vm.specs.Rows.{act_of, halt_of};
 ghost use Rattle.mos_vm.specs.declared.asked.Asked.TheVariants as asked;
-ghost use Rattle.mos_vm.specs.Stepping.{begun, Settles, IsStep, IsResultOf};
+ghost use Rattle.mos_vm.specs.Stepping.{machine_with, Settles, IsStep, IsResultOf};
 
 use crate::asked::{Asked, Halt};
 use crate::rows::carry_out;
@@ -50,7 +50,7 @@ impl Model for Machine {
 impl Machine {
     /// A machine that begins with these values in its global slots.
     pub(crate) fn begin(alloc: Global, globals: Items<Value>) -> Machine
-        ensures { result ≡ begun globals }
+        ensures { result ≡ machine_with globals }
     {
         Machine {
             work: Work::idle(alloc),

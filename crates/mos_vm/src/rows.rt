@@ -4,7 +4,7 @@ ghost use Rattle.bim_machine.specs.Machine.{Work as Hand};
 ghost use Rattle.bim_machine.specs.Instructions.{resulted, truth_of_operand, own_fault};
 ghost use Rattle.mos_vm.specs.Rows.{Asks, AsksAnywhere, act_of, result_of};
 
-use crate::answers::{Answer, comparison, difference, shown, sum, text};
+use crate::answers::{Answer, comparison, difference, printed_text, sum, text};
 use crate::asked::{Asked, Halt};
 use crate::value::Value;
 use crate::work::Work;
@@ -193,8 +193,8 @@ fn show(alloc: Global, work: &mut Work) -> Result<Asked, NoMemory>
 {
     match work.pop() {
         Some(value) => {
-            let shown = shown(alloc, value)?;
-            answered(work, shown)
+            let printed = printed_text(alloc, value)?;
+            answered(work, printed)
         }
         None => Ok(Asked::Stops(Halt::Sticks)),
     }

@@ -54,12 +54,7 @@ fn broken(alloc: Global) -> RunResult
 }
 
 /// Carries out an image from its first instruction on.
-fn go(
-    alloc: Global,
-    image: &Image,
-    budget: u32,
-    machine: Machine,
-) -> Result<RunResult, NoMemory>
+fn go(alloc: Global, image: &Image, budget: u32, machine: Machine) -> Result<RunResult, NoMemory>
     requires over { IsOverInTime image.now budget machine }
     requires small { code_size image.now.code < 2 ^ 30 }
     ensures { IfOk result (λ ran. IsRunOf image.now budget machine ran) }
@@ -70,15 +65,16 @@ fn go(
     let mut address: u32 = 0;
     let mut steps: u64 = 0;
     loop {
+        let begun = steps + 1;
         let Some(instruction) = found_at(&code, address) else {
-            return Ok(machine.ended(Stop::Stuck, steps + 1));
+            return Ok(machine.ended(Stop::Stuck, begun));
         };
         let next = address + instruction.width();
         match machine.step(alloc, image, budget, instruction)? {
             Control::Goes => address = next,
             Control::Jumps => address = target(instruction, next),
-            Control::Halts(stop) => return Ok(machine.ended(stop, steps + 1)),
+            Control::Halts(stop) => return Ok(machine.ended(stop, begun)),
         }
-        steps += 1;
+        steps = begun;
     }
 }

@@ -3,7 +3,7 @@ ghost use Rattle.std.specs.Prelude.{◌≡◌, ◌∷◌, ◌++◌, [], ℤ, Boo
 ghost use Rattle.mos_value.specs.Values.{Value as Meant};
 ghost use Rattle.bim_machine.specs.Machine.{Work as Hand, Act, idle, push};
 ghost use Rattle.bim_machine.specs.Instructions.{on_value, on_integer, on_text, on_truth, values_off};
-ghost use Rattle.mos_vm.specs.Rows.{taken};
+ghost use Rattle.mos_vm.specs.Rows.{with_top};
 
 use crate::value::Value;
 use mos_text::{NoMemory, Text};
@@ -69,7 +69,7 @@ impl Work {
 
     /// Takes the top, where it is an integer.
     pub(crate) fn pop_integer(&mut self) -> Option<i32>
-        ensures { (go : ℤ → Hand → Act) → on_integer self.old.stack self.old go ≡ taken result self.new go }
+        ensures { (go : ℤ → Hand → Act) → on_integer self.old.stack self.old go ≡ with_top result self.new go }
     {
         match self.pop() {
             Some(value) => value.into_integer(),
@@ -79,7 +79,7 @@ impl Work {
 
     /// Takes the top, where it is a boolean.
     pub(crate) fn pop_truth(&mut self) -> Option<bool>
-        ensures { (go : Bool → Hand → Act) → on_truth self.old.stack self.old go ≡ taken result self.new go }
+        ensures { (go : Bool → Hand → Act) → on_truth self.old.stack self.old go ≡ with_top result self.new go }
     {
         match self.pop() {
             Some(value) => value.into_truth(),
@@ -89,7 +89,7 @@ impl Work {
 
     /// Takes the top, where it is a text.
     pub(crate) fn pop_text(&mut self) -> Option<Text>
-        ensures { (go : List ℕ → Hand → Act) → on_text self.old.stack self.old go ≡ taken result self.new go }
+        ensures { (go : List ℕ → Hand → Act) → on_text self.old.stack self.old go ≡ with_top result self.new go }
     {
         match self.pop() {
             Some(value) => value.into_text(),

@@ -5,26 +5,14 @@ use Rattle.bim_machine.specs.Courses.{most_steps}
 use Rattle.mos_vm.specs.declared.stop.Stop.TheVariants as vm
 use Rattle.mos_vm.specs.declared.stop.Control.TheVariants.{Goes, Jumps, Halts}
 use Rattle.mos_vm.specs.ByAddress.{target}
-use Rattle.mos_vm.specs.Running.{standing}
+use Rattle.mos_vm.specs.Running.{machine_at}
 use Rattle.mos_vm.proofs.CourseLemmas.{still_few, steps_fit, found_there, leads_on, stuck_on, is_run}
 use Rattle.mos_vm.proofs.AddressLemmas.{at_within}
 use Rattle.mos_vm.proofs.runner.go.Goals as goal
 use Rattle.mos_vm.proofs.runner.go.Goals.{in-Goes, in-Jumps}
 
-pub overflow_add-steps : goal.overflow_add-steps
-overflow_add-steps c =
-    let few = still_few c.args.image.now c.args.budget c.args.machine c.loop-instruction.steps _ c.loop-instruction.machine c.machine_laws.ensures.stays_over c.requires.over c.loop-instruction.invariant.stands in
-    let fit = steps_fit c.args.image.now c.args.budget c.requires.small c.ranges.budget.fits in
-    omega (arith, few, fit)
-
-pub overflow_add-steps-in-Halts : goal.overflow_add-steps-in-Halts
-overflow_add-steps-in-Halts c =
-    let few = still_few c.args.image.now c.args.budget c.args.machine c.loop-instruction.steps _ c.loop-instruction.machine c.machine_laws.ensures.stays_over c.requires.over c.loop-instruction.invariant.stands in
-    let fit = steps_fit c.args.image.now c.args.budget c.requires.small c.ranges.budget.fits in
-    omega (arith, few, fit)
-
-pub overflow_add-steps-in-loop-instruction : goal.overflow_add-steps-in-loop-instruction
-overflow_add-steps-in-loop-instruction c =
+pub overflow_add-begun : goal.overflow_add-begun
+overflow_add-begun c =
     let few = still_few c.args.image.now c.args.budget c.args.machine c.loop-instruction.steps _ c.loop-instruction.machine c.machine_laws.ensures.stays_over c.requires.over c.loop-instruction.invariant.stands in
     let fit = steps_fit c.args.image.now c.args.budget c.requires.small c.ranges.budget.fits in
     omega (arith, few, fit)
@@ -79,12 +67,12 @@ loop-instruction-preserved c =
         | in-Goes w ↦
             leads_on image c.args.budget c.args.machine steps at c.loop-instruction.machine c.in-Some.instruction Goes c.step.new.self
             laws.step_by_step c.loop-instruction.invariant.stands found (rw w.in-Goes.is at c.in_ok-step.ensures)
-            ∙ ap (λ address. record { steps = steps + 1; machine = standing address c.step.new.self })
+            ∙ ap (λ address. record { steps = steps + 1; machine = machine_at address c.step.new.self })
             (ap (λ wide. at + wide) (sym c.width.ensures) ∙ sym w.address-is)
         | in-Jumps w ↦
             leads_on image c.args.budget c.args.machine steps at c.loop-instruction.machine c.in-Some.instruction Jumps c.step.new.self
             laws.step_by_step c.loop-instruction.invariant.stands found (rw w.in-Jumps.is at c.in_ok-step.ensures)
-            ∙ ap (λ address. record { steps = steps + 1; machine = standing address c.step.new.self })
+            ∙ ap (λ address. record { steps = steps + 1; machine = machine_at address c.step.new.self })
             (ap (λ wide. target c.in-Some.instruction (at + wide)) (sym c.width.ensures) ∙ sym w.target-address.ensures ∙ sym w.address-is)
       ];
     }

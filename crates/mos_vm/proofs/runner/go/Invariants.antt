@@ -2,14 +2,14 @@
 use Rattle.std.proofs.Common.{◌≡◌, ◌-◌}
 use Rattle.bim_machine.specs.Courses.{most_steps}
 use Rattle.mos_vm.specs.ByAddress.{by_address}
-use Rattle.mos_vm.specs.Running.{standing}
+use Rattle.mos_vm.specs.Running.{machine_at}
 use Rattle.mos_vm.proofs.CourseLemmas.{IsBehind}
 use Rattle.mos_vm.proofs.runner.go.Given as goal
 
 abbrev pub invariant-loop-instruction : goal.invariant-loop-instruction
 invariant-loop-instruction l = record {
   code : l.code.items ≡ by_address l.image.code;
-  stands : IsBehind l.image l.budget l.fn.machine l.steps (standing l.address l.machine);
+  stands : IsBehind l.image l.budget l.fn.machine l.steps (machine_at l.address l.machine);
 }
 
 abbrev pub decreases-loop-instruction : goal.decreases-loop-instruction
