@@ -6,11 +6,10 @@ use Rattle.std.specs.Prelude.{nat_le}
 use Rattle.bim_code.specs.declared.image.Image.{Image}
 use Rattle.bim_code.specs.declared.instruction.Instruction.{Instruction}
 use Rattle.bim_code.specs.Code.{instruction_at, code_size}
-use Rattle.run_state.specs.Stops.{Stop, Stuck, Course, Outcome}
-use Rattle.run_state.specs.State.{State}
+use Rattle.run_state.specs.Stops.{Stuck, Course, Outcome}
 use Rattle.mos_value.specs.Values.{Value}
 use Rattle.bim_machine.specs.Starts.{Begins, beginning_of}
-use Rattle.bim_machine.specs.Machine.{Machine, At, Over}
+use Rattle.bim_machine.specs.Machine.{Machine, Over}
 use Rattle.bim_machine.specs.Courses.{Progress, site_of, decoded, step, main, most_steps, told_course, course_from}
 use Rattle.bim_machine.specs.Laws.{IsOver, StepByStep, StaysOver, TicksWithin}
 use Rattle.mos_vm.specs.declared.stop.Stop.{Stop as VmStop}

@@ -2,13 +2,12 @@
 
 use Rattle.std.proofs.Common.{◌≡◌, ℕ, Bool, true, false, List, [], ◌∷◌, map, length, Option, Some, None, refl, sym, ap, ◌∙◌}
 use Rattle.std.specs.Prelude.{option_map, slice_set, nat_lt, if◌then◌else◌}
-use Rattle.mos_text.specs.declared.scalar.Scalar.{Scalar}
 use Rattle.bim_code.specs.declared.image.Image.{Image}
 use Rattle.bim_code.specs.declared.image.Parameter as table
 use Rattle.mos_value.specs.Values.{Value, One}
 use Rattle.run_state.specs.Parameters.{Parameter, and_then, with_values}
 use Rattle.bim_machine.specs.Starts.{all_of, parameter_in, parameters_in, defaults_in, or_broken, by_parameters, beginning_of}
-use Rattle.mos_vm.specs.Beginnings.{default_in, in_slot, with_defaults}
+use Rattle.mos_vm.specs.Beginnings.{in_slot, with_defaults}
 
 -- all parameters, and then their values in their slots
 abbrev at_once : List table.Parameter → Option (List Parameter) → List Value → Option (List Value)

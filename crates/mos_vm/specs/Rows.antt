@@ -1,9 +1,9 @@
 -- As the code goes about it: what an instruction asks of the machine that the program keeps, when it
 -- has done with the operands what it does.
 
-use Rattle.std.specs.Prelude.{◌≡◌, ℕ, ℤ, List, [], ◌∷◌, Option, Some, None}
+use Rattle.std.specs.Prelude.{◌≡◌, ℕ, List, [], ◌∷◌, Option, Some, None}
 use Rattle.bim_code.specs.declared.instruction.Instruction.{Instruction}
-use Rattle.mos_value.specs.Values.{Value, Holds}
+use Rattle.mos_value.specs.Values.{Value}
 use Rattle.mos_value.specs.Answers.{Result, Gives, Faults, Sticks as NoAnswer}
 use Rattle.bim_machine.specs.Machine.{Work, Act, On, Jumps, Stops, Puts, Prints, Ticks, Halt, Exits, Fails, Sticks}
 use Rattle.bim_machine.specs.Instructions.{act, global}

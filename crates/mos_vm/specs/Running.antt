@@ -1,6 +1,6 @@
 -- As the code goes about it: the run of a machine from its first instruction on.
 
-use Rattle.std.specs.Prelude.{◌≡◌, ℕ, [], ◌∷◌}
+use Rattle.std.specs.Prelude.{◌≡◌, ℕ, []}
 use Rattle.bim_code.specs.declared.image.Image.{Image}
 use Rattle.run_state.specs.Stops.{Stuck, Course}
 use Rattle.run_state.specs.State.{beginning}

@@ -1,7 +1,7 @@
 -- As the code goes about it: what the program keeps of a machine, but for the address of its
 -- instruction, and where one instruction leads it.
 
-use Rattle.std.specs.Prelude.{◌≡◌, ℕ, List, [], ◌∷◌}
+use Rattle.std.specs.Prelude.{◌≡◌, ℕ, List, []}
 use Rattle.bim_code.specs.declared.image.Image.{Image}
 use Rattle.bim_code.specs.declared.instruction.Instruction.{Instruction}
 use Rattle.mos_value.specs.Values.{Value}

@@ -52,7 +52,8 @@ pub(crate) fn difference(left: Value, right: Value) -> Answer
 
 /// Whether the first value compares so with the second.
 pub(crate) fn comparison(how: Comparison, left: Value, right: Value) -> Answer
-    ensures { result_of result ≡ answer (between (compare (comparison_of how))) (left ∷ right ∷ []) }
+    ensures { result_of result
+        ≡ answer (between (compare (comparison_of how))) (left ∷ right ∷ []) }
 {
     match left.into_scalar() {
         Some(left) => match right.into_scalar() {

@@ -1,5 +1,5 @@
-//! The machine that carries out an image: it keeps operands, held texts, values, output and ticks, and
-//! does with them, instruction by instruction, what the definitions say.
+//! The machine that carries out an image: it keeps operands, held texts, values, output and ticks,
+//! and does with them, instruction by instruction, what the definitions say.
 #![tactic(auto)]
 
 mod answers;

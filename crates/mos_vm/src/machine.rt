@@ -1,4 +1,4 @@
-//! The machine that carries out an image: what is at hand, the values of global slots, output and ticks.
+//! The machine that carries out an image: what is at hand, the values of global slots, output, ticks.
 ghost use Rattle.std.specs.Prelude.{◌≡◌, ℕ, IfOk};
 ghost use Rattle.bim_machine.specs.Machine.{stop_of as halted};
 ghost use Rattle.mos_vm.specs.Courses.{stop_of};
@@ -81,7 +81,8 @@ impl Machine {
         budget: u32,
         instruction: Instruction,
     ) -> Result<Control, NoMemory>
-        ensures { IfOk result (λ control. IsStep image.now budget instruction self.old control self.new) }
+        ensures { IfOk result
+            (λ control. IsStep image.now budget instruction self.old control self.new) }
     {
         let asked = carry_out(
             alloc,
@@ -95,7 +96,8 @@ impl Machine {
 
     /// Does what is asked for.
     fn settle(&mut self, budget: u32, asked: Asked) -> Result<Control, NoMemory>
-        ensures { IfOk result (λ control. Settles budget (act_of asked self.old.work) self.old control self.new) }
+        ensures { IfOk result
+            (λ control. Settles budget (act_of asked self.old.work) self.old control self.new) }
     {
         match asked {
             Asked::On => Ok(Control::Goes),
@@ -109,7 +111,8 @@ impl Machine {
 
     /// Puts a value into a global slot.
     fn put(&mut self, slot: u32, value: Value) -> Control
-        ensures { (budget : ℕ) → Settles budget (act_of (asked.Puts slot value) self.old.work) self.old result self.new }
+        ensures { (budget : ℕ)
+            → Settles budget (act_of (asked.Puts slot value) self.old.work) self.old result self.new }
     {
         if slot as usize >= self.globals.len() {
             return Control::Halts(Stop::Stuck);
@@ -120,7 +123,8 @@ impl Machine {
 
     /// Writes all that is held, or nothing where that would be too much.
     fn print(&mut self) -> Result<Control, NoMemory>
-        ensures { IfOk result (λ control. (budget : ℕ) → Settles budget (act_of asked.Prints self.old.work) self.old control self.new) }
+        ensures { IfOk result (λ control. (budget : ℕ)
+            → Settles budget (act_of asked.Prints self.old.work) self.old control self.new) }
     {
         if self.output.len() + self.work.held().len() > OUTPUT_LIMIT {
             return Ok(Control::Halts(Stop::Failed(FaultKind::OutFull)));

@@ -1,5 +1,5 @@
-//! What each instruction does with the operands, and what it asks for then: a function for each row.
-ghost use Rattle.std.specs.Prelude.{◌≡◌, ◌∷◌, ◌++◌, [], IfOk, Some, None};
+//! What each instruction does with the operands, and what it asks for then: a function a row.
+ghost use Rattle.std.specs.Prelude.{◌≡◌, [], IfOk, Some, None};
 ghost use Rattle.bim_machine.specs.Machine.{Work as Hand};
 ghost use Rattle.bim_machine.specs.Instructions.{resulted, truth_of_operand, own_fault};
 ghost use Rattle.mos_vm.specs.Rows.{Asks, AsksAnywhere, act_of, result_of};
@@ -20,7 +20,8 @@ pub(crate) fn carry_out(
     globals: &[Value],
     instruction: Instruction,
 ) -> Result<Asked, NoMemory>
-    ensures { IfOk result (λ asked. Asks constants.now instruction globals.now work.old asked work.new) }
+    ensures { IfOk result
+        (λ asked. Asks constants.now instruction globals.now work.old asked work.new) }
 {
     match instruction {
         Instruction::Tick => Ok(Asked::Ticks),
@@ -59,14 +60,16 @@ fn answered(work: &mut Work, answer: Answer) -> Result<Asked, NoMemory>
 }
 
 fn push_integer(work: &mut Work, number: i32) -> Result<Asked, NoMemory>
-    ensures { IfOk result (λ asked. AsksAnywhere (Instruction.PushInt number) work.old asked work.new) }
+    ensures { IfOk result
+        (λ asked. AsksAnywhere (Instruction.PushInt number) work.old asked work.new) }
 {
     work.push(Value::one(Scalar::Int(number)))?;
     Ok(Asked::On)
 }
 
 fn push_truth(work: &mut Work, number: u32) -> Result<Asked, NoMemory>
-    ensures { IfOk result (λ asked. AsksAnywhere (Instruction.PushBool number) work.old asked work.new) }
+    ensures { IfOk result
+        (λ asked. AsksAnywhere (Instruction.PushBool number) work.old asked work.new) }
 {
     match truth_of_operand(number) {
         Some(truth) => {
@@ -94,7 +97,8 @@ fn push_text(
     constants: &[Text],
     constant: u32,
 ) -> Result<Asked, NoMemory>
-    ensures { IfOk result (λ asked. Asks constants.now (Instruction.PushText constant) [] work.old asked work.new) }
+    ensures { IfOk result
+        (λ asked. Asks constants.now (Instruction.PushText constant) [] work.old asked work.new) }
 {
     match sqlite_items::at(constants, constant as usize) {
         Some(found) => answered(work, text(found.copy(alloc)?)),
@@ -103,7 +107,8 @@ fn push_text(
 }
 
 fn load(alloc: Global, work: &mut Work, globals: &[Value], slot: u32) -> Result<Asked, NoMemory>
-    ensures { IfOk result (λ asked. Asks [] (Instruction.LoadGlobal slot) globals.now work.old asked work.new) }
+    ensures { IfOk result
+        (λ asked. Asks [] (Instruction.LoadGlobal slot) globals.now work.old asked work.new) }
 {
     match sqlite_items::at(globals, slot as usize) {
         Some(value) => {
@@ -159,7 +164,8 @@ fn subtract(work: &mut Work) -> Result<Asked, NoMemory>
 }
 
 fn compare(work: &mut Work, how: Comparison) -> Result<Asked, NoMemory>
-    ensures { IfOk result (λ asked. AsksAnywhere (Instruction.Compare how) work.old asked work.new) }
+    ensures { IfOk result
+        (λ asked. AsksAnywhere (Instruction.Compare how) work.old asked work.new) }
 {
     match work.pop_two() {
         Some((left, right)) => answered(work, comparison(how, left, right)),

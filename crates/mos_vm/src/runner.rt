@@ -1,5 +1,5 @@
 //! Carries out a whole image, and says what can be told of the run.
-ghost use Rattle.std.specs.Prelude.{◌≡◌, ◌<◌, ◌≤◌, ◌+◌, ◌*◌, ◌^◌, IfOk, length};
+ghost use Rattle.std.specs.Prelude.{◌<◌, ◌≤◌, ◌+◌, ◌*◌, ◌^◌, IfOk, length};
 ghost use Rattle.bim_code.specs.Code.{code_size};
 ghost use Rattle.bim_code.specs.Rules.{KeepsTicks};
 ghost use Rattle.mos_vm.specs.Courses.{IsCourse};
@@ -26,7 +26,8 @@ pub struct RunResult {
     pub steps: u64,
 }
 
-/// Carries out an image with the empty parameter text, for so many ticks. No instruction makes a call.
+/// Carries out an image with the empty parameter text, for so many ticks. It makes no call: no
+/// instruction asks for one yet.
 pub fn run(alloc: Global, image: &Image, budget: u32) -> Result<RunResult, NoMemory>
     requires keeps { KeepsTicks image.now }
     requires small { code_size image.now.code < 2 ^ 30 }

@@ -1,4 +1,4 @@
-//! How a run begins, by the tables of its image: a default in each global slot, then the parameters.
+//! How a run begins, by the tables of its image: a default in each global slot, then parameters.
 ghost use Rattle.std.specs.Prelude.{◌≡◌, [], IfOk, slice_get};
 ghost use Rattle.run_state.specs.Parameters.{and_then};
 ghost use Rattle.bim_machine.specs.Starts.{scalar_default, type_default, all_of, defaults_in, default_value, or_broken, beginning_of};
@@ -47,7 +47,8 @@ fn numbered_default(
     types: &[ImageType],
     number: u16,
 ) -> Result<Option<Value>, NoMemory>
-    ensures { IfOk result (λ value. value ≡ and_then (slice_get types.now number) (type_default types.now)) }
+    ensures { IfOk result
+        (λ value. value ≡ and_then (slice_get types.now number) (type_default types.now)) }
 {
     match at(types, number as usize) {
         Some(typ) => type_default(alloc, types, typ),

@@ -105,7 +105,8 @@ impl Value {
 
     /// The integer, where it is one.
     pub(crate) fn into_integer(self) -> Option<i32>
-        ensures { MatchOption result (integer_in self ≡ None) (λ number. self ≡ One (scalar.Int number)) }
+        ensures { MatchOption result (integer_in self ≡ None)
+            (λ number. self ≡ One (scalar.Int number)) }
     {
         match self.into_scalar() {
             Some(Scalar::Int(number)) => Some(number),
@@ -116,7 +117,8 @@ impl Value {
 
     /// The boolean, where it is one.
     pub(crate) fn into_truth(self) -> Option<bool>
-        ensures { MatchOption result (truth_in self ≡ None) (λ truth. self ≡ One (scalar.Bool truth)) }
+        ensures { MatchOption result (truth_in self ≡ None)
+            (λ truth. self ≡ One (scalar.Bool truth)) }
     {
         match self.into_scalar() {
             Some(Scalar::Bool(truth)) => Some(truth),
@@ -127,7 +129,8 @@ impl Value {
 
     /// The text, where it is one.
     pub(crate) fn into_text(self) -> Option<Text>
-        ensures { MatchOption result (text_in self ≡ None) (λ text. self ≡ One (scalar.Str text)) }
+        ensures { MatchOption result (text_in self ≡ None)
+            (λ text. self ≡ One (scalar.Str text)) }
     {
         match self.into_scalar() {
             Some(Scalar::Str(text)) => Some(text),

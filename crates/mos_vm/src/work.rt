@@ -1,8 +1,7 @@
 //! What the code that runs has at hand: its operands, and what it printed and did not yet write.
-ghost use Rattle.std.specs.Prelude.{◌≡◌, ◌∷◌, ◌++◌, [], ℤ, Bool, List, ℕ, None, IfOk, OnOk, MatchOption};
-ghost use Rattle.mos_value.specs.Values.{Value as Meant};
+ghost use Rattle.std.specs.Prelude.{◌≡◌, ◌++◌, [], ℤ, Bool, List, ℕ, None, OnOk, MatchOption};
 ghost use Rattle.bim_machine.specs.Machine.{Work as Hand, Act, idle, push};
-ghost use Rattle.bim_machine.specs.Instructions.{on_value, on_integer, on_text, on_truth, values_off};
+ghost use Rattle.bim_machine.specs.Instructions.{on_integer, on_text, on_truth, values_off};
 ghost use Rattle.mos_vm.specs.Rows.{with_top};
 
 use crate::value::Value;
@@ -48,7 +47,8 @@ impl Work {
 
     /// Takes the value on top.
     pub(crate) fn pop(&mut self) -> Option<Value>
-        ensures { MatchOption result (self.old.stack ≡ []) (λ value. self.old ≡ push value self.new) }
+        ensures { MatchOption result (self.old.stack ≡ [])
+            (λ value. self.old ≡ push value self.new) }
     {
         self.stack.pop()
     }
@@ -69,7 +69,8 @@ impl Work {
 
     /// Takes the top, where it is an integer.
     pub(crate) fn pop_integer(&mut self) -> Option<i32>
-        ensures { (go : ℤ → Hand → Act) → on_integer self.old.stack self.old go ≡ with_top result self.new go }
+        ensures { (go : ℤ → Hand → Act)
+            → on_integer self.old.stack self.old go ≡ with_top result self.new go }
     {
         match self.pop() {
             Some(value) => value.into_integer(),
@@ -79,7 +80,8 @@ impl Work {
 
     /// Takes the top, where it is a boolean.
     pub(crate) fn pop_truth(&mut self) -> Option<bool>
-        ensures { (go : Bool → Hand → Act) → on_truth self.old.stack self.old go ≡ with_top result self.new go }
+        ensures { (go : Bool → Hand → Act)
+            → on_truth self.old.stack self.old go ≡ with_top result self.new go }
     {
         match self.pop() {
             Some(value) => value.into_truth(),
@@ -89,7 +91,8 @@ impl Work {
 
     /// Takes the top, where it is a text.
     pub(crate) fn pop_text(&mut self) -> Option<Text>
-        ensures { (go : List ℕ → Hand → Act) → on_text self.old.stack self.old go ≡ with_top result self.new go }
+        ensures { (go : List ℕ → Hand → Act)
+            → on_text self.old.stack self.old go ≡ with_top result self.new go }
     {
         match self.pop() {
             Some(value) => value.into_text(),
