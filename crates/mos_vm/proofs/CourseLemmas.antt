@@ -90,10 +90,10 @@ is_run image budget kept n address how new ran stays few over told_is =
     ∙ course_eq _ _ _ _ (sym told_is.0) (sym told_is.1)
 
 -- a run from the beginning is the course of the image
-pub course_by : (image : Image) (budget : ℕ) (values : List Value) (ran : RunResult) → beginning_of image [] ≡ Begins values
-    → IsRunOf image budget (machine_with values) ran → IsCourse image budget ran
-course_by image budget values ran begins is = ap (course_from image (world budget)) begins ∙ is
+pub course_by : (image : Image) (params : List ℕ) (budget : ℕ) (values : List Value) (ran : RunResult) → beginning_of image params ≡ Begins values
+    → IsRunOf image budget (machine_with values) ran → IsCourse image params budget ran
+course_by image params budget values ran begins is = ap (course_from image (world budget)) begins ∙ is
 
 -- whose ticks are within its budget
-pub ticks_of : (image : Image) (budget : ℕ) (ran : RunResult) → TicksWithin → IsCourse image budget ran → ran.ticks ≤ budget
-ticks_of image budget ran within is = subst (λ (course : Course). course.outcome.ticks ≤ budget) is (within image [] [] budget)
+pub ticks_of : (image : Image) (params : List ℕ) (budget : ℕ) (ran : RunResult) → TicksWithin → IsCourse image params budget ran → ran.ticks ≤ budget
+ticks_of image params budget ran within is = subst (λ (course : Course). course.outcome.ticks ≤ budget) is (within image params [] budget)

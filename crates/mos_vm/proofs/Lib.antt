@@ -1,3 +1,5 @@
 pub mod AddressLemmas
-pub mod ParameterDefaults
 pub mod CourseLemmas
+pub mod TextParts
+pub mod GivenValues
+pub mod GivenItems

@@ -1,6 +1,6 @@
 -- What a whole run of an image is: the course of the image.
 
-use Rattle.std.specs.Prelude.{◌≡◌, ℕ, []}
+use Rattle.std.specs.Prelude.{◌≡◌, ℕ, List, []}
 use Rattle.bim_code.specs.declared.image.Image.{Image}
 use Rattle.run_state.specs.Stops.{Outcome, Stop}
 use Rattle.run_state.specs.Stops as stop
@@ -20,6 +20,6 @@ stop_of vm.Stuck = stop.Stuck
 abbrev pub outcome_of : RunResult → Outcome
 outcome_of ran = record { output = ran.output; calls = []; ticks = ran.ticks; stop = stop_of ran.stop }
 
--- the run is the course of the image, with the empty parameter text and no replies
-abbrev pub IsCourse : Image → ℕ → RunResult → Type 0
-IsCourse image budget ran = course_of image [] [] budget ≡ record { outcome = outcome_of ran; steps = ran.steps }
+-- the run is the course of the image, given a parameter text and no replies
+abbrev pub IsCourse : Image → List ℕ → ℕ → RunResult → Type 0
+IsCourse image params budget ran = course_of image params [] budget ≡ record { outcome = outcome_of ran; steps = ran.steps }

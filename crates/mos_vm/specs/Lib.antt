@@ -5,3 +5,4 @@ pub mod Rows
 pub mod Stepping
 pub mod Beginnings
 pub mod Running
+pub mod Givens

@@ -2,14 +2,15 @@
 
 use Rattle.std.specs.Prelude.{◌≡◌, ℕ, []}
 use Rattle.bim_code.specs.declared.image.Image.{Image}
-use Rattle.run_state.specs.Stops.{Stuck, Course}
+use Rattle.run_state.specs.Stops.{Course}
 use Rattle.run_state.specs.State.{beginning}
 use Rattle.run_state.specs.State as state
 use Rattle.bim_machine.specs.Machine.{Machine, At}
 use Rattle.bim_machine.specs.Courses.{Progress, run, main, most_steps, told_course}
 use Rattle.bim_machine.specs.Laws.{IsOver}
 use Rattle.mos_vm.specs.declared.runner.RunResult.{RunResult}
-use Rattle.mos_vm.specs.Courses.{outcome_of}
+use Rattle.mos_vm.specs.declared.stop.Stop.{Stop as VmStop}
+use Rattle.mos_vm.specs.Courses.{outcome_of, stop_of}
 use Rattle.mos_vm.specs.Stepping.{Kept, world}
 
 -- a machine at an address
@@ -32,6 +33,6 @@ course_of_run ran = record { outcome = outcome_of ran; steps = ran.steps }
 abbrev pub IsRunOf : Image → ℕ → Kept → RunResult → Type 0
 IsRunOf image budget kept ran = told_course (after_steps image budget kept (most_steps image budget)) ≡ course_of_run ran
 
--- the run of an image without a beginning
-abbrev pub IsBroken : RunResult → Type 0
-IsBroken ran = course_of_run ran ≡ record { outcome = state.outcome_of Stuck (beginning []); steps = 0 }
+-- nothing was done before it stopped so
+abbrev pub HasNoStep : VmStop → RunResult → Type 0
+HasNoStep how ran = course_of_run ran ≡ record { outcome = state.outcome_of (stop_of how) (beginning []); steps = 0 }

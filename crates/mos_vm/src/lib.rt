@@ -6,6 +6,7 @@ mod answers;
 mod asked;
 mod code;
 mod machine;
+mod parameters;
 mod printing;
 mod rows;
 mod runner;
@@ -13,6 +14,7 @@ mod start;
 mod stop;
 mod value;
 mod work;
+mod written;
 
 pub use runner::{RunResult, run};
 pub use stop::Stop;

@@ -1,4 +1,4 @@
-//! The machine that carries out an image: what is at hand, the values of global slots, output, ticks.
+//! The machine that carries out an image: what is at hand, values of global slots, output, ticks.
 ghost use Rattle.std.specs.Prelude.{◌≡◌, ℕ, IfOk};
 ghost use Rattle.bim_machine.specs.Machine.{stop_of as halted};
 ghost use Rattle.mos_vm.specs.Courses.{stop_of};
@@ -112,7 +112,8 @@ impl Machine {
     /// Puts a value into a global slot.
     fn put(&mut self, slot: u32, value: Value) -> Control
         ensures { (budget : ℕ)
-            → Settles budget (act_of (asked.Puts slot value) self.old.work) self.old result self.new }
+            → Settles budget (act_of (asked.Puts slot value) self.old.work)
+            self.old result self.new }
     {
         if slot as usize >= self.globals.len() {
             return Control::Halts(Stop::Stuck);

@@ -1,5 +1,5 @@
 //! What each instruction does with the operands, and what it asks for then: a function a row.
-ghost use Rattle.std.specs.Prelude.{◌≡◌, [], IfOk, Some, None};
+ghost use Rattle.std.specs.Prelude.{◌≡◌, [], IfOk};
 ghost use Rattle.bim_machine.specs.Machine.{Work as Hand};
 ghost use Rattle.bim_machine.specs.Instructions.{resulted, truth_of_operand, own_fault};
 ghost use Rattle.mos_vm.specs.Rows.{Asks, AsksAnywhere, act_of, result_of};

@@ -3,15 +3,15 @@ ghost use Rattle.std.specs.Prelude.{◌<◌, ◌≤◌, ◌+◌, ◌*◌, ◌^�
 ghost use Rattle.bim_code.specs.Code.{code_size};
 ghost use Rattle.bim_code.specs.Rules.{KeepsTicks};
 ghost use Rattle.mos_vm.specs.Courses.{IsCourse};
-ghost use Rattle.mos_vm.specs.Running.{IsOverInTime, IsRunOf, IsBroken};
+ghost use Rattle.mos_vm.specs.Running.{IsOverInTime, IsRunOf, HasNoStep};
 
 use crate::code::{by_address, found_at, target};
 use crate::machine::Machine;
-use crate::start::beginning;
+use crate::start::{Start, beginning};
 use crate::stop::{Control, Stop};
 use bim_code::Image;
 use bim_machine::machine_laws;
-use mos_text::{Blob, NoMemory};
+use mos_text::{Blob, FaultKind, NoMemory, Text};
 use std::alloc::Global;
 
 /// What a run did.
@@ -26,28 +26,29 @@ pub struct RunResult {
     pub steps: u64,
 }
 
-/// Carries out an image with the empty parameter text, for so many ticks. It makes no call: no
-/// instruction asks for one yet.
-pub fn run(alloc: Global, image: &Image, budget: u32) -> Result<RunResult, NoMemory>
+/// Carries out an image with a parameter text, for so many ticks. It makes no call: no instruction
+/// asks for one yet.
+pub fn run(alloc: Global, image: &Image, params: &Text, budget: u32) -> Result<RunResult, NoMemory>
     requires keeps { KeepsTicks image.now }
     requires small { code_size image.now.code < 2 ^ 30 }
-    ensures course { IfOk result (λ ran. IsCourse image.now budget ran) }
+    ensures course { IfOk result (λ ran. IsCourse image.now params.now budget ran) }
     ensures ticks { IfOk result (λ ran. ran.ticks ≤ budget) }
     ensures steps { IfOk result (λ ran. ran.steps ≤ length image.now.code * (2 * ran.ticks + 2)) }
 {
     machine_laws();
-    match beginning(alloc, image)? {
-        Some(values) => go(alloc, image, budget, Machine::begin(alloc, values)),
-        None => Ok(broken(alloc)),
+    match beginning(alloc, image, params)? {
+        Start::Begins(values) => go(alloc, image, budget, Machine::begin(alloc, values)),
+        Start::Refused => Ok(no_step(alloc, Stop::Failed(FaultKind::BadParam))),
+        Start::Broken => Ok(no_step(alloc, Stop::Stuck)),
     }
 }
 
-/// The run of an image whose tables are wrong.
-fn broken(alloc: Global) -> RunResult
-    ensures { IsBroken result }
+/// The run of an image that stops before its first instruction.
+fn no_step(alloc: Global, stop: Stop) -> RunResult
+    ensures { HasNoStep stop result }
 {
     RunResult {
-        stop: Stop::Stuck,
+        stop,
         output: Blob::from_vec(Vec::new(alloc)),
         ticks: 0,
         steps: 0,

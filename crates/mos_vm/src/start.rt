@@ -1,26 +1,64 @@
 //! How a run begins, by the tables of its image: a default in each global slot, then parameters.
-ghost use Rattle.std.specs.Prelude.{◌≡◌, [], IfOk, slice_get};
-ghost use Rattle.run_state.specs.Parameters.{and_then};
-ghost use Rattle.bim_machine.specs.Starts.{scalar_default, type_default, all_of, defaults_in, default_value, or_broken, beginning_of};
+ghost use Rattle.std.specs.Prelude.{◌≡◌, [], Some, IfOk, slice_get};
+ghost use Rattle.run_state.specs.Parameters.{and_then, with_values};
+ghost use Rattle.bim_machine.specs.Starts.{scalar_default, type_default, all_of, defaults_in, by_parameters, with_given, beginning_of};
 ghost use Rattle.bim_code.specs.declared.image.ImageType.TheVariants as table;
-ghost use Rattle.mos_vm.specs.Beginnings.{default_in, with_defaults, field_default};
+ghost use Rattle.mos_vm.specs.Beginnings.{beginning_by, slots_of, field_default};
 
+use crate::parameters::{Formal, given_values, parameters};
 use crate::value::Value;
-use bim_code::{Default, Field, Image, ImageType, Parameter};
+use bim_code::{Field, Image, ImageType, Parameter};
 use mos_text::{NoMemory, Scalar, Text};
 use sqlite_items::{Items, at};
 use std::alloc::Global;
 
-/// The values in the global slots, with the empty parameter text; none where the tables are wrong.
-pub(crate) fn beginning(alloc: Global, image: &Image) -> Result<Option<Items<Value>>, NoMemory>
-    ensures { IfOk result (λ values. or_broken values ≡ beginning_of image.now []) }
+/// How a run begins.
+#[derive(Drop)]
+pub(crate) enum Start {
+    /// The parameter text is refused.
+    Refused,
+    /// The tables are wrong.
+    Broken,
+    /// With these values in the global slots.
+    Begins(Items<Value>),
+}
+
+/// The beginning of an image's run with a parameter text.
+pub(crate) fn beginning(alloc: Global, image: &Image, text: &Text) -> Result<Start, NoMemory>
+    ensures { IfOk result (λ start. beginning_by start ≡ beginning_of image.now text.now) }
+{
+    match parameters(alloc, image.constants.as_slice(), image.params.as_slice())? {
+        Some(formals) => start_with_text(alloc, image, formals.as_slice(), text),
+        None => Ok(Start::Broken),
+    }
+}
+
+fn start_with_text(
+    alloc: Global,
+    image: &Image,
+    formals: &[Formal],
+    text: &Text,
+) -> Result<Start, NoMemory>
+    ensures { IfOk result
+        (λ start. beginning_by start ≡ by_parameters (Some formals.now) image.now text.now) }
+{
+    match given_values(alloc, formals, text)? {
+        Some(given) => start_with_values(alloc, image, given),
+        None => Ok(Start::Refused),
+    }
+}
+
+/// The beginning with these values of the parameters.
+fn start_with_values(alloc: Global, image: &Image, given: Items<Scalar>) -> Result<Start, NoMemory>
+    ensures { IfOk result (λ start. beginning_by start
+        ≡ with_given (Some given) image.now (defaults_in image.now.types image.now.globals)) }
 {
     match defaults(alloc, image.types.as_slice(), image.globals.as_slice())? {
-        Some(values) => {
-            let constants = image.constants.as_slice();
-            with_parameters(alloc, constants, image.params.as_slice(), values)
-        }
-        None => Ok(None),
+        Some(values) => match with_values(alloc, image.params.as_slice(), given, values)? {
+            Some(values) => Ok(Start::Begins(values)),
+            None => Ok(Start::Broken),
+        },
+        None => Ok(Start::Broken),
     }
 }
 
@@ -139,57 +177,27 @@ fn no_text(alloc: Global) -> Text
     Text::from_string(String::new(alloc))
 }
 
-/// The values with the default of each parameter in its slot.
-fn with_parameters(
+/// The values with that of each parameter in its slot.
+fn with_values(
     alloc: Global,
-    constants: &[Text],
     params: &[Parameter],
+    given: Items<Scalar>,
     values: Items<Value>,
 ) -> Result<Option<Items<Value>>, NoMemory>
-    ensures { IfOk result (λ all. all ≡ with_defaults constants.now params.now values) }
+    ensures { IfOk result (λ all. all ≡ with_values (slots_of params.now) given values) }
 {
     let mut values = values;
-    for param in params {
-        let slot = param.slot as usize;
-        match parameter_default(alloc, constants, *param)? {
+    for place in 0..params.len() {
+        let slot = params[place].slot as usize;
+        match given.get(place) {
             Some(value) => {
                 if slot >= values.len() {
                     return Ok(None);
                 }
-                values.set(slot, Value::one(value));
+                values.set(slot, Value::one(value.copy(alloc)?));
             }
             None => return Ok(None),
         }
     }
     Ok(Some(values))
-}
-
-fn parameter_default(
-    alloc: Global,
-    constants: &[Text],
-    param: Parameter,
-) -> Result<Option<Scalar>, NoMemory>
-    ensures { IfOk result (λ value. value ≡ default_in constants.now param) }
-{
-    match at(constants, param.name as usize) {
-        Some(_) => default_value(alloc, constants, param.default),
-        None => Ok(None),
-    }
-}
-
-fn default_value(
-    alloc: Global,
-    constants: &[Text],
-    default: Default,
-) -> Result<Option<Scalar>, NoMemory>
-    ensures { IfOk result (λ value. value ≡ default_value constants.now default) }
-{
-    match default {
-        Default::Number(number) => Ok(Some(Scalar::Int(number))),
-        Default::Truth(truth) => Ok(Some(Scalar::Bool(truth))),
-        Default::Constant(constant) => match at(constants, constant as usize) {
-            Some(text) => Ok(Some(Scalar::Str(text.copy(alloc)?))),
-            None => Ok(None),
-        },
-    }
 }

@@ -9,13 +9,14 @@ use Rattle.mos_vm.proofs.runner.run.Goals as goal
 pub go-requires-clause-over : goal.go-requires-clause-over
 go-requires-clause-over c =
     subst (IsOverInTime c.args.image.now c.args.budget) (sym c.begin.ensures)
-    (c.machine_laws.ensures.over_in_time c.args.image.now (world c.args.budget) c.in-Some.values c.requires.keeps)
+    (c.machine_laws.ensures.over_in_time c.args.image.now (world c.args.budget) c.in-Begins.values c.requires.keeps)
 
-pub returns-in-Some-clause-ticks : goal.returns-in-Some-clause-ticks
-returns-in-Some-clause-ticks c =
+pub returns-in-Begins-clause-ticks : goal.returns-in-Begins-clause-ticks
+returns-in-Begins-clause-ticks c =
     let image = c.args.image.now in
-    let begins = rw c.in-Some.is at c.in_ok-values.ensures in
+    let begins = rw c.in-Begins.is at c.in_ok-values.ensures in
     let from_there = rw c.begin.ensures at c.go.ensures in
     IfOk-weaker c.go.result _ _
-    (λ ran is. ticks_of image c.args.budget ran c.machine_laws.ensures.ticks_within (course_by image c.args.budget c.in-Some.values ran (sym begins) is))
+    (λ ran is. ticks_of image c.args.params.now c.args.budget ran c.machine_laws.ensures.ticks_within
+    (course_by image c.args.params.now c.args.budget c.in-Begins.values ran (sym begins) is))
     from_there
