@@ -2,9 +2,10 @@
 """Checks of the house itself:  python3 tests/house.py [--write]
 
 Each check looks at the files alone and takes no time: that a crate's proofs lean on the contracts of the crates below and not
-on their proofs, how long the longest chain of crates is, that docs/definitions.md is what the definitions say (`--write` writes
-it), that each place that docs/extending.md names is there, and that clauses can be read aloud. tests/run.py counts each of them
-as a case. The last line is `N passed, M failed`; the exit status is 1 where a check failed, else 0.
+on their proofs; how long the longest chain of crates is; that docs/definitions.md is what the definitions say (`--write` writes
+it), and that none of those only says how the code goes about it; that each place that docs/extending.md names is there; that the
+paths and links of all pages lead somewhere; and that clauses can be read aloud. tests/run.py counts each of them as a case. The
+last line is `N passed, M failed`; the exit status is 1 where a check failed, else 0.
 """
 import re
 import sys
@@ -76,35 +77,62 @@ def chains():
         yield f"{heavy * 100 / sum(lines.values()):.1f} percent of all lines lie on the chain {' '.join(chain)}"
 
 
+GROUP = re.compile(r"(?:abbrev )?mutual$|module _ .*where$")
+
+
 class Module:
     """A file of definitions: its first sentence, what it imports, and each definition with its comment and text."""
 
     def __init__(self, crate, path):
         self.crate, self.path = crate, path
-        self.imports, self.definitions = {}, {}
+        self.imports, self.aliases, self.definitions = {}, {}, {}
         self.sentence = ""
         if path.is_file():
             self.read(path.read_text())
 
     def read(self, text):
-        comment, current = [], None
+        comment, current, inside, above = [], None, False, []
         for line in joined_imports(text).splitlines():
-            if line.startswith("--"):
-                comment.append(line.lstrip("- "))
-                current = None
-            elif line.startswith("use "):
-                self.sentence = self.sentence or " ".join(comment)
-                self.imports.update(imported(line))
-                comment = []
-            elif name := re.match(rf"(?:abbrev )?pub (?:unfoldable )?(?:record |data )?({NAME})(?=[ :]|$)", line):
-                current = name[1]
-                self.definitions[current] = [" ".join(comment), line]
-                comment = []
-            elif current:
-                self.definitions[current][1] += "\n" + line
+            if line.lstrip().startswith("-- "):
+                comment.append(line.strip().lstrip("- "))
             elif not line.strip():
                 self.sentence = self.sentence or " ".join(comment)
                 comment = []
+            elif line.startswith("use "):
+                self.sentence = self.sentence or " ".join(comment)
+                self.imports.update(imported(line))
+                self.aliases.update(alias_of(line))
+            elif GROUP.match(line):
+                inside, above, comment = True, comment, []
+            elif name := self.begun(line, inside):
+                current = name
+                self.definitions[current] = [" ".join(comment or above), line]
+                comment, above = [], []
+                inside = inside and line.startswith(" ")
+            elif current:
+                self.definitions[current][1] += "\n" + line
+                comment = []
+
+    @staticmethod
+    def begun(line, inside):
+        """The definition that begins here: at the left edge, or one step in where definitions stand in a group."""
+        found = re.match(rf"(  )?(?:abbrev |unfoldable )*pub (?:abbrev |unfoldable )*(?:record |data )?({NAME})(?=[ :]|$)", line)
+        return found[2] if found and found[2] != "mod" and (inside or not found[1]) else None
+
+    def cited(self, definition):
+        """Each definition that this one names, as its crate, module and own name."""
+        text = self.definitions[definition][1]
+        for alias, word in re.findall(rf"(?<![\w.])(\w+)\.({NAME})", text):
+            if alias in self.aliases:
+                yield (*self.aliases[alias], word)
+        for word in re.findall(NAME, text):
+            if word in self.definitions:
+                yield (self.crate, self.name(), word)
+            elif word in self.imports:
+                yield self.imports[word]
+
+    def name(self):
+        return ".".join(self.path.relative_to(CRATES / self.crate / "specs").with_suffix("").parts)
 
 
 def joined_imports(text):
@@ -118,6 +146,14 @@ def imported(line):
         return {}
     names = [name.strip().partition(" as ") for name in found[3].split(",")]
     return {(new or old).strip(): (found[1], found[2], old.strip()) for old, _, new in names}
+
+
+def alias_of(line):
+    """The name that a line `use Rattle.CRATE.specs.MODULE [as NAME]` gives a whole module."""
+    found = re.match(r"use Rattle\.(\w+)\.specs\.([\w.]+?)(?: as (\w+))?$", line)
+    if not found or found[2].startswith("declared"):
+        return {}
+    return {found[3] or found[2].split(".")[-1]: (found[1], found[2])}
 
 
 class Reading:
@@ -146,11 +182,8 @@ class Reading:
         if definition in met or definition not in module.definitions:
             return
         met.append(definition)
-        for word in re.findall(NAME, module.definitions[definition][1]):
-            if word in module.definitions:
-                self.meet(crate, name, word)
-            elif word in module.imports:
-                self.meet(*module.imports[word])
+        for place in module.cited(definition):
+            self.meet(*place)
 
     def page(self):
         lines = [
@@ -172,15 +205,24 @@ class Reading:
         return "\n".join(lines) + "\n"
 
 
-def definitions_page():
+def promise():
     crate = "mosel_run"
     path = next(path for path in files(crate, "src", ".rt") if re.search(r"^pub fn tool\b", path.read_text(), re.M))
-    return Reading(crate, path, "tool").page()
+    return Reading(crate, path, "tool")
 
 
 def definitions():
-    if not DEFINITIONS.is_file() or DEFINITIONS.read_text() != definitions_page():
+    if not DEFINITIONS.is_file() or DEFINITIONS.read_text() != promise().page():
         yield "docs/definitions.md is old: python3 tests/house.py --write writes it"
+
+
+# What the code is like is no part of the promise: files that begin with "As the code" or its like do not stand behind it.
+def models():
+    reading = promise()
+    for place, met in reading.met.items():
+        module = reading.modules[place]
+        if met and module.sentence.startswith("As the "):
+            yield f"{module.path.relative_to(TOP)} says how the code goes about it, and stands behind the promise: {met[0]}"
 
 
 # Each row `| `path` | `word` | ..` of the page names a place that is there: the file has the word.
@@ -193,6 +235,20 @@ def extending():
             yield f"docs/extending.md names {path}, which is not there"
         elif word not in (TOP / path).read_text():
             yield f"docs/extending.md names {word} in {path}, which does not have it"
+
+
+# Each path and each link of a page leads to what is there, and each crate says in a page of its own what it is.
+def pages():
+    for page in [TOP / "README.md", *TOP.glob("docs/*.md"), *TOP.glob("*/README.md"), *CRATES.glob("*/README.md")]:
+        text = page.read_text()
+        paths = re.findall(r"`((?:crates|docs|examples|tests|bench)/[\w./+-]+)`", text)
+        links = [page.parent / link for link in re.findall(r"\]\(([^)#:]+)(?:#[^)]*)?\)", text)]
+        for path in [*(TOP / path for path in paths if "/out/" not in path), *links]:
+            if not path.exists():
+                yield f"{page.relative_to(TOP)} names {path}, which is not there"
+    for crate in crates():
+        if not is_test(crate) and not (CRATES / crate / "README.md").is_file():
+            yield f"{crate} has no README.md"
 
 
 def clauses():
@@ -214,12 +270,12 @@ def wide_clauses():
         yield f"{wide} of {len(widths)} clauses have more than {WIDE} columns"
 
 
-CHECKS = [foreign_proofs, chains, definitions, extending, wide_clauses]
+CHECKS = [foreign_proofs, chains, definitions, models, extending, pages, wide_clauses]
 
 
 def main(words):
     if words == ["--write"]:
-        DEFINITIONS.write_text(definitions_page())
+        DEFINITIONS.write_text(promise().page())
         return 0
     failed = 0
     for check in CHECKS:
