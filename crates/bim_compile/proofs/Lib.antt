@@ -1,3 +1,4 @@
+pub mod SmallForms
 pub mod Standing
 pub mod Leads
 pub mod Stores

@@ -1,5 +1,5 @@
--- Models that are in size for an image: their literals are of 32 bits, their texts are not long, and
--- they are not large.
+-- As the compiler goes about it: models that are in size for an image. Their literals are of 32 bits,
+-- their texts are not long, and they are not large.
 
 use Rattle.std.specs.Prelude.{◌<◌, ◌^◌, length, FitsSigned}
 use Rattle.std.specs.Int.{w32}

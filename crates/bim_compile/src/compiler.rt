@@ -6,6 +6,7 @@ ghost use Rattle.bim_code.specs.Rules.{KeepsRules};
 ghost use Rattle.mos_meaning.specs.Sources.{model_of, statements_of, variables_of};
 ghost use Rattle.bim_compile.specs.Built.{IsBuiltBlock};
 ghost use Rattle.bim_compile.specs.Compiled.{image_of, types_of, instructions};
+ghost use Rattle.bim_compile.specs.InSize.{IsSmallBlock};
 ghost use Rattle.bim_compile.specs.Means.{Means, NeverFails, CanCompile};
 ghost use Rattle.bim_compile.specs.Sizes.{size_of_block};
 
@@ -48,7 +49,8 @@ pub fn compile(alloc: Global, tree: &Tree) -> Result<Image, NoMemory>
 fn build(alloc: Global, tree: &Tree) -> Result<Image, NoMemory>
     requires built { IsBuiltBlock (statements_of tree.now) }
     requires small { size_of_block (statements_of tree.now) < 2 ^ 24 }
-    ensures { IfOk result (λ image. image ≡ image_of (statements_of tree.now)) }
+    ensures built { IfOk result (λ image. image ≡ image_of (statements_of tree.now)) }
+    ensures small { OnOk result (IsSmallBlock (statements_of tree.now)) }
 {
     let tops = tree.tops.as_slice();
     let mut names = Names::new(alloc);

@@ -2,6 +2,7 @@
 -- A status comes in one of these ways alone.
 
 use Rattle.std.specs.Prelude.{◌≡◌, ℕ, List, [], ◌∷◌, Option, Some, None}
+use Rattle.mos_text.specs.Limits.{source_limit}
 use Rattle.job_calls.specs.declared.entry.Entry.{Entry}
 use Rattle.hub_text.specs.ErrorLines.{usage_line}
 use Rattle.job_calls.specs.Runs.{Opening}
@@ -15,10 +16,6 @@ use Rattle.mosel_run.specs.Answers.{line_answer}
 use Rattle.mosel_run.specs.Delivered.{Delivered}
 use Rattle.mosel_run.specs.Run.{Request, IsRunAnswer}
 use Rattle.mosel_run.specs.States.{FolderState, Devices}
-
--- the longest source that is read
-abbrev pub source_limit : ℕ
-source_limit = 1048576
 
 -- what `run` of this source asks for
 abbrev pub run_request : List ℕ → ℕ → ℕ → Request

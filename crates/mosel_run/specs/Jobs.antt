@@ -11,10 +11,10 @@ use Rattle.job_calls.specs.Runs.{Opening}
 use Rattle.mos_text.specs.FileName.{is_source_name}
 use Rattle.bim_code.specs.declared.image.Image.{Image}
 use Rattle.bim_code.specs.Limits.{FitsFields}
+use Rattle.bim_code.specs.Rules.{KeepsRules}
 use Rattle.bim_compile.specs.Means.{Means}
-use Rattle.bim_compile.specs.Plain.{IsPlain}
 use Rattle.mos_meaning.specs.Follows.{Behaviour, behaviour_of, FollowsSources}
-use Rattle.mos_meaning.specs.Syntax.{statements_of}
+use Rattle.mos_meaning.specs.Sources.{model_of}
 use Rattle.lane_step.specs.Schedule.{schedule_of}
 use Rattle.lane_step.specs.Whole.{IsWhole}
 use Rattle.mosel_run.specs.Accepted.{IsAccepted, IsOnlyTree, IsOnlyRefusal, IsRefusedAt, HasCode}
@@ -25,13 +25,14 @@ pub record Model : Type 0 where
   pub tree : Tree
   pub image : Image
 
--- the source has this tree and no other, the image means it, and its file can hold the image, and does
+-- the source has this tree and no other; the image means it, keeps the rules of images, and has a file that
+-- can hold it
 pub record IsModelOf (source : List ℕ) (model : Model) : Type 0 where
   pub accepted : IsAccepted source model.tree
   pub only : IsOnlyTree source model.tree
-  pub means : Means (statements_of model.tree) model.image
+  pub means : Means (model_of model.tree) model.image
+  pub rules : KeepsRules model.image
   pub fields : FitsFields model.image
-  pub plain : IsPlain model.image
 
 -- a source that is accepted
 pub record IsAcceptedFile (file : Listed) (model : Model) : Type 0 where
@@ -75,7 +76,7 @@ OneThread o journal = (end : End) × (journal ≡ schedule_of o end)
 
 -- what the listed files do
 abbrev pub behaviours_of : List (Option Model) → List (Option Behaviour)
-behaviours_of models = map (λ found. option_map (λ (model : Model). behaviour_of (statements_of model.tree) model.image) found) models
+behaviours_of models = map (λ found. option_map (λ (model : Model). behaviour_of (model_of model.tree) model.image) found) models
 
 -- the images of the listed files
 abbrev pub images_of : List (Option Model) → List (Option Image)

@@ -10,7 +10,6 @@ pub mod Jobs
 pub mod Accepted
 pub mod Puts
 pub mod ReadAnswers
-pub mod InSize
 pub mod Reading
 pub mod Putting
 pub mod Making

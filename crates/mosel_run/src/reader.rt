@@ -1,15 +1,14 @@
 //! From a source to the tree of a model that can be run.
 mod fault;
-mod size;
 
 ghost use Rattle.std.specs.Prelude.{◌≡◌, ◌≤◌, ℕ, length, IfOk, OnOk, IfErr, None};
+ghost use Rattle.mos_text.specs.Limits.{source_limit};
 ghost use Rattle.mos_text.specs.declared.kind.Kind.{Kind as kind_type};
 ghost use Rattle.mos_tree.specs.declared.source.Tree.{Tree as tree_type};
-ghost use Rattle.mos_meaning.specs.Syntax.{statements_of};
+ghost use Rattle.mos_tree.specs.Sizes.{size_of_tree};
 ghost use Rattle.mos_check.specs.NotBuilt.{unbuilt_of};
 ghost use Rattle.mosel_run.specs.Accepted.{IsAccepted, IsRefusedAt, IsSound, IsChecked};
 ghost use Rattle.mosel_run.specs.ReadAnswers.{IsRefusal, IsJudged, GivesTree, GivesRefusal};
-ghost use Rattle.mosel_run.specs.InSize.{IsInSize};
 ghost use Rattle.mosel_run.specs.declared.reader.fault.ReadFault.TheVariants.{At};
 
 pub use fault::ReadFault;
@@ -17,7 +16,6 @@ use mos_check::{check, not_built};
 use mos_parse::parse;
 use mos_text::NoMemory;
 use mos_tree::{Refusal, Tree};
-use size::is_in_size;
 use std::alloc::Global;
 
 /// The tree of a source, or why and where it is refused: at its first fault of tokens or grammar;
@@ -25,7 +23,7 @@ use std::alloc::Global;
 /// first that uses a name without a value, or leaves or continues a loop where there is none. A
 /// source has at most 1,048,576 bytes.
 pub fn read_source(alloc: Global, source: &[u8]) -> Result<Tree, ReadFault>
-    requires { length source.now ≤ 1048576 }
+    requires { length source.now ≤ source_limit }
     ensures tree { IfOk result (IsAccepted source.now) }
     ensures refusal { IfErr result (IsRefusal source.now) }
 
@@ -34,26 +32,20 @@ pub fn read_source(alloc: Global, source: &[u8]) -> Result<Tree, ReadFault>
     ensures only_refusal { (line : ℕ) (kind : kind_type)
         → IsRefusedAt source.now line kind → GivesRefusal result line kind }
 
-    ensures in_size { IfOk result (λ tree. IsInSize (statements_of tree)) }
+    ensures no_larger { IfOk result (λ tree. size_of_tree tree ≤ length source.now) }
 {
     let tree = parse(alloc, source)?;
     judge(alloc, &tree)?;
     Ok(tree)
 }
 
-/// Refuses a tree that cannot be run; for want of memory too where it is too large, which no source
-/// of at most 1,048,576 bytes has.
+/// Refuses a tree that cannot be run.
 fn judge(alloc: Global, tree: &Tree) -> Result<(), ReadFault>
     ensures sound { OnOk result (IsSound tree.now) }
     ensures wrong { IfErr result (IsJudged tree.now) }
-    ensures in_size { OnOk result (IsInSize (statements_of tree.now)) }
 {
     refuse_unbuilt(alloc, tree)?;
-    refuse_unchecked(alloc, tree)?;
-    if is_in_size(tree) {
-        return Ok(());
-    }
-    Err(ReadFault::NoMemory)
+    refuse_unchecked(alloc, tree)
 }
 
 /// Refuses a tree with a piece of a form that cannot be run.

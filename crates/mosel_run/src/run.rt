@@ -5,17 +5,17 @@ ghost use Rattle.bim_code.specs.Tables.{image_bytes};
 ghost use Rattle.hub_text.specs.ReportText.{report_text};
 ghost use Rattle.mos_words.specs.Fit.{IsFit};
 ghost use Rattle.mos_text.specs.FileName.{is_source_name};
+ghost use Rattle.mos_text.specs.Limits.{source_limit};
 ghost use Rattle.mos_words.specs.declared.words.commands.Command.TheVariants.{Run as RunCommand};
 ghost use Rattle.lane_step.specs.Alone.{IsOwnEnd};
 ghost use Rattle.mosel_run.specs.Accepted.{IsAccepted, IsOnlyTree};
-ghost use Rattle.mosel_run.specs.Answered.{run_request, source_limit};
-ghost use Rattle.mosel_run.specs.InSize.{IsInSize};
+ghost use Rattle.mosel_run.specs.Answered.{run_request};
 ghost use Rattle.mosel_run.specs.Jobs.{OneThread};
 ghost use Rattle.mosel_run.specs.Making.{IsOneSource, listed};
 ghost use Rattle.mosel_run.specs.Puts.{image_name};
 ghost use Rattle.mosel_run.specs.Run.{IsRunAnswer, IsAnswerTo, IsReport, IsStatusOf};
 ghost use Rattle.mosel_run.specs.States.{folder_state};
-ghost use Rattle.mos_meaning.specs.Syntax.{statements_of};
+ghost use Rattle.mos_tree.specs.Sizes.{size_of_tree};
 
 use crate::answer::{Answer, Put, refusal, unread};
 use crate::image::{image_of, name_of_image};
@@ -97,7 +97,7 @@ fn answer_source(
     source: &[u8],
 ) -> Result<Answer, NoMemory>
     requires fit { IsFit (RunCommand name.now lanes budget) }
-    requires small { length source.now ≤ 1048576 }
+    requires small { length source.now ≤ source_limit }
     ensures { IfOk result
         (IsAnswerTo OneThread (run_request name.now lanes budget) (source.now ∷ [])) }
 {
@@ -120,7 +120,7 @@ fn report(
     requires fit { IsFit (RunCommand name.now lanes budget) }
     requires accepted { IsAccepted source.now tree.now }
     requires only { IsOnlyTree source.now tree.now }
-    requires in_size { IsInSize (statements_of tree.now) }
+    requires not_large { size_of_tree tree.now ≤ source_limit }
     ensures { IfOk result
         (IsReport OneThread (run_request name.now lanes budget) (source.now ∷ [])) }
 {

@@ -1,6 +1,6 @@
 -- what is known of every model's image, of this one
 use Rattle.std.proofs.Common.{◌≡◌, ◌≢◌, ◌≤◌, ◌*◌, ◌+◌, ◌∙◌, ℕ, List, Result, Ok, Err, sym, ap, subst, length, arith}
-use Rattle.std.specs.Prelude.{IfOk}
+use Rattle.std.specs.Prelude.{IfOk, OnOk}
 use Rattle.job_calls.specs.declared.reply.Reply.{Reply}
 use Rattle.bim_code.specs.declared.image.Image.{Image}
 use Rattle.bim_code.specs.Code.{code_size}
@@ -8,8 +8,11 @@ use Rattle.bim_code.specs.Limits.{FitsFields}
 use Rattle.bim_code.specs.Rules.{KeepsRules}
 use Rattle.mos_text.specs.declared.no_memory.NoMemory.{NoMemory}
 use Rattle.run_state.specs.Stops.{Stop, Outcome, Stuck, Lost}
+use Rattle.mos_meaning.specs.Syntax.{Block}
 use Rattle.mos_meaning.specs.Sources.{program_of, statements_of, variables_of}
+use Rattle.mos_meaning.specs.Working.{NeverStuck, NeverLost}
 use Rattle.bim_compile.specs.Compiled.{image_of}
+use Rattle.bim_compile.specs.InSize.{IsInSize, IsSmallBlock}
 use Rattle.bim_compile.specs.Means.{Means, NeverFails}
 use Rattle.bim_compile.specs.Sizes.{size_of_block}
 use Rattle.bim_compile.proofs.BuiltModels.{block-built}
@@ -23,48 +26,68 @@ of_it : (P : Image → Type 0) (image : Image) (result : Result Image NoMemory) 
 of_it P image (Ok made) h e = subst P (sym e) h
 of_it P image (Err fault) h e = tt
 
+-- or, where literals and texts are small, of a small one
+of_small : (P : Image → Type 0) (model : Block) (result : Result Image NoMemory) → (IsSmallBlock model → P (image_of model))
+    → IfOk result (λ (made : Image). made ≡ image_of model) → OnOk result (IsSmallBlock model) → IfOk result P
+of_small P model (Ok made) h e small = subst P (sym e) (h small)
+of_small P model (Err fault) h e small = tt
+
 pub build-requires-clause-built : goal.build-requires-clause-built
 build-requires-clause-built c = block-built (variables_of (statements_of c.args.tree.now)) (statements_of c.args.tree.now) c.requires.can_compile.works
 
 pub build-requires-clause-small : goal.build-requires-clause-small
-build-requires-clause-small c = c.requires.can_compile.in_size.size
+build-requires-clause-small c = c.requires.can_compile.not_large
 
 pub returns-clause-means : goal.returns-clause-means
 returns-clause-means c =
     let model = statements_of c.args.tree.now in
-    let rules = keeps_rules model c.requires.can_compile.works c.requires.can_compile.in_size in
-    of_it (Means (program_of model)) (image_of model) c.build.result
-    (course_is_meaning c.machine_laws.ensures.over_in_time c.machine_laws.ensures.stays_over model (block-built (variables_of model) model c.requires.can_compile.works) rules.ticks
-    (c.working_models.ensures.never_lost model c.requires.can_compile.works)) c.build.ensures
+    let works = c.requires.can_compile.works in
+    of_small (Means (program_of model)) model c.build.result
+    (λ small.
+        let in_size : IsInSize model = record { small = small; size = c.requires.can_compile.not_large } in
+        course_is_meaning c.machine_laws.ensures.over_in_time c.machine_laws.ensures.stays_over model (block-built (variables_of model) model works)
+        (keeps_rules model works in_size).ticks (c.working_models.ensures.never_lost model works))
+    c.build.ensures.built c.build.ensures.small
+
+-- what means a model that is never stuck and never lost is neither
+never_fails : (model : Block) (image : Image) → Means (program_of model) image → NeverStuck (program_of model) → NeverLost (program_of model) → NeverFails image
+never_fails model image means never_stuck never_lost = record {
+  stuck = λ text replies budget e. never_stuck text replies budget (ap (λ (o : Outcome). o.stop) (sym (means text replies budget)) ∙ e);
+  lost = λ text replies budget e. never_lost text replies budget (ap (λ (o : Outcome). o.stop) (sym (means text replies budget)) ∙ e);
+}
 
 pub returns-clause-never_fails : goal.returns-clause-never_fails
 returns-clause-never_fails c =
     let model = statements_of c.args.tree.now in
-    let rules = keeps_rules model c.requires.can_compile.works c.requires.can_compile.in_size in
-    let means : Means (program_of model) (image_of model) =
-    course_is_meaning c.machine_laws.ensures.over_in_time c.machine_laws.ensures.stays_over model (block-built (variables_of model) model c.requires.can_compile.works) rules.ticks
-    (c.working_models.ensures.never_lost model c.requires.can_compile.works) in
-    of_it NeverFails (image_of model) c.build.result (record {
-      stuck = λ text replies budget e. c.working_models.ensures.never_stuck model c.requires.can_compile.works text replies budget (ap (λ (o : Outcome). o.stop) (sym (means text replies budget)) ∙ e);
-      lost = λ text replies budget e. c.working_models.ensures.never_lost model c.requires.can_compile.works text replies budget (ap (λ (o : Outcome). o.stop) (sym (means text replies budget)) ∙ e);
-    }) c.build.ensures
+    let works = c.requires.can_compile.works in
+    of_small NeverFails model c.build.result
+    (λ small.
+        let in_size : IsInSize model = record { small = small; size = c.requires.can_compile.not_large } in
+        never_fails model (image_of model)
+        (course_is_meaning c.machine_laws.ensures.over_in_time c.machine_laws.ensures.stays_over model (block-built (variables_of model) model works)
+        (keeps_rules model works in_size).ticks (c.working_models.ensures.never_lost model works))
+        (c.working_models.ensures.never_stuck model works) (c.working_models.ensures.never_lost model works))
+    c.build.ensures.built c.build.ensures.small
 
 pub returns-clause-rules : goal.returns-clause-rules
 returns-clause-rules c =
     let model = statements_of c.args.tree.now in
-    of_it KeepsRules (image_of model) c.build.result (keeps_rules model c.requires.can_compile.works c.requires.can_compile.in_size) c.build.ensures
+    of_small KeepsRules model c.build.result
+    (λ small. keeps_rules model c.requires.can_compile.works (record { small = small; size = c.requires.can_compile.not_large }))
+    c.build.ensures.built c.build.ensures.small
 
 pub returns-clause-fields : goal.returns-clause-fields
 returns-clause-fields c =
     let model = statements_of c.args.tree.now in
-    of_it FitsFields (image_of model) c.build.result (fits_fields model c.requires.can_compile.in_size.size (texts_short_block model c.requires.can_compile.in_size.small)) c.build.ensures
+    of_small FitsFields model c.build.result (λ small. fits_fields model c.requires.can_compile.not_large (texts_short_block model small))
+    c.build.ensures.built c.build.ensures.small
 
 pub returns-clause-few : goal.returns-clause-few
 returns-clause-few c =
     let model = statements_of c.args.tree.now in
-    of_it (λ (image : Image). length image.code ≤ 5 * size_of_block model + 2) (image_of model) c.build.result (few_instructions model) c.build.ensures
+    of_it (λ (image : Image). length image.code ≤ 5 * size_of_block model + 2) (image_of model) c.build.result (few_instructions model) c.build.ensures.built
 
 pub returns-clause-size : goal.returns-clause-size
 returns-clause-size c =
     let model = statements_of c.args.tree.now in
-    of_it (λ (image : Image). code_size image.code ≤ 13 * size_of_block model + 6) (image_of model) c.build.result (code_within model) c.build.ensures
+    of_it (λ (image : Image). code_size image.code ≤ 13 * size_of_block model + 6) (image_of model) c.build.result (code_within model) c.build.ensures.built

@@ -1,8 +1,9 @@
--- the end of what is still to come is the end of all
+-- the end of what is still to come is the end of all, and all is small if that is
 use Rattle.std.proofs.Common.{◌≡◌, ◌≤◌, ◌+◌, ◌*◌, drop, map}
 use Rattle.mos_meaning.specs.Sources.{shown, expression}
 use Rattle.bim_compile.specs.Built.{AreBuilt}
 use Rattle.bim_compile.specs.Compiled.{arguments_end}
+use Rattle.bim_compile.specs.InSize.{AreSmall}
 use Rattle.bim_compile.specs.Sizes.{size_of_all}
 use Rattle.bim_compile.proofs.ends.end_of_arguments.Given as goal
 
@@ -11,4 +12,5 @@ invariant-loop-written l = record {
   built : AreBuilt (shown (map expression (drop l.written-index l.all)));
   end : arguments_end l.end (shown (map expression (drop l.written-index l.all))) ≡ arguments_end l.at (shown (map expression l.all));
   within : l.end + 7 * size_of_all (shown (map expression (drop l.written-index l.all))) ≤ l.at + 7 * size_of_all (shown (map expression l.all));
+  small : AreSmall (shown (map expression (drop l.written-index l.all))) → AreSmall (shown (map expression l.all));
 }
