@@ -2,9 +2,10 @@
 """Checks of the house itself:  python3 tests/house.py [--write]
 
 Each check looks at the files alone and takes no time: that a crate's proofs lean on the contracts of the crates below and not
-on their proofs, how long the longest chain of crates is, that docs/definitions.md is what the definitions say (`--write` writes
-it), that each place that docs/extending.md names is there, that the paths and links of all pages lead somewhere, and that clauses
-can be read aloud. tests/run.py counts each of them as a case. The last line is `N passed, M failed`; the exit status is 1 where a check failed, else 0.
+on their proofs; how long the longest chain of crates is; that docs/definitions.md is what the definitions say (`--write` writes
+it), and that none of those only says how the code goes about it; that each place that docs/extending.md names is there; that the
+paths and links of all pages lead somewhere; and that clauses can be read aloud. tests/run.py counts each of them as a case. The
+last line is `N passed, M failed`; the exit status is 1 where a check failed, else 0.
 """
 import re
 import sys
@@ -204,15 +205,24 @@ class Reading:
         return "\n".join(lines) + "\n"
 
 
-def definitions_page():
+def promise():
     crate = "mosel_run"
     path = next(path for path in files(crate, "src", ".rt") if re.search(r"^pub fn tool\b", path.read_text(), re.M))
-    return Reading(crate, path, "tool").page()
+    return Reading(crate, path, "tool")
 
 
 def definitions():
-    if not DEFINITIONS.is_file() or DEFINITIONS.read_text() != definitions_page():
+    if not DEFINITIONS.is_file() or DEFINITIONS.read_text() != promise().page():
         yield "docs/definitions.md is old: python3 tests/house.py --write writes it"
+
+
+# What the code is like is no part of the promise: files that begin with "As the code" or its like do not stand behind it.
+def models():
+    reading = promise()
+    for place, met in reading.met.items():
+        module = reading.modules[place]
+        if met and module.sentence.startswith("As the "):
+            yield f"{module.path.relative_to(TOP)} says how the code goes about it, and stands behind the promise: {met[0]}"
 
 
 # Each row `| `path` | `word` | ..` of the page names a place that is there: the file has the word.
@@ -260,12 +270,12 @@ def wide_clauses():
         yield f"{wide} of {len(widths)} clauses have more than {WIDE} columns"
 
 
-CHECKS = [foreign_proofs, chains, definitions, extending, pages, wide_clauses]
+CHECKS = [foreign_proofs, chains, definitions, models, extending, pages, wide_clauses]
 
 
 def main(words):
     if words == ["--write"]:
-        DEFINITIONS.write_text(definitions_page())
+        DEFINITIONS.write_text(promise().page())
         return 0
     failed = 0
     for check in CHECKS:
