@@ -18,10 +18,11 @@ use Rattle.hub_core.specs.declared.held.Held.{Held}
 use Rattle.hub_core.specs.declared.held.Held.TheVariants.{NotYet, Shut, NoMemory}
 use Rattle.hub_core.specs.Room.{MayWant}
 
--- the journal of a hub, and the entries that it has room for
+-- the journal of a hub
 abbrev pub journal_of : List Entry × ℕ → List Entry
 journal_of hub = hub.0
 
+-- and the number of entries that it has room for
 abbrev pub spare_of : List Entry × ℕ → ℕ
 spare_of hub = hub.1
 

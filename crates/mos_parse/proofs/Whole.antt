@@ -1,6 +1,6 @@
 -- What is answered of a source, from what is answered of its tokens.
 
-use Rattle.std.proofs.Common.{◌≡◌, ℕ, ◌+◌, ◌≤◌, List, [], ◌∷◌, ◌++◌, length, Option, Result, Ok, Err, IfOk, IfErr, refl, sym, ◌∙◌, ap, subst, arith}
+use Rattle.std.proofs.Common.{◌≡◌, ℕ, ◌≤◌, List, ◌++◌, length, Option, Result, Ok, Err, IfOk, IfErr, refl, sym, ◌∙◌, ap, subst, arith}
 use Rattle.std.proofs.lemmas.List.{append_cancel_left}
 use Rattle.mos_text.specs.declared.kind.Kind.{Kind}
 use Rattle.mos_tree.specs.declared.source.Tree.{Tree}
@@ -22,7 +22,7 @@ use Rattle.mos_parse.specs.declared.fault.SyntaxFault.{SyntaxFault}
 use Rattle.mos_parse.specs.declared.fault.SyntaxFault.TheVariants.{Refused, NoMemory}
 use Rattle.mos_parse.specs.Parsed.{AreForms, HasForms, IsParsed, line_or_last, IsFaultyLine, BreaksOnLine, IsSyntaxFault, lexical, misplaced}
 use Rattle.mos_parse.specs.Answers.{GivesTree, GivesFault, IsFaultOf, BreaksBy}
-use Rattle.mos_parse.specs.Steps.{of_tokens, HaveForms, HasFault, Says, IsReading, Reads}
+use Rattle.mos_parse.specs.Steps.{of_tokens, HaveForms, HasFault, IsReading, Reads}
 
 -- ---- where there are tokens
 

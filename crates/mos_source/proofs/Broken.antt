@@ -1,3 +1,5 @@
+-- The productions name the faulty piece.
+
 use Rattle.std.proofs.Common.{◌≡◌, ◌≢◌, Bool, true, false, inl, inr, List, [], ◌∷◌, ◌++◌, length, Option, Some, None, Ok, refl, sym, ◌∙◌, ap, subst, arith}
 use Rattle.std.proofs.lemmas.List.{append_cancel_left, append_cancel_right}
 use Rattle.mos_text.specs.declared.kind.Kind.{Kind}
@@ -33,8 +35,6 @@ use Rattle.mos_source.proofs.Waits.{opened_place, is_end}
 use Rattle.mos_source.proofs.Counted.{unknown-nowhere, counts-own, counts-fits, counts-other, not-known, as-kind, Fails, fails-own, fails-none}
 use Rattle.mos_source.proofs.Shapes.{At, opened-at, is_source}
 use Rattle.mos_source.proofs.Descent.{Live, ReadAt, broken, taken, Reader, led, on, none-begins, read-block}
-
--- The productions name the faulty piece.
 
 -- pieces read by the productions and by the reader
 data ReadSource (pieces : List PieceForm) : Type 0 where

@@ -1,3 +1,5 @@
+-- Each statement as it is written is read.
+
 use Rattle.std.proofs.Common.{◌≡◌, ℕ, ◌+◌, ◌≤◌, true, List, [], ◌∷◌, ◌++◌, length, Some, Ok, refl, ◌∙◌, ap, arith}
 use Rattle.std.proofs.lemmas.List.{append_assoc}
 use Rattle.mos_tree.specs.declared.expr.Expr.{Expr}
@@ -8,7 +10,7 @@ use Rattle.mos_tree.specs.declared.statement.Alternative.{Alternative}
 use Rattle.mos_tree.specs.declared.statement.Direction.{Direction}
 use Rattle.mos_tree.specs.declared.statement.Label.{Label}
 use Rattle.mos_tree.specs.declared.form.Form.TheVariants as f
-use Rattle.mos_tree.specs.declared.form.ConditionKeyword.TheVariants as guard
+use Rattle.mos_tree.specs.declared.form.ConditionKeyword.TheVariants as conditional
 use Rattle.mos_tree.specs.declared.form.Keyword.TheVariants as keyword
 use Rattle.mos_tree.specs.declared.form.PieceKind.TheVariants as m
 use Rattle.mos_tree.specs.declared.form.PieceForm.{PieceForm}
@@ -24,7 +26,7 @@ use Rattle.mos_source.proofs.Steps.{Takes, role-of-statement, step-role, run-ste
 
 -- ---- pieces inside a block that is open
 
-elif-step : (deep : ℕ) (k : Stack) (first : ℕ) (arms : List (Arm Statement)) (l : ℕ) (c : Expr) (body : List Statement) (line : ℕ) (next : Expr) → step deep (g.IfArm first arms l c body ∷ k) (piece line (f.Guarded guard.Elif next)) ≡ Ok (g.IfArm first (arms ++ arm_of l c body ∷ []) line next [] ∷ k)
+elif-step : (deep : ℕ) (k : Stack) (first : ℕ) (arms : List (Arm Statement)) (l : ℕ) (c : Expr) (body : List Statement) (line : ℕ) (next : Expr) → step deep (g.IfArm first arms l c body ∷ k) (piece line (f.Guarded conditional.Elif next)) ≡ Ok (g.IfArm first (arms ++ arm_of l c body ∷ []) line next [] ∷ k)
 unfolding step step_as role_at
 elif-step deep k first arms l c body line next = refl
 
@@ -95,7 +97,7 @@ mutual
       ∙ reads-block deep b k (λ xs. g.IfArm (first_line arms line) (trees_of_arms arms) line condition xs) (filled-arm (first_line arms line) (trees_of_arms arms) line condition) (spell_last last ++ piece end (f.Keyword keyword.EndIf) ∷ rest) (omega (arith, h))
       ∙ reads-last-arm deep last (first_line arms line) (trees_of_arms arms) line condition (trees b) end k next rest (omega (arith, h)) e
   reads deep (case_ line value xs last end) k next rest t h e =
-      run-open deep k line (f.Guarded guard.Case value) (g.Case line value []) ((spell_alternatives xs ++ (spell_last last ++ piece end (f.Keyword keyword.EndCase) ∷ [])) ++ rest) (role-of-statement (place_of k) m.Case Opens t refl) refl refl (omega (arith, h))
+      run-open deep k line (f.Guarded conditional.Case value) (g.Case line value []) ((spell_alternatives xs ++ (spell_last last ++ piece end (f.Keyword keyword.EndCase) ∷ [])) ++ rest) (role-of-statement (place_of k) m.Case Opens t refl) refl refl (omega (arith, h))
       ∙ ap (run deep (g.Case line value [] ∷ k)) (two-end (spell_alternatives xs) (spell_last last) (piece end (f.Keyword keyword.EndCase)) rest)
       ∙ reads-alternatives deep xs line value k (spell_last last ++ piece end (f.Keyword keyword.EndCase) ∷ rest) (omega (arith, h))
       ∙ reads-last-case deep last line value (trees_of_alternatives xs) end k next rest (omega (arith, h)) e
@@ -103,13 +105,13 @@ mutual
       run-open deep k line (f.Forall index) (g.Forall line index) (spell body ++ rest) (role-of-statement (place_of k) m.Forall Opens t refl) refl refl (omega (arith, h))
       ∙ reads deep body (g.Forall line index ∷ k) next rest refl (omega (arith, h)) e
   reads deep (while_ line condition body) k next rest t h e =
-      run-open deep k line (f.Guarded guard.While condition) (g.While line condition) (spell body ++ rest) (role-of-statement (place_of k) m.While Opens t refl) refl refl (omega (arith, h))
+      run-open deep k line (f.Guarded conditional.While condition) (g.While line condition) (spell body ++ rest) (role-of-statement (place_of k) m.While Opens t refl) refl refl (omega (arith, h))
       ∙ reads deep body (g.While line condition ∷ k) next rest refl (omega (arith, h)) e
   reads deep (repeat_ line b until condition) k next rest t h e =
-      run-open deep k line (f.Keyword keyword.Repeat) (g.Repeat line []) ((spell_block b ++ piece until (f.Guarded guard.Until condition) ∷ []) ++ rest) (role-of-statement (place_of k) m.Repeat Opens t refl) refl refl (omega (arith, h))
-      ∙ ap (run deep (g.Repeat line [] ∷ k)) (one-end (spell_block b) (piece until (f.Guarded guard.Until condition)) rest)
-      ∙ reads-block deep b k (λ xs. g.Repeat line xs) (filled-repeat line) (piece until (f.Guarded guard.Until condition) ∷ rest) (omega (arith, h))
-      ∙ run-step deep (g.Repeat line (trees b) ∷ k) next (piece until (f.Guarded guard.Until condition)) rest (step-role deep (g.Repeat line (trees b) ∷ k) (piece until (f.Guarded guard.Until condition)) Closes next ends-repeat refl refl e)
+      run-open deep k line (f.Keyword keyword.Repeat) (g.Repeat line []) ((spell_block b ++ piece until (f.Guarded conditional.Until condition) ∷ []) ++ rest) (role-of-statement (place_of k) m.Repeat Opens t refl) refl refl (omega (arith, h))
+      ∙ ap (run deep (g.Repeat line [] ∷ k)) (one-end (spell_block b) (piece until (f.Guarded conditional.Until condition)) rest)
+      ∙ reads-block deep b k (λ xs. g.Repeat line xs) (filled-repeat line) (piece until (f.Guarded conditional.Until condition) ∷ rest) (omega (arith, h))
+      ∙ run-step deep (g.Repeat line (trees b) ∷ k) next (piece until (f.Guarded conditional.Until condition)) rest (step-role deep (g.Repeat line (trees b) ∷ k) (piece until (f.Guarded conditional.Until condition)) Closes next ends-repeat refl refl e)
   reads deep (do_ line b end) k next rest t h e =
       run-open deep k line (f.Keyword keyword.Do) (g.Do line []) ((spell_block b ++ piece end (f.Keyword keyword.EndDo) ∷ []) ++ rest) (role-of-statement (place_of k) m.Do Opens t refl) refl refl (omega (arith, h))
       ∙ ap (run deep (g.Do line [] ∷ k)) (one-end (spell_block b) (piece end (f.Keyword keyword.EndDo)) rest)
@@ -131,12 +133,12 @@ mutual
   -- up to the piece that begins an arm behind these
   reads-arms : (deep : ℕ) (arms : Arms) (line : ℕ) (condition : Expr) (k : Stack) (rest : List PieceForm) → Takes k → depth_arms arms + length k ≤ deep → length k ≤ deep → run deep k (spell_arms arms ++ piece line (arm_form arms condition) ∷ rest) ≡ run deep (g.IfArm (first_line arms line) (trees_of_arms arms) line condition [] ∷ k) rest
   reads-arms deep no_arm line condition k rest t h n =
-      run-open deep k line (f.Guarded guard.If condition) (g.IfArm line [] line condition []) rest (role-of-statement (place_of k) m.If Opens t refl) refl refl n
+      run-open deep k line (f.Guarded conditional.If condition) (g.IfArm line [] line condition []) rest (role-of-statement (place_of k) m.If Opens t refl) refl refl n
   reads-arms deep (arm before l c b) line condition k rest t h n =
-      ap (run deep k) (append_assoc (spell_arms before) (piece l (arm_form before c) ∷ spell_block b) (piece line (f.Guarded guard.Elif condition) ∷ rest))
-      ∙ reads-arms deep before l c k (spell_block b ++ piece line (f.Guarded guard.Elif condition) ∷ rest) t (omega (arith, h)) n
-      ∙ reads-block deep b k (λ xs. g.IfArm (first_line before l) (trees_of_arms before) l c xs) (filled-arm (first_line before l) (trees_of_arms before) l c) (piece line (f.Guarded guard.Elif condition) ∷ rest) (omega (arith, h))
-      ∙ run-step deep (g.IfArm (first_line before l) (trees_of_arms before) l c (trees b) ∷ k) (g.IfArm (first_line before l) (trees_of_arms before ++ arm_of l c (trees b) ∷ []) line condition [] ∷ k) (piece line (f.Guarded guard.Elif condition)) rest (elif-step deep k (first_line before l) (trees_of_arms before) l c (trees b) line condition)
+      ap (run deep k) (append_assoc (spell_arms before) (piece l (arm_form before c) ∷ spell_block b) (piece line (f.Guarded conditional.Elif condition) ∷ rest))
+      ∙ reads-arms deep before l c k (spell_block b ++ piece line (f.Guarded conditional.Elif condition) ∷ rest) t (omega (arith, h)) n
+      ∙ reads-block deep b k (λ xs. g.IfArm (first_line before l) (trees_of_arms before) l c xs) (filled-arm (first_line before l) (trees_of_arms before) l c) (piece line (f.Guarded conditional.Elif condition) ∷ rest) (omega (arith, h))
+      ∙ run-step deep (g.IfArm (first_line before l) (trees_of_arms before) l c (trees b) ∷ k) (g.IfArm (first_line before l) (trees_of_arms before ++ arm_of l c (trees b) ∷ []) line condition [] ∷ k) (piece line (f.Guarded conditional.Elif condition)) rest (elif-step deep k (first_line before l) (trees_of_arms before) l c (trees b) line condition)
 
   -- behind the last arm
   reads-last-arm : (deep : ℕ) (last : Last) (first : ℕ) (arms : List (Arm Statement)) (l : ℕ) (c : Expr) (body : List Statement) (end : ℕ) (k next : Stack) (rest : List PieceForm) → depth_last last + length k ≤ deep → add_statement (s.If first (arms ++ arm_of l c body ∷ []) (trees_of_last last)) k ≡ Some next → run deep (g.IfArm first arms l c body ∷ k) (spell_last last ++ piece end (f.Keyword keyword.EndIf) ∷ rest) ≡ run deep next rest

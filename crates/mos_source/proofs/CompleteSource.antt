@@ -1,3 +1,5 @@
+-- Each source as it is written is read.
+
 use Rattle.std.proofs.Common.{◌≡◌, ℕ, ◌+◌, ◌≤◌, true, List, [], ◌∷◌, ◌++◌, length, Option, Some, None, Ok, refl, sym, ◌∙◌, ap, arith, map}
 use Rattle.std.proofs.lemmas.List.{append_assoc, append-nil}
 use Rattle.std.proofs.lemmas.Slice.Eq.{bytes_eq-Decides}
@@ -31,7 +33,7 @@ use Rattle.mos_tree.specs.Forms.{piece, routine_kind}
 use Rattle.mos_source.specs.Limits.{module_limit, own_limit, is_jobs}
 use Rattle.mos_source.specs.Places.{takes_statements, role_at}
 use Rattle.mos_source.specs.Statements.{spell, tree}
-use Rattle.mos_source.specs.Sources.{Items, no_item, constant, variables, record_type, Parts, no_part, declares, states, Tops, no_top, sets, declares_top, defines, announces, states_top, Source, spell_parameter, spell_field, spell_items, spell_declarations, spell_parts, heading_form, end_form, spell_tops, no_implicit, jobs_module, spell_head, spell_source, depth_items, depth_parts, depth_tops, AreModules, IsAllowed, AreAllowed, items_of, declared, parts_of, tops_of, tree_of}
+use Rattle.mos_source.specs.Sources.{Items, no_item, constant, variables, record_type, Parts, no_part, declares, states, Tops, no_top, sets, declares_top, defines, announces, states_top, Source, spell_parameter, spell_field, spell_items, spell_declarations, spell_parts, heading_form, end_form, spell_tops, no_implicit, jobs_module, spell_head, spell_source, depth_items, depth_parts, depth_tops, AreModules, IsAllowed, AreAllowed, items_of, declaration_block, parts_of, tops_of, tree_of}
 use Rattle.mos_source.specs.Machine.{Stack, frame_place, routine_place, place_of, with_top, add_statement, add_other, step, step_as, run, done}
 use Rattle.mos_source.proofs.Ends.{ends-declarations, ends-parameters, ends-routine, end-limit}
 use Rattle.mos_source.proofs.Steps.{step-role, run-step, run-open, one-end}
@@ -119,7 +121,7 @@ items-read deep (record_type xs line name fields end) k l rest h =
     ∙ run-step deep (g.Record line name fields ∷ g.Declarations l (items_of xs) ∷ k) (g.Declarations l (items_of xs ++ i.Record line name fields ∷ []) ∷ k) (piece end (f.Keyword keyword.EndRecord)) rest (record-step deep k l (items_of xs) line name fields end)
 
 -- a block of `declarations`, where one may stand
-declarations-read : (deep : ℕ) (line : ℕ) (xs : Items) (end : ℕ) (k next : Stack) (rest : List PieceForm) → role_at (place_of k) m.Declarations ≡ Some Opens → 1 + depth_items xs + length k ≤ deep + 1 → add_other (part.Declared (declared line xs)) k ≡ Some next → run deep k (spell_declarations line xs end ++ rest) ≡ run deep next rest
+declarations-read : (deep : ℕ) (line : ℕ) (xs : Items) (end : ℕ) (k next : Stack) (rest : List PieceForm) → role_at (place_of k) m.Declarations ≡ Some Opens → 1 + depth_items xs + length k ≤ deep + 1 → add_other (part.Declared (declaration_block line xs)) k ≡ Some next → run deep k (spell_declarations line xs end ++ rest) ≡ run deep next rest
 declarations-read deep line xs end k next rest role h e =
     run-open deep k line (f.Keyword keyword.Declarations) (g.Declarations line []) ((spell_items xs ++ piece end (f.Keyword keyword.EndDeclarations) ∷ []) ++ rest) role refl refl (omega (arith, h))
     ∙ ap (run deep (g.Declarations line [] ∷ k)) (one-end (spell_items xs) (piece end (f.Keyword keyword.EndDeclarations)) rest)
@@ -142,7 +144,7 @@ parts-read deep no_part k heading rest h = refl
 parts-read deep (declares xs line items end) k heading rest h =
     ap (run deep (g.Routine heading [] ∷ k)) (append_assoc (spell_parts xs) (spell_declarations line items end) rest)
     ∙ parts-read deep xs k heading (spell_declarations line items end ++ rest) (omega (arith, h))
-    ∙ declarations-read deep line items end (g.Routine heading (parts_of xs) ∷ k) (g.Routine heading (parts_of xs ++ r.Declarations (declared line items) ∷ []) ∷ k) rest (routine-declares heading.result) (omega (arith, h)) refl
+    ∙ declarations-read deep line items end (g.Routine heading (parts_of xs) ∷ k) (g.Routine heading (parts_of xs ++ r.Declarations (declaration_block line items) ∷ []) ∷ k) rest (routine-declares heading.result) (omega (arith, h)) refl
 parts-read deep (states xs w) k heading rest h =
     ap (run deep (g.Routine heading [] ∷ k)) (append_assoc (spell_parts xs) (spell w) rest)
     ∙ parts-read deep xs k heading (spell w ++ rest) (omega (arith, h))
@@ -216,7 +218,7 @@ tops-read deep (declares_top xs line items end) l name heads rest h =
     let k : Stack = model l name heads (tops_of xs) ∷ [] in
     ap (run deep (g.Heads l name heads ∷ [])) (append_assoc (spell_tops xs) (spell_declarations line items end) rest)
     ∙ tops-read deep xs l name heads (spell_declarations line items end ++ rest) (omega (arith, h))
-    ∙ declarations-read deep line items end k (model l name heads (tops_of xs ++ t.Declarations (declared line items) ∷ []) ∷ []) rest (role-declarations l name heads (tops_of xs)) (omega (arith, h)) (model-declares l name heads (tops_of xs) (declared line items) [])
+    ∙ declarations-read deep line items end k (model l name heads (tops_of xs ++ t.Declarations (declaration_block line items) ∷ []) ∷ []) rest (role-declarations l name heads (tops_of xs)) (omega (arith, h)) (model-declares l name heads (tops_of xs) (declaration_block line items) [])
 tops-read deep (defines xs heading parts end) l name heads rest h =
     let k : Stack = model l name heads (tops_of xs) ∷ [] in
     let routine : Routine = record { heading = heading; parts = parts_of parts } in

@@ -1,3 +1,5 @@
+-- What is open can be closed.
+
 use Rattle.std.proofs.Common.{◌≡◌, ℕ, zero, suc, ◌≤◌, true, List, [], ◌∷◌, ◌++◌, length, Option, Some, None, Ok, refl, sym, arith}
 use Rattle.mos_tree.specs.declared.declaration.BaseType.{BaseType}
 use Rattle.mos_tree.specs.declared.declaration.Item.{Item}
@@ -16,7 +18,7 @@ use Rattle.mos_tree.specs.declared.statement.Alternative.{Alternative}
 use Rattle.mos_tree.specs.declared.statement.Statement.{Statement}
 use Rattle.mos_tree.specs.declared.statement.Statement.TheVariants as s
 use Rattle.mos_tree.specs.declared.form.Form.TheVariants as f
-use Rattle.mos_tree.specs.declared.form.ConditionKeyword.TheVariants as guard
+use Rattle.mos_tree.specs.declared.form.ConditionKeyword.TheVariants as conditional
 use Rattle.mos_tree.specs.declared.form.Keyword.TheVariants as keyword
 use Rattle.mos_tree.specs.declared.form.Simple.TheVariants as simple
 use Rattle.mos_tree.specs.declared.form.PieceKind.TheVariants as m
@@ -35,8 +37,6 @@ use Rattle.mos_source.proofs.Ends.{ends-parameters, ends-declarations, ends-reco
 use Rattle.mos_source.proofs.Held.{is_model, takes_declarations, is_declarations, Holds}
 use Rattle.mos_source.proofs.Sound.{some_stack, respelled}
 use Rattle.mos_source.proofs.SoundStep.{sound}
-
--- What is open can be closed.
 
 -- ---- the innermost block takes what may stand there
 
@@ -167,7 +167,7 @@ closing deep (suc n) (g.CaseElse l v xs body ∷ k) ps len held =
     behind-one deep (g.CaseElse l v xs body ∷ k) behind.next (piece 0 (f.Keyword keyword.EndCase)) ps held (step-role deep (g.CaseElse l v xs body ∷ k) (piece 0 (f.Keyword keyword.EndCase)) Closes behind.next ends-case-else refl refl behind.is) (λ h. closing deep n behind.next (ps ++ piece 0 (f.Keyword keyword.EndCase) ∷ []) (omega (arith, len, behind.small)) h)
 closing deep (suc n) (g.Repeat l body ∷ k) ps len held =
     let behind : Adds k (add_statement (s.Repeat l body 0 e.Returned) k) = statement-adds deep k held.0 held.2 held.4.there (s.Repeat l body 0 e.Returned) in
-    behind-one deep (g.Repeat l body ∷ k) behind.next (piece 0 (f.Guarded guard.Until e.Returned)) ps held (step-role deep (g.Repeat l body ∷ k) (piece 0 (f.Guarded guard.Until e.Returned)) Closes behind.next ends-repeat refl refl behind.is) (λ h. closing deep n behind.next (ps ++ piece 0 (f.Guarded guard.Until e.Returned) ∷ []) (omega (arith, len, behind.small)) h)
+    behind-one deep (g.Repeat l body ∷ k) behind.next (piece 0 (f.Guarded conditional.Until e.Returned)) ps held (step-role deep (g.Repeat l body ∷ k) (piece 0 (f.Guarded conditional.Until e.Returned)) Closes behind.next ends-repeat refl refl behind.is) (λ h. closing deep n behind.next (ps ++ piece 0 (f.Guarded conditional.Until e.Returned) ∷ []) (omega (arith, len, behind.small)) h)
 closing deep (suc n) (g.Do l body ∷ k) ps len held =
     let behind : Adds k (add_statement (s.Do l body) k) = statement-adds deep k held.0 held.2 held.4.there (s.Do l body) in
     behind-one deep (g.Do l body ∷ k) behind.next (piece 0 (f.Keyword keyword.EndDo)) ps held (step-role deep (g.Do l body ∷ k) (piece 0 (f.Keyword keyword.EndDo)) Closes behind.next ends-do refl refl behind.is) (λ h. closing deep n behind.next (ps ++ piece 0 (f.Keyword keyword.EndDo) ∷ []) (omega (arith, len, behind.small)) h)

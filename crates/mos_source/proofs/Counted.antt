@@ -1,3 +1,5 @@
+-- A piece that breaks a limit is refused as one of no form is.
+
 use Rattle.std.proofs.Common.{◌≡◌, ℕ, suc, ◌≤◌, ◌<◌, Bool, true, false, ◌∷◌, length, Option, Some, None, Err, refl, sym, ◌∙◌, ap, arith}
 use Rattle.std.specs.Prelude.{nat_lt, nat_le}
 use Rattle.std.proofs.lemmas.Bool.{leb-true, leb-false, lt-ltb}
@@ -21,8 +23,6 @@ use Rattle.mos_source.specs.Productions.{opens_block, form_at}
 use Rattle.mos_source.specs.Machine.{Stack, routine_place, frame_place, block_limit, step_as, step_in, step, place_of}
 use Rattle.mos_source.proofs.Behind.{choose}
 use Rattle.mos_source.proofs.Naming.{room, step-none}
-
--- A piece that breaks a limit is refused as one of no form is.
 
 -- ---- roles of pieces that open a block
 

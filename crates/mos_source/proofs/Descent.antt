@@ -1,3 +1,5 @@
+-- The rest of the innermost open block is read by the productions as the reader reads it.
+
 use Rattle.std.proofs.Common.{◌≡◌, ℕ, zero, suc, ◌≤◌, Bool, true, false, List, [], ◌∷◌, ◌++◌, length, Option, Some, None, Ok, refl, sym, ◌∙◌, ap, subst, arith}
 use Rattle.std.specs.Prelude.{is_some}
 use Rattle.mos_text.specs.declared.kind.Kind.{Kind}
@@ -24,8 +26,6 @@ use Rattle.mos_source.proofs.Behind.{inside, outside, ReadsLeft, choose, behind,
 use Rattle.mos_source.proofs.Waits.{waits, opened_place, gone_place, place_after, left_opened, left_after, left_at, is_end, waits-firm, left-is, begins-is}
 use Rattle.mos_source.proofs.Counted.{may_open, may_not_open, is_start, frame-no-start, opens-so, unknown-nowhere, Counts, Fails, fails, counts}
 use Rattle.mos_source.proofs.Shapes.{At, opened-at, gone-at, Adds, stands-adds, closes-adds, is_loop_body, adds-at, adds-ends, unfinished}
-
--- The rest of the innermost open block is read by the productions as the reader reads it.
 
 -- some pieces led to these blocks
 unfoldable pub Live : Stack → Type 0

@@ -1,3 +1,5 @@
+-- Each block is closed by its own piece.
+
 use Rattle.std.proofs.Common.{◌≡◌, Option, Some, None, refl}
 use Rattle.mos_tree.specs.declared.declaration.BaseType.{BaseType}
 use Rattle.mos_tree.specs.declared.form.PieceKind.TheVariants as m
@@ -8,8 +10,6 @@ use Rattle.mos_source.specs.Limits.{own_limit}
 use Rattle.mos_source.specs.Places.{role_at}
 use Rattle.mos_source.specs.Sources.{end_form}
 use Rattle.mos_source.specs.Machine.{routine_place}
-
--- Each block is closed by its own piece.
 
 pub ends-parameters : role_at p.Parameters m.EndParameters ≡ Some Closes
 unfolding role_at

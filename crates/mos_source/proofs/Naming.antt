@@ -1,3 +1,5 @@
+-- The kind of the fault of a piece.
+
 use Rattle.std.proofs.Common.{◌≡◌, ℕ, ◌+◌, ◌≤◌, Bool, true, false, cond, ◌⊎◌, inl, inr, List, [], ◌∷◌, ◌++◌, length, Option, Some, None, Ok, Err, refl, sym, ◌∙◌, ap, subst, arith}
 use Rattle.std.specs.Prelude.{nat_lt, unwrap_or}
 use Rattle.mos_text.specs.declared.kind.Kind.{Kind}
@@ -28,18 +30,18 @@ room deep Continues n h = refl
 room deep StandsAlone n h = refl
 room deep Closes n h = refl
 
-could-stand : (before : List PieceForm) (top : Stack) (kind_ : PieceKind) (role : Role) → ((deeper : ℕ) → limit ≤ deeper → Holds deeper top before) → role_at (place_of top) kind_ ≡ Some role → CouldStand before kind_
-could-stand before top kind_ role held r =
+could-stand : (before : List PieceForm) (top : Stack) (piece_kind : PieceKind) (role : Role) → ((deeper : ℕ) → limit ≤ deeper → Holds deeper top before) → role_at (place_of top) piece_kind ≡ Some role → CouldStand before piece_kind
+could-stand before top piece_kind role held r =
     let deep : ℕ = limit + length top in
     let there : Holds deep top before = held deep (omega arith) in
-    let other : PieceForm = piece 0 (sample kind_) in
-    let role-is : role_at (place_of top) (piece_kind_of (sample kind_)) ≡ Some role = ap (λ z. role_at (place_of top) z) (sample-kind kind_) ∙ r in
-    let takes : (next : Stack) × (enter role 0 (sample kind_) top ≡ some_stack next) = progress deep top before 0 (sample kind_) role there role-is (sample-limit kind_) in
-    let stepped : step deep top other ≡ Ok takes.0 = step-role deep top other role takes.0 role-is (sample-limit kind_) (room deep role (length top) (omega arith)) takes.1 in
+    let other : PieceForm = piece 0 (sample piece_kind) in
+    let role-is : role_at (place_of top) (piece_kind_of (sample piece_kind)) ≡ Some role = ap (λ z. role_at (place_of top) z) (sample-kind piece_kind) ∙ r in
+    let takes : (next : Stack) × (enter role 0 (sample piece_kind) top ≡ some_stack next) = progress deep top before 0 (sample piece_kind) role there role-is (sample-limit piece_kind) in
+    let stepped : step deep top other ≡ Ok takes.0 = step-role deep top other role takes.0 role-is (sample-limit piece_kind) (room deep role (length top) (omega arith)) takes.1 in
     let all : Closed deep (before ++ other ∷ []) = closing deep (length takes.0) takes.0 (before ++ other ∷ []) (omega arith) (sound deep top takes.0 other before there stepped) in
     record {
       other = other;
-      alike = sample-kind kind_;
+      alike = sample-kind piece_kind;
       source = all.held.source;
       deep = deep;
       within = all.held.within;
@@ -56,8 +58,8 @@ step-none deep k x r = rw r refl
 run-none : (deep : ℕ) (k : Stack) (x : PieceForm) (xs : List PieceForm) → step deep k x ≡ Err kind.Syntax → run deep k (x ∷ xs) ≡ stopped kind.Syntax (x ∷ xs)
 run-none deep k x xs e = rw e refl
 
-could-not : (before : List PieceForm) (top : Stack) (kind_ : PieceKind) → ((deeper : ℕ) → limit ≤ deeper → (ys : List PieceForm) → run deeper [] (before ++ ys) ≡ run deeper top ys) → role_at (place_of top) kind_ ≡ None → CouldStand before kind_ → ⊥
-could-not before top kind_ goes r could =
+could-not : (before : List PieceForm) (top : Stack) (piece_kind : PieceKind) → ((deeper : ℕ) → limit ≤ deeper → (ys : List PieceForm) → run deeper [] (before ++ ys) ≡ run deeper top ys) → role_at (place_of top) piece_kind ≡ None → CouldStand before piece_kind → ⊥
+could-not before top piece_kind goes r could =
     let deep : ℕ = limit + could.deep in
     let fits : depth_tops could.source.tops ≤ deep = omega (arith, could.within.fits) in
     let whole : run deep [] (before ++ could.other ∷ could.rest) ≡ done (tree_of could.source) = subst (λ z. run deep [] z ≡ done (tree_of could.source)) could.exact (source-read deep could.source could.within.allowed fits) in

@@ -1,3 +1,5 @@
+-- A piece that may stand at its place and breaks no limit of its own is taken.
+
 use Rattle.std.proofs.Common.{◌≡◌, ℕ, Bool, true, false, List, [], ◌∷◌, ◌++◌, Option, Some, None, refl, ◌∙◌, ap}
 use Rattle.mos_tree.specs.declared.expr.Expr.{Expr}
 use Rattle.mos_tree.specs.declared.expr.Expr.TheVariants as e
@@ -24,7 +26,7 @@ use Rattle.mos_tree.specs.declared.statement.Statement.TheVariants as s
 use Rattle.mos_tree.specs.declared.declaration.TypeForm.TheVariants as typ
 use Rattle.mos_tree.specs.declared.form.Form.{Form}
 use Rattle.mos_tree.specs.declared.form.Form.TheVariants as f
-use Rattle.mos_tree.specs.declared.form.ConditionKeyword.TheVariants as guard
+use Rattle.mos_tree.specs.declared.form.ConditionKeyword.TheVariants as conditional
 use Rattle.mos_tree.specs.declared.form.Keyword.TheVariants as keyword
 use Rattle.mos_tree.specs.declared.form.Simple.TheVariants as simple
 use Rattle.mos_tree.specs.declared.form.PieceKind.{PieceKind}
@@ -49,8 +51,6 @@ use Rattle.mos_source.proofs.Sound.{some_stack}
 use Rattle.mos_source.proofs.Roles.{closes-repeat}
 use Rattle.mos_source.proofs.Completing.{Adds, statement-adds, top-adds, declared-adds, record-adds}
 
--- A piece that may stand at its place and breaks no limit of its own is taken.
-
 abbrev pub Takes : Stack → Option Stack → Type 0
 Takes k result = (next : Stack) × (result ≡ some_stack next)
 
@@ -72,7 +72,7 @@ is_opening m.Do = true
 is_opening m.Initializations = true
 is_opening _ = false
 
-opens-only : (place : Place) (kind_ : PieceKind) → role_at place kind_ ≡ Some Opens → is_opening kind_ ≡ true
+opens-only : (place : Place) (piece_kind : PieceKind) → role_at place piece_kind ≡ Some Opens → is_opening piece_kind ≡ true
 unfolding role_at
 opens-only place m.Model r = refl
 opens-only place m.Parameters r = refl
@@ -98,10 +98,10 @@ opens-frame line (f.Keyword keyword.Parameters) o l = (g.Parameters line [], ref
 opens-frame line (f.Keyword keyword.Declarations) o l = (g.Declarations line [], refl)
 opens-frame line (f.RecordOf name) o l = (g.Record line name [], refl)
 opens-frame line (f.Routine name formals result) o l = (g.Routine (record { line = line; name = name; formals = formals; result = result }) [], refl)
-opens-frame line (f.Guarded guard.If c) o l = (g.IfArm line [] line c [], refl)
-opens-frame line (f.Guarded guard.Case v) o l = (g.Case line v [], refl)
+opens-frame line (f.Guarded conditional.If c) o l = (g.IfArm line [] line c [], refl)
+opens-frame line (f.Guarded conditional.Case v) o l = (g.Case line v [], refl)
 opens-frame line (f.Forall index) o l = (g.Forall line index, refl)
-opens-frame line (f.Guarded guard.While c) o l = (g.While line c, refl)
+opens-frame line (f.Guarded conditional.While c) o l = (g.While line c, refl)
 opens-frame line (f.Keyword keyword.Repeat) o l = (g.Repeat line [], refl)
 opens-frame line (f.Keyword keyword.Do) o l = (g.Do line [], refl)
 opens-frame line (f.Initializations d n) o l = (g.Initializations line d n [], refl)
@@ -143,7 +143,7 @@ is_standing m.Bare = true
 is_standing m.Forward = true
 is_standing _ = false
 
-stands-only : (place : Place) (kind_ : PieceKind) → role_at place kind_ ≡ Some StandsAlone → is_standing kind_ ≡ true
+stands-only : (place : Place) (piece_kind : PieceKind) → role_at place piece_kind ≡ Some StandsAlone → is_standing piece_kind ≡ true
 unfolding role_at
 stands-only place m.Simple r = refl
 stands-only place m.Bare r = refl
@@ -170,7 +170,7 @@ stands-takes deep k ps line (f.Forward name formals result) held r o l =
     (it.next, it.is)
 stands-takes deep k ps line (f.Routine name formals result) held r o l = absurd (no-routine result o)
 stands-takes deep k ps line (f.Keyword keyword.EndIf) held r o l = let no : ⊥ = cc in absurd no
-stands-takes deep k ps line (f.Guarded guard.If x) held r o l = let no : ⊥ = cc in absurd no
+stands-takes deep k ps line (f.Guarded conditional.If x) held r o l = let no : ⊥ = cc in absurd no
 stands-takes deep k ps line _ held r o l = let no : ⊥ = cc in absurd no
 
 -- ---- going on
@@ -194,7 +194,7 @@ goes-heads at name xs line (f.Uses modules) l r = (g.Heads at name (xs ++ h.Uses
 goes-heads at name xs line (f.Options x) l r = (g.Heads at name (xs ++ h.NoImplicit line ∷ []), refl)
 goes-heads at name xs line (f.Routine x y None) l r = let no : ⊥ = cc in absurd no
 goes-heads at name xs line (f.Keyword keyword.EndIf) l r = let no : ⊥ = cc in absurd no
-goes-heads at name xs line (f.Guarded guard.If x) l r = let no : ⊥ = cc in absurd no
+goes-heads at name xs line (f.Guarded conditional.If x) l r = let no : ⊥ = cc in absurd no
 goes-heads at name xs line (f.Routine x y (Some z)) l r = let no : ⊥ = cc in absurd no
 goes-heads at name xs line _ l r = let no : ⊥ = cc in absurd no
 
@@ -203,7 +203,7 @@ unfolding role_at
 goes-parameters at xs line (f.Definition x y) l r = (g.Parameters at (xs ++ record { line = line; name = x; default = y } ∷ []), refl)
 goes-parameters at xs line (f.Routine x y None) l r = let no : ⊥ = cc in absurd no
 goes-parameters at xs line (f.Keyword keyword.EndIf) l r = let no : ⊥ = cc in absurd no
-goes-parameters at xs line (f.Guarded guard.If x) l r = let no : ⊥ = cc in absurd no
+goes-parameters at xs line (f.Guarded conditional.If x) l r = let no : ⊥ = cc in absurd no
 goes-parameters at xs line (f.Routine x y (Some z)) l r = let no : ⊥ = cc in absurd no
 goes-parameters at xs line _ l r = let no : ⊥ = cc in absurd no
 
@@ -213,7 +213,7 @@ goes-declarations at xs line (f.Definition x y) l r = (g.Declarations at (xs ++ 
 goes-declarations at xs line (f.Typed x y) l r = (g.Declarations at (xs ++ i.Variables line x y ∷ []), refl)
 goes-declarations at xs line (f.Routine x y None) l r = let no : ⊥ = cc in absurd no
 goes-declarations at xs line (f.Keyword keyword.EndIf) l r = let no : ⊥ = cc in absurd no
-goes-declarations at xs line (f.Guarded guard.If x) l r = let no : ⊥ = cc in absurd no
+goes-declarations at xs line (f.Guarded conditional.If x) l r = let no : ⊥ = cc in absurd no
 goes-declarations at xs line (f.Routine x y (Some z)) l r = let no : ⊥ = cc in absurd no
 goes-declarations at xs line _ l r = let no : ⊥ = cc in absurd no
 
@@ -222,17 +222,17 @@ unfolding role_at
 goes-record at name xs line (f.Typed x y) l r = (g.Record at name (xs ++ record { line = line; names = x; typ = y } ∷ []), refl)
 goes-record at name xs line (f.Routine x y None) l r = let no : ⊥ = cc in absurd no
 goes-record at name xs line (f.Keyword keyword.EndIf) l r = let no : ⊥ = cc in absurd no
-goes-record at name xs line (f.Guarded guard.If x) l r = let no : ⊥ = cc in absurd no
+goes-record at name xs line (f.Guarded conditional.If x) l r = let no : ⊥ = cc in absurd no
 goes-record at name xs line (f.Routine x y (Some z)) l r = let no : ⊥ = cc in absurd no
 goes-record at name xs line _ l r = let no : ⊥ = cc in absurd no
 
 goes-arm : (first : ℕ) (arms : List (Arm Statement)) (at : ℕ) (c : Expr) (body : List Statement) (line : ℕ) (form : Form) → own_limit form ≡ None → role_at p.IfArm (piece_kind_of form) ≡ Some Continues → Frames (continued_by line form (g.IfArm first arms at c body))
 unfolding role_at
-goes-arm first arms at c body line (f.Guarded guard.Elif x) l r = (g.IfArm first (arms ++ arm_of at c body ∷ []) line x [], refl)
+goes-arm first arms at c body line (f.Guarded conditional.Elif x) l r = (g.IfArm first (arms ++ arm_of at c body ∷ []) line x [], refl)
 goes-arm first arms at c body line (f.Keyword keyword.Else) l r = (g.IfElse first (arms ++ arm_of at c body ∷ []) [], refl)
 goes-arm first arms at c body line (f.Routine x y None) l r = let no : ⊥ = cc in absurd no
 goes-arm first arms at c body line (f.Keyword keyword.EndIf) l r = let no : ⊥ = cc in absurd no
-goes-arm first arms at c body line (f.Guarded guard.If x) l r = let no : ⊥ = cc in absurd no
+goes-arm first arms at c body line (f.Guarded conditional.If x) l r = let no : ⊥ = cc in absurd no
 goes-arm first arms at c body line (f.Routine x y (Some z)) l r = let no : ⊥ = cc in absurd no
 goes-arm first arms at c body line _ l r = let no : ⊥ = cc in absurd no
 
@@ -242,7 +242,7 @@ goes-case at v xs line (f.Alternative x) l r = (g.CaseArm at v xs line x, refl)
 goes-case at v xs line (f.Keyword keyword.Else) l r = (g.CaseElse at v xs [], refl)
 goes-case at v xs line (f.Routine x y None) l r = let no : ⊥ = cc in absurd no
 goes-case at v xs line (f.Keyword keyword.EndIf) l r = let no : ⊥ = cc in absurd no
-goes-case at v xs line (f.Guarded guard.If x) l r = let no : ⊥ = cc in absurd no
+goes-case at v xs line (f.Guarded conditional.If x) l r = let no : ⊥ = cc in absurd no
 goes-case at v xs line (f.Routine x y (Some z)) l r = let no : ⊥ = cc in absurd no
 goes-case at v xs line _ l r = let no : ⊥ = cc in absurd no
 
@@ -252,78 +252,78 @@ goes-initializations at d n xs line (f.Bare x) l r = (g.Initializations at d n (
 goes-initializations at d n xs line (f.Labels x) l r = (g.Initializations at d n (xs ++ record { line = line; labels = x } ∷ []), refl)
 goes-initializations at d n xs line (f.Routine x y None) l r = let no : ⊥ = cc in absurd no
 goes-initializations at d n xs line (f.Keyword keyword.EndIf) l r = let no : ⊥ = cc in absurd no
-goes-initializations at d n xs line (f.Guarded guard.If x) l r = let no : ⊥ = cc in absurd no
+goes-initializations at d n xs line (f.Guarded conditional.If x) l r = let no : ⊥ = cc in absurd no
 goes-initializations at d n xs line (f.Routine x y (Some z)) l r = let no : ⊥ = cc in absurd no
 goes-initializations at d n xs line _ l r = let no : ⊥ = cc in absurd no
 
-no-row-start : (kind_ : PieceKind) → role_at p.Start kind_ ≡ Some Continues → ⊥
+no-row-start : (piece_kind : PieceKind) → role_at p.Start piece_kind ≡ Some Continues → ⊥
 unfolding role_at
 no-row-start m.Unknown r = cc
 no-row-start _ r = cc
 
-no-row-tops : (kind_ : PieceKind) → role_at p.Tops kind_ ≡ Some Continues → ⊥
+no-row-tops : (piece_kind : PieceKind) → role_at p.Tops piece_kind ≡ Some Continues → ⊥
 unfolding role_at
 no-row-tops m.Unknown r = cc
 no-row-tops _ r = cc
 
-no-row-procedure : (kind_ : PieceKind) → role_at p.Procedure kind_ ≡ Some Continues → ⊥
+no-row-procedure : (piece_kind : PieceKind) → role_at p.Procedure piece_kind ≡ Some Continues → ⊥
 unfolding role_at
 no-row-procedure m.Unknown r = cc
 no-row-procedure _ r = cc
 
-no-row-function : (kind_ : PieceKind) → role_at p.Function kind_ ≡ Some Continues → ⊥
+no-row-function : (piece_kind : PieceKind) → role_at p.Function piece_kind ≡ Some Continues → ⊥
 unfolding role_at
 no-row-function m.Unknown r = cc
 no-row-function _ r = cc
 
-no-row-otherwise : (kind_ : PieceKind) → role_at p.IfElse kind_ ≡ Some Continues → ⊥
+no-row-otherwise : (piece_kind : PieceKind) → role_at p.IfElse piece_kind ≡ Some Continues → ⊥
 unfolding role_at
 no-row-otherwise m.Unknown r = cc
 no-row-otherwise _ r = cc
 
-no-row-case-arm : (kind_ : PieceKind) → role_at p.CaseArm kind_ ≡ Some Continues → ⊥
+no-row-case-arm : (piece_kind : PieceKind) → role_at p.CaseArm piece_kind ≡ Some Continues → ⊥
 unfolding role_at
 no-row-case-arm m.Unknown r = cc
 no-row-case-arm _ r = cc
 
-no-row-case-else : (kind_ : PieceKind) → role_at p.CaseElse kind_ ≡ Some Continues → ⊥
+no-row-case-else : (piece_kind : PieceKind) → role_at p.CaseElse piece_kind ≡ Some Continues → ⊥
 unfolding role_at
 no-row-case-else m.Unknown r = cc
 no-row-case-else _ r = cc
 
-no-row-loop-body : (kind_ : PieceKind) → role_at p.LoopBody kind_ ≡ Some Continues → ⊥
+no-row-loop-body : (piece_kind : PieceKind) → role_at p.LoopBody piece_kind ≡ Some Continues → ⊥
 unfolding role_at
 no-row-loop-body m.Unknown r = cc
 no-row-loop-body _ r = cc
 
-no-row-repeat : (kind_ : PieceKind) → role_at p.Repeat kind_ ≡ Some Continues → ⊥
+no-row-repeat : (piece_kind : PieceKind) → role_at p.Repeat piece_kind ≡ Some Continues → ⊥
 unfolding role_at
 no-row-repeat m.Unknown r = cc
 no-row-repeat _ r = cc
 
-no-row-do : (kind_ : PieceKind) → role_at p.Do kind_ ≡ Some Continues → ⊥
+no-row-do : (piece_kind : PieceKind) → role_at p.Do piece_kind ≡ Some Continues → ⊥
 unfolding role_at
 no-row-do m.Unknown r = cc
 no-row-do _ r = cc
 
-no-row-end : (kind_ : PieceKind) → role_at p.End kind_ ≡ Some Continues → ⊥
+no-row-end : (piece_kind : PieceKind) → role_at p.End piece_kind ≡ Some Continues → ⊥
 unfolding role_at
 no-row-end m.Unknown r = cc
 no-row-end _ r = cc
 
-goes-not : (place : Place) → goes_on_there place ≡ false → (kind_ : PieceKind) → role_at place kind_ ≡ Some Continues → ⊥
-goes-not p.Start o kind_ r = no-row-start kind_ r
-goes-not p.Tops o kind_ r = no-row-tops kind_ r
-goes-not p.Procedure o kind_ r = no-row-procedure kind_ r
-goes-not p.Function o kind_ r = no-row-function kind_ r
-goes-not p.IfElse o kind_ r = no-row-otherwise kind_ r
-goes-not p.CaseArm o kind_ r = no-row-case-arm kind_ r
-goes-not p.CaseElse o kind_ r = no-row-case-else kind_ r
-goes-not p.LoopBody o kind_ r = no-row-loop-body kind_ r
-goes-not p.Repeat o kind_ r = no-row-repeat kind_ r
-goes-not p.Do o kind_ r = no-row-do kind_ r
-goes-not p.End o kind_ r = no-row-end kind_ r
-goes-not _ o kind_ r = cc
+goes-not : (place : Place) → goes_on_there place ≡ false → (piece_kind : PieceKind) → role_at place piece_kind ≡ Some Continues → ⊥
+goes-not p.Start o piece_kind r = no-row-start piece_kind r
+goes-not p.Tops o piece_kind r = no-row-tops piece_kind r
+goes-not p.Procedure o piece_kind r = no-row-procedure piece_kind r
+goes-not p.Function o piece_kind r = no-row-function piece_kind r
+goes-not p.IfElse o piece_kind r = no-row-otherwise piece_kind r
+goes-not p.CaseArm o piece_kind r = no-row-case-arm piece_kind r
+goes-not p.CaseElse o piece_kind r = no-row-case-else piece_kind r
+goes-not p.LoopBody o piece_kind r = no-row-loop-body piece_kind r
+goes-not p.Repeat o piece_kind r = no-row-repeat piece_kind r
+goes-not p.Do o piece_kind r = no-row-do piece_kind r
+goes-not p.End o piece_kind r = no-row-end piece_kind r
+goes-not _ o piece_kind r = cc
 
 routine-goes : (typ : Option BaseType) → goes_on_there (routine_place typ) ≡ false
 routine-goes None = refl
@@ -361,32 +361,32 @@ closes_there p.LoopBody = false
 closes_there p.End = false
 closes_there _ = true
 
-no-end-start : (kind_ : PieceKind) → role_at p.Start kind_ ≡ Some Closes → ⊥
+no-end-start : (piece_kind : PieceKind) → role_at p.Start piece_kind ≡ Some Closes → ⊥
 unfolding role_at
 no-end-start m.Unknown r = cc
 no-end-start _ r = cc
 
-no-end-case-arm : (kind_ : PieceKind) → role_at p.CaseArm kind_ ≡ Some Closes → ⊥
+no-end-case-arm : (piece_kind : PieceKind) → role_at p.CaseArm piece_kind ≡ Some Closes → ⊥
 unfolding role_at
 no-end-case-arm m.Unknown r = cc
 no-end-case-arm _ r = cc
 
-no-end-loop-body : (kind_ : PieceKind) → role_at p.LoopBody kind_ ≡ Some Closes → ⊥
+no-end-loop-body : (piece_kind : PieceKind) → role_at p.LoopBody piece_kind ≡ Some Closes → ⊥
 unfolding role_at
 no-end-loop-body m.Unknown r = cc
 no-end-loop-body _ r = cc
 
-no-end-end : (kind_ : PieceKind) → role_at p.End kind_ ≡ Some Closes → ⊥
+no-end-end : (piece_kind : PieceKind) → role_at p.End piece_kind ≡ Some Closes → ⊥
 unfolding role_at
 no-end-end m.Unknown r = cc
 no-end-end _ r = cc
 
-closes-not : (place : Place) → closes_there place ≡ false → (kind_ : PieceKind) → role_at place kind_ ≡ Some Closes → ⊥
-closes-not p.Start o kind_ r = no-end-start kind_ r
-closes-not p.CaseArm o kind_ r = no-end-case-arm kind_ r
-closes-not p.LoopBody o kind_ r = no-end-loop-body kind_ r
-closes-not p.End o kind_ r = no-end-end kind_ r
-closes-not _ o kind_ r = cc
+closes-not : (place : Place) → closes_there place ≡ false → (piece_kind : PieceKind) → role_at place piece_kind ≡ Some Closes → ⊥
+closes-not p.Start o piece_kind r = no-end-start piece_kind r
+closes-not p.CaseArm o piece_kind r = no-end-case-arm piece_kind r
+closes-not p.LoopBody o piece_kind r = no-end-loop-body piece_kind r
+closes-not p.End o piece_kind r = no-end-end piece_kind r
+closes-not _ o piece_kind r = cc
 
 closes-takes : (deep : ℕ) (k : Stack) (ps : List PieceForm) (line : ℕ) (form : Form) → Holds deep k ps → own_limit form ≡ None → role_at (place_of k) (piece_kind_of form) ≡ Some Closes → Takes k (close line form k)
 closes-takes deep [] ps line form held l r = absurd (closes-not p.Start refl (piece_kind_of form) r)
@@ -401,7 +401,7 @@ closes-takes deep (g.Forall at index ∷ k) ps line form held l r = absurd (clos
 closes-takes deep (g.While at c ∷ k) ps line form held l r = absurd (closes-not p.LoopBody refl (piece_kind_of form) r)
 closes-takes deep (g.End x ∷ k) ps line form held l r = absurd (closes-not p.End refl (piece_kind_of form) r)
 closes-takes deep (g.Repeat at body ∷ k) ps line form held l r =
-    let until-is : (c : Expr) × (form ≡ f.Guarded guard.Until c) = closes-repeat form l r in
+    let until-is : (c : Expr) × (form ≡ f.Guarded conditional.Until c) = closes-repeat form l r in
     let it : Adds k (add_statement (s.Repeat at body line until-is.0) k) = statement-adds deep k held.0 held.2 held.4.there (s.Repeat at body line until-is.0) in
     (it.next, ap (λ z. close line z (g.Repeat at body ∷ k)) until-is.1 ∙ it.is)
 closes-takes deep (g.Parameters at xs ∷ k) ps line form held l r =
@@ -468,29 +468,29 @@ sample m.EndFunction = (f.Keyword keyword.EndFunction)
 sample m.Forward = f.Forward [] [] None
 sample m.Simple = f.Simple simple.Break
 sample m.Bare = f.Bare []
-sample m.If = f.Guarded guard.If e.Returned
-sample m.Elif = f.Guarded guard.Elif e.Returned
+sample m.If = f.Guarded conditional.If e.Returned
+sample m.Elif = f.Guarded conditional.Elif e.Returned
 sample m.Else = (f.Keyword keyword.Else)
 sample m.EndIf = (f.Keyword keyword.EndIf)
-sample m.Case = f.Guarded guard.Case e.Returned
+sample m.Case = f.Guarded conditional.Case e.Returned
 sample m.Alternative = f.Alternative []
 sample m.EndCase = (f.Keyword keyword.EndCase)
 sample m.Forall = f.Forall (record { groups = []; condition = None })
-sample m.While = f.Guarded guard.While e.Returned
+sample m.While = f.Guarded conditional.While e.Returned
 sample m.Repeat = (f.Keyword keyword.Repeat)
-sample m.Until = f.Guarded guard.Until e.Returned
+sample m.Until = f.Guarded conditional.Until e.Returned
 sample m.Do = (f.Keyword keyword.Do)
 sample m.EndDo = (f.Keyword keyword.EndDo)
 sample m.Initializations = f.Initializations direction.From e.Returned
 sample m.Labels = f.Labels []
 sample m.EndInitializations = (f.Keyword keyword.EndInitializations)
 
-pub sample-kind : (kind_ : PieceKind) → piece_kind_of (sample kind_) ≡ kind_
+pub sample-kind : (piece_kind : PieceKind) → piece_kind_of (sample piece_kind) ≡ piece_kind
 unfolding sample
 sample-kind m.Unknown = refl
 sample-kind _ = refl
 
-pub sample-limit : (kind_ : PieceKind) → own_limit (sample kind_) ≡ None
+pub sample-limit : (piece_kind : PieceKind) → own_limit (sample piece_kind) ≡ None
 unfolding sample
 sample-limit m.Options = option-allowed
 sample-limit _ = refl

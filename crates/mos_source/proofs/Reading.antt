@@ -1,3 +1,5 @@
+-- Pieces have one tree or one faulty piece.
+
 use Rattle.std.proofs.Common.{◌≡◌, ◌⊎◌, inl, inr, List, [], ◌∷◌, ◌++◌, refl, sym, ◌∙◌, ap, subst}
 use Rattle.std.proofs.lemmas.List.{append_assoc, append-nil}
 use Rattle.mos_tree.specs.declared.form.PieceForm.{PieceForm}

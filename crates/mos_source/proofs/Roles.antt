@@ -1,9 +1,11 @@
+-- Which forms have which role at a place.
+
 use Rattle.std.proofs.Common.{◌≡◌, true, [], ◌∷◌, Option, Some, None, refl}
 use Rattle.mos_tree.specs.declared.expr.Expr.{Expr}
 use Rattle.mos_tree.specs.declared.declaration.BaseType.{BaseType}
 use Rattle.mos_tree.specs.declared.form.Form.{Form}
 use Rattle.mos_tree.specs.declared.form.Form.TheVariants as f
-use Rattle.mos_tree.specs.declared.form.ConditionKeyword.TheVariants as guard
+use Rattle.mos_tree.specs.declared.form.ConditionKeyword.TheVariants as conditional
 use Rattle.mos_tree.specs.declared.form.Keyword.TheVariants as keyword
 use Rattle.mos_tree.specs.declared.form.PieceKind.{PieceKind}
 use Rattle.mos_tree.specs.declared.form.PieceKind.TheVariants as m
@@ -111,7 +113,7 @@ unfolding role_at
 closes-heads (f.Keyword keyword.EndModel) o r = refl
 closes-heads (f.Routine n fs None) o r = let no : ⊥ = cc in absurd no
 closes-heads (f.Keyword keyword.Else) o r = let no : ⊥ = cc in absurd no
-closes-heads (f.Guarded guard.If x) o r = let no : ⊥ = cc in absurd no
+closes-heads (f.Guarded conditional.If x) o r = let no : ⊥ = cc in absurd no
 closes-heads (f.Routine n fs (Some t)) o r = let no : ⊥ = cc in absurd no
 closes-heads _ o r = let no : ⊥ = cc in absurd no
 
@@ -120,7 +122,7 @@ unfolding role_at
 closes-tops (f.Keyword keyword.EndModel) o r = refl
 closes-tops (f.Routine n fs None) o r = let no : ⊥ = cc in absurd no
 closes-tops (f.Keyword keyword.Else) o r = let no : ⊥ = cc in absurd no
-closes-tops (f.Guarded guard.If x) o r = let no : ⊥ = cc in absurd no
+closes-tops (f.Guarded conditional.If x) o r = let no : ⊥ = cc in absurd no
 closes-tops (f.Routine n fs (Some t)) o r = let no : ⊥ = cc in absurd no
 closes-tops _ o r = let no : ⊥ = cc in absurd no
 
@@ -135,7 +137,7 @@ unfolding role_at
 closes-parameters (f.Keyword keyword.EndParameters) o r = refl
 closes-parameters (f.Routine n fs None) o r = let no : ⊥ = cc in absurd no
 closes-parameters (f.Keyword keyword.Else) o r = let no : ⊥ = cc in absurd no
-closes-parameters (f.Guarded guard.If x) o r = let no : ⊥ = cc in absurd no
+closes-parameters (f.Guarded conditional.If x) o r = let no : ⊥ = cc in absurd no
 closes-parameters (f.Routine n fs (Some t)) o r = let no : ⊥ = cc in absurd no
 closes-parameters _ o r = let no : ⊥ = cc in absurd no
 
@@ -144,7 +146,7 @@ unfolding role_at
 closes-declarations (f.Keyword keyword.EndDeclarations) o r = refl
 closes-declarations (f.Routine n fs None) o r = let no : ⊥ = cc in absurd no
 closes-declarations (f.Keyword keyword.Else) o r = let no : ⊥ = cc in absurd no
-closes-declarations (f.Guarded guard.If x) o r = let no : ⊥ = cc in absurd no
+closes-declarations (f.Guarded conditional.If x) o r = let no : ⊥ = cc in absurd no
 closes-declarations (f.Routine n fs (Some t)) o r = let no : ⊥ = cc in absurd no
 closes-declarations _ o r = let no : ⊥ = cc in absurd no
 
@@ -153,7 +155,7 @@ unfolding role_at
 closes-record (f.Keyword keyword.EndRecord) o r = refl
 closes-record (f.Routine n fs None) o r = let no : ⊥ = cc in absurd no
 closes-record (f.Keyword keyword.Else) o r = let no : ⊥ = cc in absurd no
-closes-record (f.Guarded guard.If x) o r = let no : ⊥ = cc in absurd no
+closes-record (f.Guarded conditional.If x) o r = let no : ⊥ = cc in absurd no
 closes-record (f.Routine n fs (Some t)) o r = let no : ⊥ = cc in absurd no
 closes-record _ o r = let no : ⊥ = cc in absurd no
 
@@ -162,7 +164,7 @@ unfolding role_at
 closes-procedure (f.Keyword keyword.EndProcedure) o r = refl
 closes-procedure (f.Routine n fs None) o r = let no : ⊥ = cc in absurd no
 closes-procedure (f.Keyword keyword.Else) o r = let no : ⊥ = cc in absurd no
-closes-procedure (f.Guarded guard.If x) o r = let no : ⊥ = cc in absurd no
+closes-procedure (f.Guarded conditional.If x) o r = let no : ⊥ = cc in absurd no
 closes-procedure (f.Routine n fs (Some t)) o r = let no : ⊥ = cc in absurd no
 closes-procedure _ o r = let no : ⊥ = cc in absurd no
 
@@ -171,7 +173,7 @@ unfolding role_at
 closes-function (f.Keyword keyword.EndFunction) o r = refl
 closes-function (f.Routine n fs None) o r = let no : ⊥ = cc in absurd no
 closes-function (f.Keyword keyword.Else) o r = let no : ⊥ = cc in absurd no
-closes-function (f.Guarded guard.If x) o r = let no : ⊥ = cc in absurd no
+closes-function (f.Guarded conditional.If x) o r = let no : ⊥ = cc in absurd no
 closes-function (f.Routine n fs (Some t)) o r = let no : ⊥ = cc in absurd no
 closes-function _ o r = let no : ⊥ = cc in absurd no
 
@@ -180,7 +182,7 @@ unfolding role_at
 closes-arm (f.Keyword keyword.EndIf) o r = refl
 closes-arm (f.Routine n fs None) o r = let no : ⊥ = cc in absurd no
 closes-arm (f.Keyword keyword.Else) o r = let no : ⊥ = cc in absurd no
-closes-arm (f.Guarded guard.If x) o r = let no : ⊥ = cc in absurd no
+closes-arm (f.Guarded conditional.If x) o r = let no : ⊥ = cc in absurd no
 closes-arm (f.Routine n fs (Some t)) o r = let no : ⊥ = cc in absurd no
 closes-arm _ o r = let no : ⊥ = cc in absurd no
 
@@ -189,7 +191,7 @@ unfolding role_at
 closes-otherwise (f.Keyword keyword.EndIf) o r = refl
 closes-otherwise (f.Routine n fs None) o r = let no : ⊥ = cc in absurd no
 closes-otherwise (f.Keyword keyword.Else) o r = let no : ⊥ = cc in absurd no
-closes-otherwise (f.Guarded guard.If x) o r = let no : ⊥ = cc in absurd no
+closes-otherwise (f.Guarded conditional.If x) o r = let no : ⊥ = cc in absurd no
 closes-otherwise (f.Routine n fs (Some t)) o r = let no : ⊥ = cc in absurd no
 closes-otherwise _ o r = let no : ⊥ = cc in absurd no
 
@@ -198,7 +200,7 @@ unfolding role_at
 closes-case (f.Keyword keyword.EndCase) o r = refl
 closes-case (f.Routine n fs None) o r = let no : ⊥ = cc in absurd no
 closes-case (f.Keyword keyword.Else) o r = let no : ⊥ = cc in absurd no
-closes-case (f.Guarded guard.If x) o r = let no : ⊥ = cc in absurd no
+closes-case (f.Guarded conditional.If x) o r = let no : ⊥ = cc in absurd no
 closes-case (f.Routine n fs (Some t)) o r = let no : ⊥ = cc in absurd no
 closes-case _ o r = let no : ⊥ = cc in absurd no
 
@@ -207,7 +209,7 @@ unfolding role_at
 closes-case-else (f.Keyword keyword.EndCase) o r = refl
 closes-case-else (f.Routine n fs None) o r = let no : ⊥ = cc in absurd no
 closes-case-else (f.Keyword keyword.Else) o r = let no : ⊥ = cc in absurd no
-closes-case-else (f.Guarded guard.If x) o r = let no : ⊥ = cc in absurd no
+closes-case-else (f.Guarded conditional.If x) o r = let no : ⊥ = cc in absurd no
 closes-case-else (f.Routine n fs (Some t)) o r = let no : ⊥ = cc in absurd no
 closes-case-else _ o r = let no : ⊥ = cc in absurd no
 
@@ -216,7 +218,7 @@ unfolding role_at
 closes-do (f.Keyword keyword.EndDo) o r = refl
 closes-do (f.Routine n fs None) o r = let no : ⊥ = cc in absurd no
 closes-do (f.Keyword keyword.Else) o r = let no : ⊥ = cc in absurd no
-closes-do (f.Guarded guard.If x) o r = let no : ⊥ = cc in absurd no
+closes-do (f.Guarded conditional.If x) o r = let no : ⊥ = cc in absurd no
 closes-do (f.Routine n fs (Some t)) o r = let no : ⊥ = cc in absurd no
 closes-do _ o r = let no : ⊥ = cc in absurd no
 
@@ -225,16 +227,16 @@ unfolding role_at
 closes-initializations (f.Keyword keyword.EndInitializations) o r = refl
 closes-initializations (f.Routine n fs None) o r = let no : ⊥ = cc in absurd no
 closes-initializations (f.Keyword keyword.Else) o r = let no : ⊥ = cc in absurd no
-closes-initializations (f.Guarded guard.If x) o r = let no : ⊥ = cc in absurd no
+closes-initializations (f.Guarded conditional.If x) o r = let no : ⊥ = cc in absurd no
 closes-initializations (f.Routine n fs (Some t)) o r = let no : ⊥ = cc in absurd no
 closes-initializations _ o r = let no : ⊥ = cc in absurd no
 
-pub closes-repeat : (form : Form) → own_limit form ≡ None → role_at p.Repeat (piece_kind_of form) ≡ Some Closes → (c : Expr) × (form ≡ f.Guarded guard.Until c)
+pub closes-repeat : (form : Form) → own_limit form ≡ None → role_at p.Repeat (piece_kind_of form) ≡ Some Closes → (c : Expr) × (form ≡ f.Guarded conditional.Until c)
 unfolding role_at
-closes-repeat (f.Guarded guard.Until c) o r = (c, refl)
+closes-repeat (f.Guarded conditional.Until c) o r = (c, refl)
 closes-repeat (f.Routine n fs None) o r = let no : ⊥ = cc in absurd no
 closes-repeat (f.Keyword keyword.Else) o r = let no : ⊥ = cc in absurd no
-closes-repeat (f.Guarded guard.If x) o r = let no : ⊥ = cc in absurd no
+closes-repeat (f.Guarded conditional.If x) o r = let no : ⊥ = cc in absurd no
 closes-repeat (f.Routine n fs (Some t)) o r = let no : ⊥ = cc in absurd no
 closes-repeat _ o r = let no : ⊥ = cc in absurd no
 

@@ -6,7 +6,8 @@ use Rattle.mos_tree.specs.declared.form.PieceForm.{PieceForm}
 use Rattle.mos_source.specs.declared.fault.PieceFault.{PieceFault}
 use Rattle.mos_source.specs.declared.fault.PieceFault.TheVariants as fault
 use Rattle.mos_source.specs.Sources.{limit}
-use Rattle.mos_source.specs.Machine.{Stack, step, Outcome, finished_tree, at_end, run, TakesOne, TakesAll}
+use Rattle.mos_source.specs.Machine.{Stack, step, Outcome, finished_tree, at_end, run}
+use Rattle.mos_source.specs.Runs.{TakesOne, TakesAll}
 use Rattle.mos_source.proofs.Steps.{run-step}
 use Rattle.mos_source.proofs.Whole.{run-wrong}
 

@@ -1,10 +1,12 @@
+-- Where a piece leads: the places of the blocks that are open behind it.
+
 use Rattle.std.proofs.Common.{◌≡◌, ℕ, Bool, true, false, List, [], ◌∷◌, Option, Some, None, refl, sym, ◌∙◌, ap}
 use Rattle.mos_tree.specs.declared.declaration.BaseType.{BaseType}
 use Rattle.mos_tree.specs.declared.statement.Statement.{Statement}
 use Rattle.mos_tree.specs.declared.statement.Statement.TheVariants as s
 use Rattle.mos_tree.specs.declared.form.Form.{Form}
 use Rattle.mos_tree.specs.declared.form.Form.TheVariants as f
-use Rattle.mos_tree.specs.declared.form.ConditionKeyword.TheVariants as guard
+use Rattle.mos_tree.specs.declared.form.ConditionKeyword.TheVariants as conditional
 use Rattle.mos_tree.specs.declared.form.Keyword.TheVariants as keyword
 use Rattle.mos_source.specs.declared.frame.Frame.{Frame}
 use Rattle.mos_source.specs.declared.frame.Frame.TheVariants as g
@@ -17,8 +19,6 @@ use Rattle.mos_source.specs.Machine.{Stack, routine_place, frame_place, push_fra
 use Rattle.mos_source.proofs.Held.{is_model}
 use Rattle.mos_source.proofs.Sound.{some_stack}
 use Rattle.mos_source.proofs.Waits.{opened_place, gone_place, place_after, is_end}
-
--- Where a piece leads: the places of the blocks that are open behind it.
 
 -- a block at this place is open in these
 pub record At (k : Stack) (place : Place) (next : Stack) : Type 0 where
@@ -57,9 +57,9 @@ opened-there line (f.Keyword keyword.Repeat) frame e = placed (g.Repeat line [])
 opened-there line (f.Keyword keyword.Do) frame e = placed (g.Do line []) frame p.Do e refl
 opened-there line (f.RecordOf name) frame e = placed (g.Record line name []) frame p.Record e refl
 opened-there line (f.Routine name formals result) frame e = placed (g.Routine (record { line = line; name = name; formals = formals; result = result }) []) frame (opened_place (routine_kind result)) e (routine-opened result)
-opened-there line (f.Guarded guard.If x) frame e = placed (g.IfArm line [] line x []) frame p.IfArm e refl
-opened-there line (f.Guarded guard.Case x) frame e = placed (g.Case line x []) frame p.Case e refl
-opened-there line (f.Guarded guard.While x) frame e = placed (g.While line x) frame p.LoopBody e refl
+opened-there line (f.Guarded conditional.If x) frame e = placed (g.IfArm line [] line x []) frame p.IfArm e refl
+opened-there line (f.Guarded conditional.Case x) frame e = placed (g.Case line x []) frame p.Case e refl
+opened-there line (f.Guarded conditional.While x) frame e = placed (g.While line x) frame p.LoopBody e refl
 opened-there line (f.Forall index) frame e = placed (g.Forall line index) frame p.LoopBody e refl
 opened-there line (f.Initializations direction name) frame e = placed (g.Initializations line direction name []) frame p.Initializations e refl
 opened-there line _ frame e = let no : ⊥ = cc in absurd no
@@ -88,7 +88,7 @@ record-gone line at (f.Typed names typ) name xs frame e = placed _ frame p.Recor
 record-gone line at _ name xs frame e = let no : ⊥ = cc in absurd no
 
 arm-gone : (line first at : ℕ) (form : Form) (arms : _) (condition : _) (body : _) (frame : Frame) → continued_by line form (g.IfArm first arms at condition body) ≡ some_frame frame → frame_place frame ≡ gone_place p.IfArm (piece_kind_of form)
-arm-gone line first at (f.Guarded guard.Elif x) arms condition body frame e = placed _ frame p.IfArm e refl
+arm-gone line first at (f.Guarded conditional.Elif x) arms condition body frame e = placed _ frame p.IfArm e refl
 arm-gone line first at (f.Keyword keyword.Else) arms condition body frame e = placed _ frame p.IfElse e refl
 arm-gone line first at _ arms condition body frame e = let no : ⊥ = cc in absurd no
 
@@ -150,7 +150,7 @@ routine-no-model None = refl
 routine-no-model (Some typ) = refl
 
 repeat-kind : (line : ℕ) (form : Form) (at : ℕ) (body : List Statement) (x : Part) → closed_by line form (g.Repeat at body) ≡ some_part x → is_source x ≡ false
-repeat-kind line (f.Guarded guard.Until condition) at body x e = part-kind _ x false e refl
+repeat-kind line (f.Guarded conditional.Until condition) at body x e = part-kind _ x false e refl
 repeat-kind line _ at body x e = let no : ⊥ = cc in absurd no
 
 closed-kind : (line : ℕ) (form : Form) (frame : Frame) (x : Part) → closed_by line form frame ≡ some_part x → is_source x ≡ is_model (frame_place frame)

@@ -1,3 +1,5 @@
+-- What was read holds behind each piece.
+
 use Rattle.std.proofs.Common.{◌≡◌, ℕ, ◌+◌, ◌≤◌, Bool, true, false, cond, List, [], ◌∷◌, ◌++◌, length, map, Option, Some, None, Ok, refl, sym, ◌∙◌, ap, subst, arith}
 use Rattle.std.specs.Prelude.{nat_lt}
 use Rattle.std.proofs.lemmas.Bool.{ltb-false}
@@ -23,7 +25,7 @@ use Rattle.mos_tree.specs.declared.statement.LabelGroup.{LabelGroup}
 use Rattle.mos_tree.specs.declared.statement.Direction.{Direction}
 use Rattle.mos_tree.specs.declared.form.Form.{Form}
 use Rattle.mos_tree.specs.declared.form.Form.TheVariants as f
-use Rattle.mos_tree.specs.declared.form.ConditionKeyword.TheVariants as guard
+use Rattle.mos_tree.specs.declared.form.ConditionKeyword.TheVariants as conditional
 use Rattle.mos_tree.specs.declared.form.Keyword.TheVariants as keyword
 use Rattle.mos_tree.specs.declared.form.PieceKind.TheVariants as m
 use Rattle.mos_tree.specs.declared.form.PieceForm.{PieceForm}
@@ -66,18 +68,18 @@ sound-opens deep k line (f.Routine name formals result) next ps h r d e =
     let heading : Heading = record { line = line; name = name; formals = formals; result = result } in
     moved deep (g.Routine heading [] ∷ k) next (ps ++ piece line (f.Routine name formals result) ∷ []) e
     (opens-over deep k (g.Routine heading []) ps (piece line (f.Routine name formals result)) h (record { there = routine-there (place_of k) result r; parts = no_part; are = refl; fits = omega (arith, d); exact = refl }))
-sound-opens deep k line (f.Guarded guard.If c) next ps h r d e =
-    moved deep (g.IfArm line [] line c [] ∷ k) next (ps ++ piece line (f.Guarded guard.If c) ∷ []) e
-    (opens-over deep k (g.IfArm line [] line c []) ps (piece line (f.Guarded guard.If c)) h (record { there = begins-takes (place_of k) m.If refl r; before = no_arm; block = nothing; line = refl; are = refl; body_is = refl; fits = omega (arith, d); fits_body = omega (arith, d); exact = refl }))
-sound-opens deep k line (f.Guarded guard.Case v) next ps h r d e =
-    moved deep (g.Case line v [] ∷ k) next (ps ++ piece line (f.Guarded guard.Case v) ∷ []) e
-    (opens-over deep k (g.Case line v []) ps (piece line (f.Guarded guard.Case v)) h (record { there = begins-takes (place_of k) m.Case refl r; chosen = no_alternative; are = refl; fits = omega (arith, d); exact = refl }))
+sound-opens deep k line (f.Guarded conditional.If c) next ps h r d e =
+    moved deep (g.IfArm line [] line c [] ∷ k) next (ps ++ piece line (f.Guarded conditional.If c) ∷ []) e
+    (opens-over deep k (g.IfArm line [] line c []) ps (piece line (f.Guarded conditional.If c)) h (record { there = begins-takes (place_of k) m.If refl r; before = no_arm; block = nothing; line = refl; are = refl; body_is = refl; fits = omega (arith, d); fits_body = omega (arith, d); exact = refl }))
+sound-opens deep k line (f.Guarded conditional.Case v) next ps h r d e =
+    moved deep (g.Case line v [] ∷ k) next (ps ++ piece line (f.Guarded conditional.Case v) ∷ []) e
+    (opens-over deep k (g.Case line v []) ps (piece line (f.Guarded conditional.Case v)) h (record { there = begins-takes (place_of k) m.Case refl r; alternatives = no_alternative; are = refl; fits = omega (arith, d); exact = refl }))
 sound-opens deep k line (f.Forall index) next ps h r d e =
     moved deep (g.Forall line index ∷ k) next (ps ++ piece line (f.Forall index) ∷ []) e
     (opens-over deep k (g.Forall line index) ps (piece line (f.Forall index)) h (record { there = begins-takes (place_of k) m.Forall refl r; fits = d; exact = refl }))
-sound-opens deep k line (f.Guarded guard.While c) next ps h r d e =
-    moved deep (g.While line c ∷ k) next (ps ++ piece line (f.Guarded guard.While c) ∷ []) e
-    (opens-over deep k (g.While line c) ps (piece line (f.Guarded guard.While c)) h (record { there = begins-takes (place_of k) m.While refl r; fits = d; exact = refl }))
+sound-opens deep k line (f.Guarded conditional.While c) next ps h r d e =
+    moved deep (g.While line c ∷ k) next (ps ++ piece line (f.Guarded conditional.While c) ∷ []) e
+    (opens-over deep k (g.While line c) ps (piece line (f.Guarded conditional.While c)) h (record { there = begins-takes (place_of k) m.While refl r; fits = d; exact = refl }))
 sound-opens deep k line (f.Keyword keyword.Repeat) next ps h r d e =
     moved deep (g.Repeat line [] ∷ k) next (ps ++ piece line (f.Keyword keyword.Repeat) ∷ []) e
     (opens-over deep k (g.Repeat line []) ps (piece line (f.Keyword keyword.Repeat)) h (record { there = begins-takes (place_of k) m.Repeat refl r; block = nothing; body_is = refl; fits = omega (arith, d); exact = refl }))
@@ -160,9 +162,9 @@ goes-record deep l name xs k line (f.Typed names typ) next ps held e =
 goes-record deep l name xs k line _ next ps held e = let no : ⊥ = cc in absurd no
 
 goes-arm : (deep first : ℕ) (arms : List (Arm Statement)) (l : ℕ) (c : Expr) (body : List Statement) (k : Stack) (line : ℕ) (form : Form) (next : Stack) (ps : List PieceForm) → Holds deep (g.IfArm first arms l c body ∷ k) ps → continue_block line form (g.IfArm first arms l c body ∷ k) ≡ some_stack next → Holds deep next (ps ++ piece line form ∷ [])
-goes-arm deep first arms l c body k line (f.Guarded guard.Elif condition) next ps held e =
-    moved deep (g.IfArm first (arms ++ arm_of l c body ∷ []) line condition [] ∷ k) next (ps ++ piece line (f.Guarded guard.Elif condition) ∷ []) e
-    (over-more deep (g.IfArm first arms l c body) (g.IfArm first (arms ++ arm_of l c body ∷ []) line condition []) k ps (piece line (f.Guarded guard.Elif condition) ∷ []) held
+goes-arm deep first arms l c body k line (f.Guarded conditional.Elif condition) next ps held e =
+    moved deep (g.IfArm first (arms ++ arm_of l c body ∷ []) line condition [] ∷ k) next (ps ++ piece line (f.Guarded conditional.Elif condition) ∷ []) e
+    (over-more deep (g.IfArm first arms l c body) (g.IfArm first (arms ++ arm_of l c body ∷ []) line condition []) k ps (piece line (f.Guarded conditional.Elif condition) ∷ []) held
     (record {
       there = held.4.there;
       before = arm held.4.before l c held.4.block;
@@ -199,11 +201,11 @@ goes-case : (deep l : ℕ) (v : Expr) (xs : List (Alternative Statement)) (k : S
 goes-case deep l v xs k line (f.Alternative labels) next ps held e =
     moved deep (g.CaseArm l v xs line labels ∷ k) next (ps ++ piece line (f.Alternative labels) ∷ []) e
     (over-more deep (g.Case l v xs) (g.CaseArm l v xs line labels) k ps (piece line (f.Alternative labels) ∷ []) held
-    (record { there = held.4.there; chosen = held.4.chosen; are = held.4.are; fits = held.4.fits; exact = rw held.4.exact refl }))
+    (record { there = held.4.there; alternatives = held.4.alternatives; are = held.4.are; fits = held.4.fits; exact = rw held.4.exact refl }))
 goes-case deep l v xs k line (f.Keyword keyword.Else) next ps held e =
     moved deep (g.CaseElse l v xs [] ∷ k) next (ps ++ piece line (f.Keyword keyword.Else) ∷ []) e
     (over-more deep (g.Case l v xs) (g.CaseElse l v xs []) k ps (piece line (f.Keyword keyword.Else) ∷ []) held
-    (record { there = held.4.there; chosen = held.4.chosen; at = line; block = nothing; are = held.4.are; body_is = refl; fits = held.4.fits; fits_body = omega (arith, held.4.fits); exact = rw held.4.exact refl }))
+    (record { there = held.4.there; alternatives = held.4.alternatives; at = line; block = nothing; are = held.4.are; body_is = refl; fits = held.4.fits; fits_body = omega (arith, held.4.fits); exact = rw held.4.exact refl }))
 goes-case deep l v xs k line _ next ps held e = let no : ⊥ = cc in absurd no
 
 goes-initializations : (deep l : ℕ) (d : Direction) (n : Expr) (xs : List LabelGroup) (k : Stack) (line : ℕ) (form : Form) (next : Stack) (ps : List PieceForm) → Holds deep (g.Initializations l d n xs ∷ k) ps → continue_block line form (g.Initializations l d n xs ∷ k) ≡ some_stack next → Holds deep next (ps ++ piece line form ∷ [])
@@ -341,25 +343,25 @@ sound-closes deep (g.IfElse first arms body ∷ k) line form next ps held o r e 
     ∙ append_assoc (spell_arms held.4.before) (piece held.4.last (arm_form held.4.before held.4.condition) ∷ spell_block held.4.guarded) (piece held.4.at (f.Keyword keyword.Else) ∷ (spell_block held.4.block ++ piece line (f.Keyword keyword.EndIf) ∷ []))))
     (added deep k next held.0 w held.2 (omega (arith, held.4.fits, held.4.fits_guarded, held.4.fits_body)) (as-statement k next (s.If first arms body) (tree w) is e)))
 sound-closes deep (g.Case l v xs ∷ k) line form next ps held o r e =
-    let w : Written = case_ l v held.4.chosen without line in
+    let w : Written = case_ l v held.4.alternatives without line in
     let is : s.Case l v xs [] ≡ tree w = rw held.4.are refl in
     as-form deep next ps line form (f.Keyword keyword.EndCase) (closes-case form o r)
-    (closing-is deep next ps held.0 held.1 (piece l (f.Guarded guard.Case v) ∷ spell_alternatives held.4.chosen) (spell w) (piece line (f.Keyword keyword.EndCase)) held.3 held.4.exact refl
+    (closing-is deep next ps held.0 held.1 (piece l (f.Guarded conditional.Case v) ∷ spell_alternatives held.4.alternatives) (spell w) (piece line (f.Keyword keyword.EndCase)) held.3 held.4.exact refl
     (added deep k next held.0 w held.2 (omega (arith, held.4.fits)) (as-statement k next (s.Case l v xs []) (tree w) is e)))
 sound-closes deep (g.CaseElse l v xs body ∷ k) line form next ps held o r e =
-    let w : Written = case_ l v held.4.chosen (otherwise held.4.at held.4.block) line in
+    let w : Written = case_ l v held.4.alternatives (otherwise held.4.at held.4.block) line in
     let is : s.Case l v xs body ≡ tree w = rw (held.4.are, held.4.body_is) refl in
     as-form deep next ps line form (f.Keyword keyword.EndCase) (closes-case-else form o r)
-    (closing-is deep next ps held.0 held.1 (piece l (f.Guarded guard.Case v) ∷ (spell_alternatives held.4.chosen ++ piece held.4.at (f.Keyword keyword.Else) ∷ spell_block held.4.block)) (spell w) (piece line (f.Keyword keyword.EndCase)) held.3 held.4.exact
-    (ap (λ z. piece l (f.Guarded guard.Case v) ∷ z) (sym (append_assoc (spell_alternatives held.4.chosen) (piece held.4.at (f.Keyword keyword.Else) ∷ spell_block held.4.block) (piece line (f.Keyword keyword.EndCase) ∷ []))))
+    (closing-is deep next ps held.0 held.1 (piece l (f.Guarded conditional.Case v) ∷ (spell_alternatives held.4.alternatives ++ piece held.4.at (f.Keyword keyword.Else) ∷ spell_block held.4.block)) (spell w) (piece line (f.Keyword keyword.EndCase)) held.3 held.4.exact
+    (ap (λ z. piece l (f.Guarded conditional.Case v) ∷ z) (sym (append_assoc (spell_alternatives held.4.alternatives) (piece held.4.at (f.Keyword keyword.Else) ∷ spell_block held.4.block) (piece line (f.Keyword keyword.EndCase) ∷ []))))
     (added deep k next held.0 w held.2 (omega (arith, held.4.fits, held.4.fits_body)) (as-statement k next (s.Case l v xs body) (tree w) is e)))
 sound-closes deep (g.Repeat l body ∷ k) line form next ps held o r e =
-    let until-is : (c : Expr) × (form ≡ f.Guarded guard.Until c) = closes-repeat form o r in
+    let until-is : (c : Expr) × (form ≡ f.Guarded conditional.Until c) = closes-repeat form o r in
     let w : Written = repeat_ l held.4.block line until-is.0 in
     let is : s.Repeat l body line until-is.0 ≡ tree w = rw held.4.body_is refl in
     let e2 : add_statement (s.Repeat l body line until-is.0) k ≡ some_stack next = subst (λ z. add (until line z l body) k ≡ some_stack next) until-is.1 e in
-    as-form deep next ps line form (f.Guarded guard.Until until-is.0) until-is.1
-    (closing-is deep next ps held.0 held.1 (piece l (f.Keyword keyword.Repeat) ∷ spell_block held.4.block) (spell w) (piece line (f.Guarded guard.Until until-is.0)) held.3 held.4.exact refl
+    as-form deep next ps line form (f.Guarded conditional.Until until-is.0) until-is.1
+    (closing-is deep next ps held.0 held.1 (piece l (f.Keyword keyword.Repeat) ∷ spell_block held.4.block) (spell w) (piece line (f.Guarded conditional.Until until-is.0)) held.3 held.4.exact refl
     (added deep k next held.0 w held.2 (omega (arith, held.4.fits)) (as-statement k next (s.Repeat l body line until-is.0) (tree w) is e2)))
 sound-closes deep (g.Do l body ∷ k) line form next ps held o r e =
     let w : Written = do_ l held.4.block line in

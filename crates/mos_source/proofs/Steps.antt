@@ -1,3 +1,5 @@
+-- Steps of the machine, one by one.
+
 use Rattle.std.proofs.Common.{◌≡◌, ℕ, ◌≤◌, true, false, List, [], ◌∷◌, ◌++◌, length, Some, None, Ok, refl, ◌∙◌, ap}
 use Rattle.std.specs.Prelude.{nat_lt}
 use Rattle.std.proofs.lemmas.Bool.{le-ltb}
@@ -19,9 +21,9 @@ abbrev pub Takes : Stack → Type 0
 Takes k = takes_statements (place_of k) ≡ true
 
 -- the first piece of a statement does the same at each of these places
-pub role-of-statement : (place : Place) (kind_ : PieceKind) (role : Role) → takes_statements place ≡ true → begins kind_ ≡ Some role → role_at place kind_ ≡ Some role
+pub role-of-statement : (place : Place) (piece_kind : PieceKind) (role : Role) → takes_statements place ≡ true → begins piece_kind ≡ Some role → role_at place piece_kind ≡ Some role
 unfolding role_at
-role-of-statement place kind_ role t b = rw (t, b) refl
+role-of-statement place piece_kind role t b = rw (t, b) refl
 
 pub block-fits : (deep blocks : ℕ) → blocks ≤ deep → block_limit deep Opens blocks ≡ None
 block-fits deep blocks h =

@@ -11,7 +11,7 @@ use Rattle.mos_tree.specs.declared.source.RoutinePart.TheVariants as r
 use Rattle.mos_tree.specs.declared.source.Top.TheVariants as t
 use Rattle.mos_tree.specs.declared.form.Form.{Form}
 use Rattle.mos_tree.specs.declared.form.Form.TheVariants as f
-use Rattle.mos_tree.specs.declared.form.ConditionKeyword.TheVariants as condition
+use Rattle.mos_tree.specs.declared.form.ConditionKeyword.TheVariants as conditional
 use Rattle.mos_tree.specs.declared.form.Keyword.{Keyword}
 use Rattle.mos_tree.specs.declared.form.Keyword.TheVariants as keyword
 use Rattle.mos_tree.specs.declared.form.PieceForm.{PieceForm}
@@ -21,7 +21,7 @@ use Rattle.mos_tree.specs.Forms.{piece}
 use Rattle.mos_tree.specs.Nodes.{nodes}
 use Rattle.mos_tree.specs.Sizes.{size_of_field, size_of_parameter, size_of_item, size_of_declared, size_of_statement, size_of_part, size_of_top, size_of_tree, size_of_simple, size_of_keyword, size_of_form, size_of_pieces}
 use Rattle.mos_source.specs.Statements.{Written, single, bare, if_, case_, forall_, while_, repeat_, do_, initializations, Block, nothing, then_one, Arms, no_arm, arm, Last, without, otherwise, Alternatives, no_alternative, alternative, arm_form, spell_rows, spell, spell_block, spell_arms, spell_last, spell_alternatives, statement_of, label_groups, first_line, arm_of, alternative_of, tree, trees, trees_of_arms, trees_of_last, trees_of_alternatives}
-use Rattle.mos_source.specs.Sources.{Items, no_item, constant, variables, record_type, Parts, no_part, declares, states, Tops, no_top, sets, declares_top, defines, announces, states_top, Source, spell_parameter, spell_field, spell_items, spell_declarations, spell_parts, heading_form, end_form, spell_tops, spell_head, spell_source, items_of, declared, parts_of, tops_of, tree_of}
+use Rattle.mos_source.specs.Sources.{Items, no_item, constant, variables, record_type, Parts, no_part, declares, states, Tops, no_top, sets, declares_top, defines, announces, states_top, Source, spell_parameter, spell_field, spell_items, spell_declarations, spell_parts, heading_form, end_form, spell_tops, spell_head, spell_source, items_of, declaration_block, parts_of, tops_of, tree_of}
 use Rattle.mos_source.proofs.Sums.{sum-cons, sum-append, sum-push}
 use Rattle.mos_source.proofs.StatementSizes as form
 use Rattle.mos_source.proofs.StatementSizes.{size_of_block, size_of_whole_arm, size_of_whole_alternative}
@@ -84,20 +84,20 @@ mutual
       omega (
         arith,
         form.size_of_case line value (trees_of_alternatives xs) (trees_of_last last),
-        first line (f.Guarded condition.Case value) (spell_alternatives xs ++ (spell_last last ++ piece end (f.Keyword keyword.EndCase) ∷ [])),
+        first line (f.Guarded conditional.Case value) (spell_alternatives xs ++ (spell_last last ++ piece end (f.Keyword keyword.EndCase) ∷ [])),
         behind (spell_alternatives xs) (spell_last last ++ piece end (f.Keyword keyword.EndCase) ∷ []),
         last_one (spell_last last) end (f.Keyword keyword.EndCase),
         size_of_alternatives xs,
         size_of_otherwise last,
       )
   size_of_written (forall_ line index body) = omega (arith, form.size_of_forall line index (tree body), first line (f.Forall index) (spell body), size_of_written body)
-  size_of_written (while_ line c body) = omega (arith, form.size_of_while line c (tree body), first line (f.Guarded condition.While c) (spell body), size_of_written body)
+  size_of_written (while_ line c body) = omega (arith, form.size_of_while line c (tree body), first line (f.Guarded conditional.While c) (spell body), size_of_written body)
   size_of_written (repeat_ line b until c) =
       omega (
         arith,
         form.size_of_repeat line (trees b) until c,
-        first line (f.Keyword keyword.Repeat) (spell_block b ++ piece until (f.Guarded condition.Until c) ∷ []),
-        last_one (spell_block b) until (f.Guarded condition.Until c),
+        first line (f.Keyword keyword.Repeat) (spell_block b ++ piece until (f.Guarded conditional.Until c) ∷ []),
+        last_one (spell_block b) until (f.Guarded conditional.Until c),
         size_of_trees b,
       )
   size_of_written (do_ line b end) = omega (arith, form.size_of_do line (trees b), closed_block line (f.Keyword keyword.Do) (spell_block b) end keyword.EndDo, size_of_trees b)
@@ -161,13 +161,13 @@ size_of_items (record_type xs line name fields end) =
       size_of_items xs,
     )
 
-size_of_declarations : (line : ℕ) (items : Items) (end : ℕ) → size_of_declared (declared line items) ≤ size_of_pieces (spell_declarations line items end)
+size_of_declarations : (line : ℕ) (items : Items) (end : ℕ) → size_of_declared (declaration_block line items) ≤ size_of_pieces (spell_declarations line items end)
 size_of_declarations line items end = omega (arith, closed_block line (f.Keyword keyword.Declarations) (spell_items items) end keyword.EndDeclarations, size_of_items items)
 
 size_of_parts : (xs : Parts) → sum (map size_of_part (parts_of xs)) ≤ size_of_pieces (spell_parts xs)
 size_of_parts no_part = omega arith
 size_of_parts (declares xs line items end) =
-    omega (arith, sum-push size_of_part (parts_of xs) (r.Declarations (declared line items)), behind (spell_parts xs) (spell_declarations line items end), size_of_declarations line items end, size_of_parts xs)
+    omega (arith, sum-push size_of_part (parts_of xs) (r.Declarations (declaration_block line items)), behind (spell_parts xs) (spell_declarations line items end), size_of_declarations line items end, size_of_parts xs)
 size_of_parts (states xs w) = omega (arith, sum-push size_of_part (parts_of xs) (r.Statement (tree w)), behind (spell_parts xs) (spell w), size_of_written w, size_of_parts xs)
 
 -- ---- sources
@@ -188,7 +188,7 @@ size_of_tops (sets xs line parameters end) =
       size_of_tops xs,
     )
 size_of_tops (declares_top xs line items end) =
-    omega (arith, sum-push size_of_top (tops_of xs) (t.Declarations (declared line items)), behind (spell_tops xs) (spell_declarations line items end), size_of_declarations line items end, size_of_tops xs)
+    omega (arith, sum-push size_of_top (tops_of xs) (t.Declarations (declaration_block line items)), behind (spell_tops xs) (spell_declarations line items end), size_of_declarations line items end, size_of_tops xs)
 size_of_tops (defines xs heading parts end) =
     omega (
       arith,

@@ -1,3 +1,5 @@
+-- What is still to be read of the innermost open block, at each place.
+
 use Rattle.std.proofs.Common.{◌≡◌, Bool, true, false, Option, Some, None, refl}
 use Rattle.std.specs.Prelude.{is_some}
 use Rattle.mos_tree.specs.declared.form.PieceKind.{PieceKind}
@@ -9,8 +11,6 @@ use Rattle.mos_source.specs.declared.place.Role.TheVariants.{Opens, Continues, S
 use Rattle.mos_source.specs.Places.{role_at}
 use Rattle.mos_source.specs.Productions.{Rule, one, ◌~◌, many, statement, source, heads, tops, parameters_block, declarations_block, record_block, procedure_block, function_block, if_block, case_block, repeat_block, do_block, initializations_block}
 use Rattle.mos_source.proofs.Behind.{Left, refused, whole, rest, within, within_then, joined, chain, behind, may_begin, is_firm}
-
--- What is still to be read of the innermost open block, at each place.
 
 abbrev pub waits : Place → Rule
 waits p.Start = source

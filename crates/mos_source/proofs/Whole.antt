@@ -1,3 +1,5 @@
+-- Whole runs of the machine, and what the call answers.
+
 use Rattle.std.proofs.Common.{◌≡◌, ℕ, ◌≤◌, List, [], ◌∷◌, ◌++◌, length, Option, Some, None, Result, Ok, Err, refl, sym, ◌∙◌, ap, subst, arith}
 use Rattle.std.specs.Prelude.{IfOk, IfErr}
 use Rattle.std.proofs.lemmas.List.{append-nil}
@@ -20,7 +22,8 @@ use Rattle.mos_source.specs.Places.{role_at}
 use Rattle.mos_source.specs.Answers.{IsTree, Gives, IsFaultOf, BreaksBy}
 use Rattle.mos_source.specs.Laws.{ProductionsBreak}
 use Rattle.mos_source.specs.Productions.{BreaksAt}
-use Rattle.mos_source.specs.Machine.{Stack, place_of, enter, block_limit, or_block, step_as, step_in, step, Outcome, done, stopped, finished_tree, at_end, behind, run, Answers}
+use Rattle.mos_source.specs.Machine.{Stack, place_of, enter, block_limit, or_block, step_as, step_in, step, Outcome, done, stopped, finished_tree, at_end, behind, run}
+use Rattle.mos_source.specs.Runs.{Answers}
 use Rattle.mos_source.proofs.Steps.{block-fits, run-step, one-end}
 use Rattle.mos_source.proofs.CompleteSource.{source-read}
 use Rattle.mos_source.proofs.Held.{Holds}

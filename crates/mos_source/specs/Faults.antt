@@ -26,10 +26,10 @@ pub record IsFaulty (before after : List PieceForm) : Type 0 where
   pub begun : Begins before
   pub stuck : IsStuck before after
 
--- another piece of this mould could stand behind these, however deep the blocks
-pub record CouldStand (before : List PieceForm) (kind_ : PieceKind) : Type 0 where
+-- another piece of this kind could stand behind these, however deep the blocks
+pub record CouldStand (before : List PieceForm) (piece_kind : PieceKind) : Type 0 where
   pub other : PieceForm
-  pub alike : piece_kind_of other.form ≡ kind_
+  pub alike : piece_kind_of other.form ≡ piece_kind
   pub source : Source
   pub deep : ℕ
   pub within : IsWithin deep source

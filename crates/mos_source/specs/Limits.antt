@@ -27,7 +27,7 @@ option_limit name = if is_no_implicit name then None else Some (k.Out name)
 
 -- the limit that a piece breaks wherever it stands: another module, another option, a tree that is too high
 abbrev pub own_limit : Form → Option Kind
-own_limit (f.TooHigh kind_) = Some k.Deep
+own_limit (f.TooHigh piece_kind) = Some k.Deep
 own_limit (f.Uses modules) = module_limit modules
 own_limit (f.Options name) = option_limit name
 own_limit _ = None

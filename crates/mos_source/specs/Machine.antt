@@ -1,6 +1,6 @@
 -- As the code reads pieces: a machine on the open blocks, the innermost first. No public clause cites it.
 
-use Rattle.std.specs.Prelude.{◌≡◌, ℕ, Bool, true, false, if◌then◌else◌, nat_lt, List, [], ◌∷◌, ◌++◌, length, reverse, Option, Some, None, Result, Ok, Err}
+use Rattle.std.specs.Prelude.{ℕ, Bool, true, false, if◌then◌else◌, nat_lt, List, [], ◌∷◌, ◌++◌, length, reverse, Option, Some, None, Result, Ok, Err}
 use Rattle.mos_text.specs.declared.kind.Kind.{Kind}
 use Rattle.mos_text.specs.declared.kind.Kind.TheVariants as wrong
 use Rattle.mos_tree.specs.declared.expr.Expr.{Expr}
@@ -28,11 +28,10 @@ use Rattle.mos_tree.specs.declared.source.Top.TheVariants as t
 use Rattle.mos_tree.specs.declared.source.Tree.{Tree}
 use Rattle.mos_tree.specs.declared.form.Form.{Form}
 use Rattle.mos_tree.specs.declared.form.Form.TheVariants as f
-use Rattle.mos_tree.specs.declared.form.ConditionKeyword.TheVariants as guard
+use Rattle.mos_tree.specs.declared.form.ConditionKeyword.TheVariants as conditional
 use Rattle.mos_tree.specs.declared.form.Keyword.TheVariants as keyword
 use Rattle.mos_tree.specs.declared.form.Keyword.{Keyword}
 use Rattle.mos_tree.specs.declared.form.ConditionKeyword.{ConditionKeyword}
-use Rattle.mos_tree.specs.declared.form.Simple.{Simple}
 use Rattle.mos_tree.specs.declared.form.PieceForm.{PieceForm}
 use Rattle.mos_source.specs.declared.frame.Frame.{Frame}
 use Rattle.mos_source.specs.declared.frame.Frame.TheVariants as g
@@ -42,13 +41,9 @@ use Rattle.mos_source.specs.declared.place.Place.{Place}
 use Rattle.mos_source.specs.declared.place.Place.TheVariants as p
 use Rattle.mos_source.specs.declared.place.Role.{Role}
 use Rattle.mos_source.specs.declared.place.Role.TheVariants.{Opens, Continues, StandsAlone, Closes}
-use Rattle.mos_source.specs.declared.fault.PieceFault.{PieceFault}
-use Rattle.mos_source.specs.declared.fault.PieceFault.TheVariants as w
 use Rattle.mos_tree.specs.Forms.{piece_kind_of}
-use Rattle.mos_source.specs.Faults.{line_of_first}
 use Rattle.mos_source.specs.Limits.{own_limit}
 use Rattle.mos_source.specs.Places.{role_at}
-use Rattle.mos_source.specs.Sources.{limit}
 use Rattle.mos_source.specs.Statements as written
 
 -- the open blocks, the innermost first
@@ -105,9 +100,9 @@ place_of (frame ∷ k) = frame_place frame
 
 -- the block that a word with a condition opens
 abbrev pub opened_by_condition : ℕ → ConditionKeyword → Expr → Option Frame
-opened_by_condition line guard.If x = Some (g.IfArm line [] line x [])
-opened_by_condition line guard.Case x = Some (g.Case line x [])
-opened_by_condition line guard.While x = Some (g.While line x)
+opened_by_condition line conditional.If x = Some (g.IfArm line [] line x [])
+opened_by_condition line conditional.Case x = Some (g.Case line x [])
+opened_by_condition line conditional.While x = Some (g.While line x)
 opened_by_condition line _ x = None
 
 -- the block that a word opens
@@ -131,13 +126,9 @@ opened_by line _ = None
 
 -- ---- pieces that stand alone
 
--- the statement that the piece is
-abbrev pub statement_of : ℕ → Simple → Statement
-statement_of line simple = written.statement_of line simple
-
 -- what the piece is by itself
 abbrev pub stands_alone : ℕ → Form → Option Part
-stands_alone line (f.Simple simple) = Some (part.Statement (statement_of line simple))
+stands_alone line (f.Simple simple) = Some (part.Statement (written.statement_of line simple))
 stands_alone line (f.Bare name) = Some (part.Statement (s.Call line name []))
 stands_alone line (f.Forward name formals result) = Some (part.Top (t.Forward (record { line = line; name = name; formals = formals; result = result })))
 stands_alone line _ = None
@@ -208,7 +199,7 @@ is_else _ = false
 
 -- the word parts an `if` by a condition
 abbrev pub is_elif : ConditionKeyword → Bool
-is_elif guard.Elif = true
+is_elif conditional.Elif = true
 is_elif _ = false
 
 -- `elif` behind the arm that is read
@@ -255,7 +246,7 @@ continue_block line form (frame ∷ k) = push_frame (continued_by line form fram
 
 -- the word closes a `repeat`
 abbrev pub is_until : ConditionKeyword → Bool
-is_until guard.Until = true
+is_until conditional.Until = true
 is_until _ = false
 
 -- `repeat` with its condition
@@ -504,28 +495,3 @@ behind (Err kind) go left = stopped kind left
 abbrev pub run : ℕ → Stack → List PieceForm → Outcome
 run deep k [] = at_end (finished_tree k)
 run deep k (x ∷ xs) = behind (step deep k x) (λ next. run deep next xs) (x ∷ xs)
-
--- the call answers so
-abbrev pub Answers : Outcome → Result Tree PieceFault → Type 0
-Answers (done tree) (Ok x) = x ≡ tree
-Answers (stopped kind xs) (Err (w.At line found)) = (line ≡ line_of_first xs) × (found ≡ kind)
-Answers outcome (Err w.NoMemory) = Unit {0}
-Answers outcome _ = ⊥
-
--- one piece is taken, or is wrong on its line
-abbrev pub TakesOne : Stack → PieceForm → Stack → Result (Unit {0}) PieceFault → Type 0
-TakesOne k x next (Ok done_) = step limit k x ≡ Ok next
-TakesOne k x next (Err (w.At line kind)) = (step limit k x ≡ Err kind) × (line ≡ Some x.line)
-TakesOne k x next (Err w.NoMemory) = Unit {0}
-
--- the run stops at pieces of which the first is on this line
-pub record Stops (k : Stack) (xs : List PieceForm) (line : Option ℕ) (kind : Kind) : Type 0 where
-  pub left : List PieceForm
-  pub run_is : run limit k xs ≡ stopped kind left
-  pub line_is : line ≡ line_of_first left
-
--- all pieces are taken, or one is wrong
-abbrev pub TakesAll : Stack → List PieceForm → Stack → Result (Unit {0}) PieceFault → Type 0
-TakesAll k xs next (Ok done_) = run limit k xs ≡ at_end (finished_tree next)
-TakesAll k xs next (Err (w.At line kind)) = Stops k xs line kind
-TakesAll k xs next (Err w.NoMemory) = Unit {0}

@@ -51,7 +51,7 @@ top_role _ = None
 abbrev pub head_role : PieceKind → Option Role
 head_role m.Uses = Some Continues
 head_role m.Options = Some Continues
-head_role kind_ = top_role kind_
+head_role piece_kind = top_role piece_kind
 
 -- in `parameters`
 abbrev pub parameters_role : PieceKind → Option Role
@@ -128,24 +128,24 @@ initializations_role _ = None
 
 -- what a piece does at the place, statements aside
 abbrev pub own_role : Place → PieceKind → Option Role
-own_role p.Start kind_ = start_role kind_
-own_role p.Heads kind_ = head_role kind_
-own_role p.Tops kind_ = top_role kind_
-own_role p.Parameters kind_ = parameters_role kind_
-own_role p.Declarations kind_ = declarations_role kind_
-own_role p.Record kind_ = record_role kind_
-own_role p.Procedure kind_ = procedure_role kind_
-own_role p.Function kind_ = function_role kind_
-own_role p.IfArm kind_ = if_arm_role kind_
-own_role p.IfElse kind_ = if_else_role kind_
-own_role p.Case kind_ = case_role kind_
-own_role p.CaseArm kind_ = None
-own_role p.CaseElse kind_ = case_else_role kind_
-own_role p.LoopBody kind_ = None
-own_role p.Repeat kind_ = repeat_role kind_
-own_role p.Do kind_ = do_role kind_
-own_role p.Initializations kind_ = initializations_role kind_
-own_role p.End kind_ = None
+own_role p.Start piece_kind = start_role piece_kind
+own_role p.Heads piece_kind = head_role piece_kind
+own_role p.Tops piece_kind = top_role piece_kind
+own_role p.Parameters piece_kind = parameters_role piece_kind
+own_role p.Declarations piece_kind = declarations_role piece_kind
+own_role p.Record piece_kind = record_role piece_kind
+own_role p.Procedure piece_kind = procedure_role piece_kind
+own_role p.Function piece_kind = function_role piece_kind
+own_role p.IfArm piece_kind = if_arm_role piece_kind
+own_role p.IfElse piece_kind = if_else_role piece_kind
+own_role p.Case piece_kind = case_role piece_kind
+own_role p.CaseArm piece_kind = None
+own_role p.CaseElse piece_kind = case_else_role piece_kind
+own_role p.LoopBody piece_kind = None
+own_role p.Repeat piece_kind = repeat_role piece_kind
+own_role p.Do piece_kind = do_role piece_kind
+own_role p.Initializations piece_kind = initializations_role piece_kind
+own_role p.End piece_kind = None
 
 -- what a statement does comes first
 abbrev pub or_own : Option Role → Option Role → Option Role
@@ -154,4 +154,4 @@ or_own None own = own
 
 -- what a piece does at the place, if it may stand there
 unfoldable pub role_at : Place → PieceKind → Option Role
-role_at place kind_ = if takes_statements place then or_own (begins kind_) (own_role place kind_) else own_role place kind_
+role_at place piece_kind = if takes_statements place then or_own (begins piece_kind) (own_role place piece_kind) else own_role place piece_kind

@@ -167,20 +167,20 @@ items_of (variables xs line names typ) = items_of xs ++ i.Variables line names t
 items_of (record_type xs line name fields end) = items_of xs ++ i.Record line name fields ∷ []
 
 -- a block of `declarations`
-abbrev pub declared : ℕ → Items → Declared
-declared line items = record { line = line; items = items_of items }
+abbrev pub declaration_block : ℕ → Items → Declared
+declaration_block line items = record { line = line; items = items_of items }
 
 -- the parts of a routine
 abbrev pub parts_of : Parts → List RoutinePart
 parts_of no_part = []
-parts_of (declares xs line items end) = parts_of xs ++ r.Declarations (declared line items) ∷ []
+parts_of (declares xs line items end) = parts_of xs ++ r.Declarations (declaration_block line items) ∷ []
 parts_of (states xs w) = parts_of xs ++ r.Statement (tree w) ∷ []
 
 -- the parts of a model
 abbrev pub tops_of : Tops → List Top
 tops_of no_top = []
 tops_of (sets xs line parameters end) = tops_of xs ++ t.Parameters line parameters ∷ []
-tops_of (declares_top xs line items end) = tops_of xs ++ t.Declarations (declared line items) ∷ []
+tops_of (declares_top xs line items end) = tops_of xs ++ t.Declarations (declaration_block line items) ∷ []
 tops_of (defines xs heading parts end) = tops_of xs ++ t.Routine (record { heading = heading; parts = parts_of parts }) ∷ []
 tops_of (announces xs heading) = tops_of xs ++ t.Forward heading ∷ []
 tops_of (states_top xs w) = tops_of xs ++ t.Statement (tree w) ∷ []

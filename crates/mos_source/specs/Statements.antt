@@ -12,7 +12,7 @@ use Rattle.mos_tree.specs.declared.statement.Label.{Label}
 use Rattle.mos_tree.specs.declared.statement.LabelGroup.{LabelGroup}
 use Rattle.mos_tree.specs.declared.statement.Direction.{Direction}
 use Rattle.mos_tree.specs.declared.form.Form.TheVariants as f
-use Rattle.mos_tree.specs.declared.form.ConditionKeyword.TheVariants as guard
+use Rattle.mos_tree.specs.declared.form.ConditionKeyword.TheVariants as conditional
 use Rattle.mos_tree.specs.declared.form.Keyword.TheVariants as keyword
 use Rattle.mos_tree.specs.declared.form.Form.{Form}
 use Rattle.mos_tree.specs.declared.form.Simple.{Simple}
@@ -63,8 +63,8 @@ mutual
 
 -- the piece that begins an arm behind these arms
 abbrev pub arm_form : Arms → Expr → Form
-arm_form no_arm condition = f.Guarded guard.If condition
-arm_form (arm before line c b) condition = f.Guarded guard.Elif condition
+arm_form no_arm condition = f.Guarded conditional.If condition
+arm_form (arm before line c b) condition = f.Guarded conditional.Elif condition
 
 -- the pieces of rows
 abbrev pub spell_rows : Rows → List PieceForm
@@ -78,10 +78,10 @@ abbrev mutual
   spell (single line x) = piece line (f.Simple x) ∷ []
   spell (bare line name) = piece line (f.Bare name) ∷ []
   spell (if_ arms line condition b last end) = spell_arms arms ++ piece line (arm_form arms condition) ∷ (spell_block b ++ (spell_last last ++ piece end (f.Keyword keyword.EndIf) ∷ []))
-  spell (case_ line value xs last end) = piece line (f.Guarded guard.Case value) ∷ (spell_alternatives xs ++ (spell_last last ++ piece end (f.Keyword keyword.EndCase) ∷ []))
+  spell (case_ line value xs last end) = piece line (f.Guarded conditional.Case value) ∷ (spell_alternatives xs ++ (spell_last last ++ piece end (f.Keyword keyword.EndCase) ∷ []))
   spell (forall_ line index body) = piece line (f.Forall index) ∷ spell body
-  spell (while_ line condition body) = piece line (f.Guarded guard.While condition) ∷ spell body
-  spell (repeat_ line b until condition) = piece line (f.Keyword keyword.Repeat) ∷ (spell_block b ++ piece until (f.Guarded guard.Until condition) ∷ [])
+  spell (while_ line condition body) = piece line (f.Guarded conditional.While condition) ∷ spell body
+  spell (repeat_ line b until condition) = piece line (f.Keyword keyword.Repeat) ∷ (spell_block b ++ piece until (f.Guarded conditional.Until condition) ∷ [])
   spell (do_ line b end) = piece line (f.Keyword keyword.Do) ∷ (spell_block b ++ piece end (f.Keyword keyword.EndDo) ∷ [])
   spell (initializations line direction name rows end) = piece line (f.Initializations direction name) ∷ (spell_rows rows ++ piece end (f.Keyword keyword.EndInitializations) ∷ [])
 

@@ -5,6 +5,7 @@
 //! behind the longest run of pieces with which some source begins.
 #![tactic(auto)]
 
+mod adding;
 mod closing;
 mod continuing;
 mod fault;

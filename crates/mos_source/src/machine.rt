@@ -4,7 +4,8 @@ ghost use Rattle.mos_source.specs.Machine as spec;
 ghost use Rattle.mos_source.specs.Limits as limits;
 ghost use Rattle.mos_source.specs.Sources.{limit};
 
-use crate::closing::{closed_by, is_loop, loop_with_body, with_part, with_statement};
+use crate::adding::{is_loop, loop_with_body, with_part, with_statement};
+use crate::closing::closed_by;
 use crate::continuing::continued_by;
 use crate::frame::{Frame, Part, place_of};
 use crate::opening::{opened_by, stands_alone};

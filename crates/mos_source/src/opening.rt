@@ -1,6 +1,7 @@
 //! The block that a piece opens, and what a piece is by itself.
 ghost use Rattle.std.specs.Prelude.{◌≡◌, []};
 ghost use Rattle.mos_source.specs.Machine as spec;
+ghost use Rattle.mos_source.specs.Statements.{statement_of};
 
 use crate::frame::{Frame, Part};
 use mos_text::let_go;
@@ -99,8 +100,9 @@ pub(crate) fn opened_by(alloc: Global, line: u32, form: Form) -> Option<Frame>
     }
 }
 
+/// The statement that the piece is.
 fn statement_of(line: u32, simple: Simple) -> Statement
-    ensures { result ≡ spec.statement_of line simple }
+    ensures { result ≡ statement_of line simple }
 {
     match simple {
         Simple::Assign {

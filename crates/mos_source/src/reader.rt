@@ -2,6 +2,7 @@
 ghost use Rattle.std.specs.Prelude.{◌≡◌, [], ◌≤◌, IfOk, IfErr};
 ghost use Rattle.mos_tree.specs.Sizes.{size_of_tree, size_of_pieces};
 ghost use Rattle.mos_source.specs.Machine as spec;
+ghost use Rattle.mos_source.specs.Runs as runs;
 ghost use Rattle.mos_source.specs.Sources.{limit, Source, IsSource, tree_of};
 ghost use Rattle.mos_source.specs.Answers.{IsTree, Gives, IsFaultOf, BreaksBy};
 
@@ -15,7 +16,7 @@ use std::alloc::Global;
 
 /// Takes one piece, or says what is wrong with it.
 fn take_piece(alloc: Global, stack: &mut Vec<Frame>, piece: PieceForm) -> Result<(), PieceFault>
-    ensures { spec.TakesOne (spec.stack_of stack.old.items) piece
+    ensures { runs.TakesOne (spec.stack_of stack.old.items) piece
         (spec.stack_of stack.new.items) result }
 {
     let line = piece.line;
@@ -35,7 +36,7 @@ fn take_pieces(
     stack: &mut Vec<Frame>,
     pieces: Vec<PieceForm>,
 ) -> Result<(), PieceFault>
-    ensures { spec.TakesAll (spec.stack_of stack.old.items) pieces.items
+    ensures { runs.TakesAll (spec.stack_of stack.old.items) pieces.items
         (spec.stack_of stack.new.items) result }
 {
     for piece in pieces {
@@ -49,7 +50,7 @@ fn take_pieces(
 
 /// Reads the pieces.
 fn read(alloc: Global, pieces: Vec<PieceForm>) -> Result<Tree, PieceFault>
-    ensures { spec.Answers (spec.run limit [] pieces.items) result }
+    ensures { runs.Answers (spec.run limit [] pieces.items) result }
 {
     let mut stack = Vec::new(alloc);
     match take_pieces(alloc, &mut stack, pieces) {

@@ -30,10 +30,6 @@ depth_behind _ depth = depth
 abbrev pub Halves : Type 0
 Halves = Option (List Word × List Word)
 
--- these are the words before the cut and behind it
-abbrev pub IsCut : Halves → List Word → List Word → Type 0
-IsCut halves front behind = halves ≡ Some (front, behind)
-
 -- the words, before what is cut
 abbrev pub ahead : List Word → Halves → Halves
 ahead words None = None
@@ -44,10 +40,18 @@ abbrev pub cut : ℕ → List Word → Halves
 cut depth [] = None
 cut depth (x ∷ xs) = if nat_eq depth 0 && is_comma x then Some ([], xs) else ahead (x ∷ []) (cut (depth_behind x depth) xs)
 
+-- these are the words before the first comma outside brackets, and behind it
+abbrev pub IsCommaCut : List Word → List Word → List Word → Type 0
+IsCommaCut words front behind = cut 0 words ≡ Some (front, behind)
+
 -- the cut at the first colon
 abbrev pub cut_at_colon : List Word → Halves
 cut_at_colon [] = None
 cut_at_colon (x ∷ xs) = if is_colon x then Some ([], xs) else ahead (x ∷ []) (cut_at_colon xs)
+
+-- these are the words before the first colon, and behind it
+abbrev pub IsColonCut : List Word → List Word → List Word → Type 0
+IsColonCut words front behind = cut_at_colon words ≡ Some (front, behind)
 
 -- names, a type, and what stands behind the comma behind it
 abbrev pub Group : Type 0

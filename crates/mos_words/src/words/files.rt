@@ -52,14 +52,14 @@ pub fn only_source(named: Items<Text>) -> Option<Text>
     }
 }
 
-#[tactic(auto, unfolding(crate::specs::Words::breaks_files))]
+#[tactic(auto, unfolding(crate::specs::CommandLine::breaks_files))]
 fn breaks_files(named: &[Text]) -> bool
     ensures { result ≡ breaks_files named.now }
 {
     !are_file_names(named) || named.len() != 1 || !are_source_names(named)
 }
 
-#[tactic(auto, unfolding(crate::specs::Words::breaks_files))]
+#[tactic(auto, unfolding(crate::specs::CommandLine::breaks_files))]
 fn first_of_one(mut named: Items<Text>) -> Text
     requires { breaks_files named ≡ false }
     ensures { result ≡ slice_index_or named 0 [] }

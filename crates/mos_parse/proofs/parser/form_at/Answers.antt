@@ -1,4 +1,4 @@
-use Rattle.std.proofs.Common.{sym, ◌∙◌}
+use Rattle.std.proofs.Common.{◌∙◌}
 use Rattle.mos_parse.proofs.Forms.{form_at}
 use Rattle.mos_parse.proofs.parser.form_at.Goals as goal
 
