@@ -18,5 +18,6 @@ i32_bytes n = u32_bytes (cast_unsigned w32 n)
 abbrev pub short_table : {A : Type 0} → (A → List ℕ) → List A → List ℕ
 short_table entry entries = u16_bytes (length entries) ++ flat_map entry entries
 
+-- where it takes 32
 abbrev pub long_table : {A : Type 0} → (A → List ℕ) → List A → List ℕ
 long_table entry entries = u32_bytes (length entries) ++ flat_map entry entries

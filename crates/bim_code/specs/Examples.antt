@@ -1,6 +1,5 @@
 -- Computed examples of the bytes of an image.
 use Rattle.std.specs.Prelude.{◌≡◌, List, [], ◌∷◌, Some, None, pos, negsuc, true, false, map, codes}
-use Rattle.mos_text.specs.declared.fault_kind.FaultKind.TheVariants.{Overflow}
 use Rattle.bim_code.specs.declared.image.Image.{Image}
 use Rattle.bim_code.specs.declared.image.ImageType.TheVariants.{Integer, Boolean, Str, Model, Event, Range, Set, List as ListOf, Array, Record}
 use Rattle.bim_code.specs.declared.image.Default.TheVariants.{Number, Truth, Constant}
@@ -38,8 +37,8 @@ EndsAtOnceBytes = image_bytes ends_at_once ≡
 -- one of each instruction
 abbrev pub every_instruction : List Instruction
 every_instruction =
-    Tick ∷ PushInt (negsuc 1) ∷ PushBool true ∷ PushText 1 ∷ LoadGlobal 258 ∷ StoreGlobal 1 ∷ Add ∷ Subtract ∷ Show
-    ∷ Write ∷ Line ∷ End ∷ Fault Overflow ∷ Swap ∷ Compare Equal ∷ Compare NotEqual ∷ Compare Less ∷ Compare AtMost
+    Tick ∷ PushInt (negsuc 1) ∷ PushBool 1 ∷ PushText 1 ∷ LoadGlobal 258 ∷ StoreGlobal 1 ∷ Add ∷ Subtract ∷ Show
+    ∷ Write ∷ Line ∷ End ∷ Fault 1 ∷ Swap ∷ Compare Equal ∷ Compare NotEqual ∷ Compare Less ∷ Compare AtMost
     ∷ Compare Greater ∷ Compare AtLeast ∷ Jump 37 ∷ JumpIf 0 ∷ JumpNot 258 ∷ []
 
 -- an image with an entry of each kind in each part
@@ -94,4 +93,4 @@ EveryPartBytes = image_bytes every_part ≡
 abbrev pub Addresses : Type 0
 Addresses =
     map (instruction_at every_instruction) (0 ∷ 3 ∷ address_of every_instruction 2 ∷ 59 ∷ [])
-    ≡ Some Tick ∷ None ∷ Some (PushBool true) ∷ None ∷ []
+    ≡ Some Tick ∷ None ∷ Some (PushBool 1) ∷ None ∷ []

@@ -1,5 +1,3 @@
-use mos_text::FaultKind;
-
 /// How two values are compared.
 #[derive(Clone, Copy, PartialEq, Debug, Drop)]
 pub enum Comparison {
@@ -11,16 +9,17 @@ pub enum Comparison {
     AtLeast,
 }
 
-/// One instruction of the abstract machine, with its operands. What each does is the machine's
-/// matter; `rows` has its code and its place in the file.
+/// One instruction of the abstract machine, with its operands as the file holds them: a number that
+/// means nothing is an instruction too. What each does is the machine's matter; `rows` has its code,
+/// its printed name and its operands.
 #[derive(Clone, Copy, PartialEq, Debug, Drop)]
 pub enum Instruction {
     /// Takes a tick, or ends the run as spent.
     Tick,
     /// Puts an integer on the stack.
     PushInt(i32),
-    /// Puts a boolean on the stack.
-    PushBool(bool),
+    /// Puts a boolean on the stack: 0 is false, 1 is true.
+    PushBool(u32),
     /// Puts the constant of this number on the stack; one above 1,000,000 bytes is the fault TOOBIG.
     PushText(u32),
     /// Puts the value of this global slot on the stack.
@@ -49,6 +48,6 @@ pub enum Instruction {
     Line,
     /// Ends the run with the integer on top as its code.
     End,
-    /// Ends the run with this fault.
-    Fault(FaultKind),
+    /// Ends the run with the fault of this number, 1 to 12.
+    Fault(u32),
 }

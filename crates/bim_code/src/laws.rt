@@ -1,5 +1,6 @@
 //! Laws of the definitions of this crate: functions that do nothing, whose contract is the law.
 ghost use Rattle.bim_code.specs.Examples.{EndsAtOnceBytes, EveryPartBytes, Addresses};
+ghost use Rattle.bim_code.specs.AddressLaws.{BeginsAtSum, NoneElsewhere};
 ghost use Rattle.bim_code.specs.Limits.{FitsFields, WithinLimits};
 
 use crate::image::Image;
@@ -23,4 +24,10 @@ pub fn addresses()
 pub fn limits_fit_fields(image: &Image)
     requires { WithinLimits image.now }
     ensures { FitsFields image.now }
+{}
+
+/// An instruction begins at the sum of the widths before it, and nowhere else does one begin.
+pub fn addresses_are_sums()
+    ensures there { BeginsAtSum }
+    ensures nowhere_else { NoneElsewhere }
 {}

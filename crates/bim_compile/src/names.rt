@@ -1,6 +1,6 @@
 //! The variables of a model, by their names.
 ghost use Rattle.std.specs.Prelude.{◌≡◌, [], OnOk, map};
-ghost use Rattle.mos_meaning.specs.Syntax.{block, block_of, top_effect, names_after, names_from, effect};
+ghost use Rattle.mos_meaning.specs.Sources.{block, block_of, top_effect, names_after, names_from, effect};
 
 use mos_names::Names;
 use mos_text::NoMemory;

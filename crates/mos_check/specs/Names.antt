@@ -18,7 +18,7 @@ use Rattle.mos_tree.specs.declared.statement.Statement.TheFolds.{fold-Statement}
 use Rattle.mos_tree.specs.declared.source.Top.{Top}
 use Rattle.mos_tree.specs.declared.source.Top.TheVariants as top
 use Rattle.mos_tree.specs.declared.source.Tree.{Tree}
-use Rattle.mos_meaning.specs.Syntax.{has_name, with_name}
+use Rattle.mos_names.specs.NameLists.{has_name, with_name}
 use Rattle.mos_check.specs.declared.names.CheckFault.{CheckFault}
 use Rattle.mos_check.specs.declared.names.CheckFault.TheVariants.{Refused, NoMemory}
 

@@ -4,9 +4,10 @@
 
 mod built;
 mod form;
+mod laws;
 mod names;
 mod unknown;
 
 pub use built::not_built;
-pub use form::{Form, form_of};
+pub use laws::checked_models;
 pub use names::{CheckFault, check};

@@ -1,3 +1,2 @@
-pub mod Runs
-pub mod Places
-pub mod Bound
+pub mod Fine
+pub mod WorkingModels

@@ -1,64 +1,79 @@
 -- Worked examples of meanings and of what images do.
 
 use Rattle.std.specs.Prelude.{◌≡◌, ℕ, List, [], ◌∷◌, Option, Some, None, pos, true, false, codes}
-use Rattle.std.specs.List.{find}
-use Rattle.std.specs.Str.{bytes_eq}
 use Rattle.mos_text.specs.declared.fault_kind.FaultKind.TheVariants.{Overflow, BadParam}
+use Rattle.mos_text.specs.declared.scalar.Scalar.TheVariants.{Int, Str}
 use Rattle.bim_code.specs.declared.image.Image.{Image}
-use Rattle.bim_code.specs.declared.instruction.Instruction.TheVariants.{Tick, PushInt, PushBool, PushText, Show, Write, Line, End}
+use Rattle.bim_code.specs.declared.image.ImageType.TheVariants.{Integer, Str as StrType}
+use Rattle.bim_code.specs.declared.image.Default.TheVariants.{Number}
+use Rattle.bim_code.specs.declared.instruction.Instruction.TheVariants.{Tick, PushInt, PushBool, PushText, LoadGlobal, StoreGlobal, Show, Write, Line, End, Fault}
 use Rattle.job_calls.specs.declared.run_line.RunLine.{RunLine}
 use Rattle.job_calls.specs.HelloJournal.{hello_entries, hello_runs}
-use Rattle.bim_code.specs.declared.instruction.Comparison.TheVariants.{Greater, AtLeast}
-use Rattle.mos_meaning.specs.State.{State, Outcome, Stop, Exited, Failed, Spent, Stuck, beginning}
-use Rattle.mos_meaning.specs.Syntax.{Block, done, first, assign, change, increase, decrease, write, choose, branch, otherwise, loop, group, leave, skip, nothing, one_more, number, text, truth, name, apply, plus, compare}
-use Rattle.mos_meaning.specs.Effects.{Ends}
-use Rattle.mos_meaning.specs.Meaning.{Body, routines, meaning_of, told_done}
-use Rattle.mos_meaning.specs.Machine.{course_of}
+use Rattle.mos_value.specs.Values.{One}
+use Rattle.mos_value.specs.Answers.{sum, difference, compare, greater, at_least}
+use Rattle.run_state.specs.Stops.{Outcome, Stop, Exited, Failed, Spent, Stuck}
+use Rattle.bim_machine.specs.Courses.{course_of}
+use Rattle.mos_meaning.specs.Syntax.{Model, Block, no_more, first, assign, change, write, if_, elif, else_, while_, do_, break_, next_, nothing, one_more, number, text, truth, variable, apply, Program}
+use Rattle.mos_meaning.specs.Sources.{program_of}
+use Rattle.mos_meaning.specs.Meaning.{meaning_of}
 use Rattle.mos_meaning.specs.Follows.{Behaviour, behaviour_of, FollowsSources}
 
-abbrev pub told : List ℕ → ℕ → Stop → Outcome
-told output ticks stop = record { output = output; calls = []; ticks = ticks; stop = stop }
+-- an outcome without calls
+abbrev pub outcome : List ℕ → ℕ → Stop → Outcome
+outcome output ticks stop = record { output = output; calls = []; ticks = ticks; stop = stop }
 
 -- writeln("hello")
 abbrev pub hello : Block
-hello = first (write true (one_more (text (codes "hello")) nothing)) done
+hello = first (write 2 true (one_more (text (codes "hello")) nothing)) no_more
 
 -- x:=2+3 and writeln(x)
 abbrev pub five : Block
-five = first (assign (codes "x") (apply plus (number (pos 2)) (number (pos 3)))) (first (write true (one_more (name (codes "x")) nothing)) done)
+five =
+    first (assign 2 Model (codes "x") (apply sum (number (pos 2)) (number (pos 3))))
+    (first (write 3 true (one_more (variable Model (codes "x")) nothing)) no_more)
 
 -- x:=2147483647+1
 abbrev pub too_much : Block
-too_much = first (assign (codes "x") (apply plus (number (pos 2147483647)) (number (pos 1)))) done
+too_much = first (assign 2 Model (codes "x") (apply sum (number (pos 2147483647)) (number (pos 1)))) no_more
 
 -- x:=3 and while(x>0) do x-=1 end-do
 abbrev pub down : Block
-down = first (assign (codes "x") (number (pos 3)))
-    (first (loop (apply (compare Greater) (name (codes "x")) (number (pos 0))) (group (first (change decrease (codes "x") (number (pos 1))) done))) done)
+down =
+    first (assign 2 Model (codes "x") (number (pos 3)))
+    (first (while_ 3 (apply (compare greater) (variable Model (codes "x")) (number (pos 0)))
+    (do_ (first (change 4 difference Model (codes "x") (number (pos 1))) no_more))) no_more)
 
 -- write("a") and while(true) next
 abbrev pub endless : Block
-endless = first (write false (one_more (text (codes "a")) nothing)) (first (loop (truth true) skip) done)
+endless = first (write 2 false (one_more (text (codes "a")) nothing)) (first (while_ 3 (truth true) (next_ 3)) no_more)
 
 -- write of a text alone
 abbrev pub wrote : List ℕ → Block
-wrote t = first (write false (one_more (text t) nothing)) done
+wrote t = first (write 3 false (one_more (text t) nothing)) no_more
 
 -- if(1>2) then write("a") elif(false) then write("b") else write("c") end-if
 abbrev pub last_way : Block
-last_way = first (choose (branch (apply (compare Greater) (number (pos 1)) (number (pos 2))) (wrote (codes "a"))
-    (branch (truth false) (wrote (codes "b")) (otherwise (wrote (codes "c")))))) done
+last_way =
+    first (if_ 2 (elif 2 (apply (compare greater) (number (pos 1)) (number (pos 2))) (wrote (codes "a"))
+    (elif 4 (truth false) (wrote (codes "b")) (else_ (wrote (codes "c")))))) no_more
 
 -- x:=0, while(true) do x+=1 if(x>=2) then break end-if end-do, writeln(x)
 abbrev pub until_two : Block
-until_two = first (assign (codes "x") (number (pos 0)))
-    (first (loop (truth true) (group (first (change increase (codes "x") (number (pos 1)))
-    (first (choose (branch (apply (compare AtLeast) (name (codes "x")) (number (pos 2))) (first leave done) (otherwise done))) done))))
-    (first (write true (one_more (name (codes "x")) nothing)) done))
+until_two =
+    first (assign 2 Model (codes "x") (number (pos 0)))
+    (first (while_ 3 (truth true) (do_ (first (change 4 sum Model (codes "x") (number (pos 1)))
+    (first (if_ 5 (elif 5 (apply (compare at_least) (variable Model (codes "x")) (number (pos 2))) (first (break_ 6) no_more) (else_ no_more))) no_more))))
+    (first (write 9 true (one_more (variable Model (codes "x")) nothing)) no_more))
 
--- a routine that writes hello
-abbrev pub greeting : List Body
-greeting = record { name = codes "greet"; statements = hello } ∷ []
+-- a model with a parameter N, 7 where nothing is given, that writes it
+abbrev pub with_parameter : Program
+with_parameter = record {
+  names = codes "N" ∷ [];
+  defaults = One (Int (pos 7)) ∷ [];
+  params = record { name = codes "N"; default = Int (pos 7) } ∷ [];
+  bodies = [];
+  block = first (write 5 true (one_more (variable Model (codes "N")) nothing)) no_more;
+}
 
 -- an image that writes hello
 abbrev pub hello_image : Image
@@ -69,66 +84,97 @@ hello_image = record {
   globals = [];
   routines = [];
   points = [];
-  code = Tick ∷ PushText 0 ∷ Show ∷ Write ∷ PushBool true ∷ Line ∷ PushInt (pos 0) ∷ End ∷ [];
+  code = Tick ∷ PushText 0 ∷ Show ∷ Write ∷ PushBool 1 ∷ Line ∷ PushInt (pos 0) ∷ End ∷ [];
 }
 
+-- an image with a parameter N in slot 1, behind a text, that writes both slots
+abbrev pub parameter_image : Image
+parameter_image = record {
+  constants = codes "N" ∷ [];
+  types = Integer ∷ StrType ∷ [];
+  params = record { name = 0; slot = 1; default = Number (pos 7) } ∷ [];
+  globals = 1 ∷ 0 ∷ [];
+  routines = [];
+  points = [];
+  code = LoadGlobal 0 ∷ Show ∷ Write ∷ LoadGlobal 1 ∷ Show ∷ Write ∷ PushBool 1 ∷ Line ∷ PushInt (pos 0) ∷ End ∷ [];
+}
+
+-- hello and a newline, with one tick
 abbrev pub HelloMeans : Type 0
-HelloMeans = meaning_of hello [] [] 10000000 ≡ told (codes "hello\n") 1 (Exited (pos 0))
+HelloMeans = meaning_of (program_of hello) [] [] 10000000 ≡ outcome (codes "hello\n") 1 (Exited (pos 0))
 
 -- without a tick it does nothing
 abbrev pub HelloSpent : Type 0
-HelloSpent = meaning_of hello [] [] 0 ≡ told [] 0 Spent
+HelloSpent = meaning_of (program_of hello) [] [] 0 ≡ outcome [] 0 Spent
 
 -- with a parameter text it is refused
 abbrev pub HelloRefused : Type 0
-HelloRefused = meaning_of hello (codes "N=1") [] 10000000 ≡ told [] 0 (Failed BadParam)
+HelloRefused = meaning_of (program_of hello) (codes "N=1") [] 10000000 ≡ outcome [] 0 (Failed BadParam)
 
+-- two statements, and what the second one prints
 abbrev pub FiveMeans : Type 0
-FiveMeans = meaning_of five [] [] 10000000 ≡ told (codes "5\n") 2 (Exited (pos 0))
+FiveMeans = meaning_of (program_of five) [] [] 10000000 ≡ outcome (codes "5\n") 2 (Exited (pos 0))
 
+-- the fault of the sum
 abbrev pub TooMuchMeans : Type 0
-TooMuchMeans = meaning_of too_much [] [] 10000000 ≡ told [] 1 (Failed Overflow)
+TooMuchMeans = meaning_of (program_of too_much) [] [] 10000000 ≡ outcome [] 1 (Failed Overflow)
 
 -- an `if`, and the statement under its `else`
 abbrev pub LastWayMeans : Type 0
-LastWayMeans = meaning_of last_way [] [] 10000000 ≡ told (codes "c") 2 (Exited (pos 0))
+LastWayMeans = meaning_of (program_of last_way) [] [] 10000000 ≡ outcome (codes "c") 2 (Exited (pos 0))
+
+-- a parameter has its default, or what the text gives
+abbrev pub ParameterMeans : Type 0
+ParameterMeans =
+    (meaning_of with_parameter [] [] 5 ≡ outcome (codes "7\n") 1 (Exited (pos 0)))
+    × (meaning_of with_parameter (codes "N = -3") [] 5 ≡ outcome (codes "-3\n") 1 (Exited (pos 0)))
+    × (meaning_of with_parameter (codes "N=x") [] 5 ≡ outcome [] 0 (Failed BadParam))
 
 -- an assignment, a `while`, and three passes with a statement each
 abbrev pub DownMeans : Type 0
-DownMeans = meaning_of down [] [] 10000000 ≡ told [] 8 (Exited (pos 0))
+DownMeans = meaning_of (program_of down) [] [] 10000000 ≡ outcome [] 8 (Exited (pos 0))
 
+-- one tick less than it needs
 abbrev pub DownSpent : Type 0
-DownSpent = meaning_of down [] [] 7 ≡ told [] 7 Spent
+DownSpent = meaning_of (program_of down) [] [] 7 ≡ outcome [] 7 Spent
 
+-- as many ticks as it needs
 abbrev pub DownEnough : Type 0
-DownEnough = meaning_of down [] [] 8 ≡ told [] 8 (Exited (pos 0))
+DownEnough = meaning_of (program_of down) [] [] 8 ≡ outcome [] 8 (Exited (pos 0))
 
+-- what was written before stays written
 abbrev pub EndlessSpent : Type 0
-EndlessSpent = meaning_of endless [] [] 100 ≡ told (codes "a") 100 Spent
+EndlessSpent = meaning_of (program_of endless) [] [] 100 ≡ outcome (codes "a") 100 Spent
 
 -- an assignment, a `while`, a pass with two statements, one with three of which the last leaves the loop, and `writeln`
 abbrev pub UntilTwoMeans : Type 0
-UntilTwoMeans = meaning_of until_two [] [] 10000000 ≡ told (codes "2\n") 10 (Exited (pos 0))
-
--- a call of a routine does what its statements do
-abbrev pub GreetingCalled : Type 0
-GreetingCalled = told_done 10 (routines greeting [] 10 (codes "greet") (beginning [] [] 10)) ≡ told (codes "hello\n") 1 (Exited (pos 0))
-
--- one of a name that no routine has means nothing, however many calls may stand inside one another
-abbrev pub UnknownCalled : Type 0
-UnknownCalled = (bodies : List Body) (names : List (List ℕ)) (most : ℕ) (n : List ℕ) (s : State)
-    → find (λ (body : Body). bytes_eq n body.name) bodies ≡ None → routines bodies names most n s ≡ Ends Stuck s
+UntilTwoMeans = meaning_of (program_of until_two) [] [] 10000000 ≡ outcome (codes "2\n") 10 (Exited (pos 0))
 
 -- the image takes eight steps, and means the same
 abbrev pub HelloCourse : Type 0
-HelloCourse = course_of hello_image [] [] 10000000 ≡ record { outcome = told (codes "hello\n") 1 (Exited (pos 0)); steps = 8 }
+HelloCourse = course_of hello_image [] [] 10000000 ≡ record { outcome = outcome (codes "hello\n") 1 (Exited (pos 0)); steps = 8 }
 
 -- without a tick it is spent at its first instruction
 abbrev pub HelloCourseSpent : Type 0
-HelloCourseSpent = course_of hello_image [] [] 0 ≡ record { outcome = told [] 0 Spent; steps = 1 }
+HelloCourseSpent = course_of hello_image [] [] 0 ≡ record { outcome = outcome [] 0 Spent; steps = 1 }
 
+-- a slot begins with the default of its type, a parameter with its own or with what the text gives
+abbrev pub ParameterCourses : Type 0
+ParameterCourses =
+    (course_of parameter_image [] [] 0 ≡ record { outcome = outcome (codes "7\n") 0 (Exited (pos 0)); steps = 10 })
+    × (course_of parameter_image (codes "N=3") [] 0 ≡ record { outcome = outcome (codes "3\n") 0 (Exited (pos 0)); steps = 10 })
+    × (course_of parameter_image (codes "M=3") [] 0 ≡ record { outcome = outcome [] 0 (Failed BadParam); steps = 0 })
+
+-- an operand that means nothing is stuck: the truth 2, and a fault that only the hub has
+abbrev pub MeaninglessOperands : Type 0
+MeaninglessOperands =
+    (course_of (record hello_image { code = PushBool 2 ∷ End ∷ [] }) [] [] 0 ≡ record { outcome = outcome [] 0 Stuck; steps = 1 })
+    × (course_of (record hello_image { code = Fault 13 ∷ [] }) [] [] 0 ≡ record { outcome = outcome [] 0 Stuck; steps = 1 })
+    × (course_of (record hello_image { code = Fault 8 ∷ [] }) [] [] 0 ≡ record { outcome = outcome [] 0 (Failed BadParam); steps = 1 })
+
+-- the behaviour of the one file
 abbrev pub hello_behaviours : List (Option Behaviour)
-hello_behaviours = Some (behaviour_of hello hello_image) ∷ []
+hello_behaviours = Some (behaviour_of (program_of hello) hello_image) ∷ []
 
 -- the run line of hello follows its source
 abbrev pub HelloFollows : Type 0

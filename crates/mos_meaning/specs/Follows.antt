@@ -14,20 +14,20 @@ use Rattle.job_calls.specs.Words.{run_count}
 use Rattle.job_calls.specs.Runs.{Opening, opening, source_of, params_of, calls_of, replies_of, finish_of}
 use Rattle.job_calls.specs.Replies.{AllFit}
 use Rattle.bim_code.specs.declared.image.Image.{Image}
-use Rattle.mos_meaning.specs.State.{Stop, Exited, Failed, Spent, Stopped, Asking, Stuck}
-use Rattle.mos_meaning.specs.Syntax.{Block}
+use Rattle.run_state.specs.Stops.{Stop, Exited, Failed, Spent, Stopped, Asking, Stuck, Lost, Course}
+use Rattle.bim_machine.specs.Courses.{course_of}
+use Rattle.mos_meaning.specs.Syntax.{Program}
 use Rattle.mos_meaning.specs.Meaning.{meaning_of}
-use Rattle.mos_meaning.specs.Machine.{Course, course_of}
 
 -- what a run does, by its parameter text, the replies to its calls and its budget of ticks; that of an
 -- image is `course_of image`
 abbrev pub Behaviour : Type 0
 Behaviour = List ℕ → List Reply → ℕ → Course
 
--- the behaviour of a source: what its statements mean, with the steps that its image takes
-abbrev pub behaviour_of : Block → Image → Behaviour
-behaviour_of statements image params replies budget = record {
-  outcome = meaning_of statements params replies budget;
+-- the behaviour of a source: what its model means, with the steps that its image takes
+abbrev pub behaviour_of : Program → Image → Behaviour
+behaviour_of program image params replies budget = record {
+  outcome = meaning_of program params replies budget;
   steps = (course_of image params replies budget).steps;
 }
 
@@ -39,13 +39,19 @@ end_of Spent = Some end.Spent
 end_of Stopped = Some end.Stopped
 end_of (Asking call) = None
 end_of Stuck = None
+end_of Lost = None
 
 -- a run that stopped so: a finished one has its end in the journal and on its line; one that is not
 -- finished waits on the call that it asks
 abbrev pub EndsSo : Option End → RunEnd → Stop → Type 0
 EndsSo (Some finish) line stop = (line ≡ Ended finish) × (end_of stop ≡ Some finish)
 EndsSo None line (Asking call) = line ≡ Waiting call
-EndsSo None line _ = ⊥
+EndsSo None line (Exited code) = ⊥
+EndsSo None line (Failed kind) = ⊥
+EndsSo None line Spent = ⊥
+EndsSo None line Stopped = ⊥
+EndsSo None line Stuck = ⊥
+EndsSo None line Lost = ⊥
 
 -- a run of this file took this course, and its line says so
 pub record RunFollows (journal : List Entry) (run : ℕ) (line : RunLine) (file : Listed) (course : Course) : Type 0 where

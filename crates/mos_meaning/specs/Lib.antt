@@ -1,9 +1,9 @@
 pub mod Syntax
-pub mod State
+pub mod Sources
 pub mod Values
 pub mod Effects
 pub mod Meaning
-pub mod Machine
+pub mod Working
 pub mod Follows
 pub mod Examples
-pub mod MachineLaws
+pub mod FormsToCome

@@ -1,71 +1,83 @@
 -- The meaning of a model: what it writes, which calls it makes, how many ticks it takes and how it
 -- ends, given its parameter text, the replies to its calls and its budget of ticks.
 
-use Rattle.std.specs.Prelude.{ℕ, zero, suc, ◌-◌, pos, List, [], ◌∷◌, Option, Some, None, length, replicate}
-use Rattle.std.specs.List.{find}
-use Rattle.std.specs.Str.{bytes_eq}
-use Rattle.mos_text.specs.declared.fault_kind.FaultKind.TheVariants.{BadParam}
+use Rattle.std.specs.Prelude.{ℕ, ◌+◌, zero, suc, pos, List, [], ◌∷◌, ◌++◌, Option, Some, None, map, length, slice_get, nat_eq, if◌then◌else◌}
+use Rattle.mos_text.specs.declared.fault_kind.FaultKind.TheVariants.{Depth}
 use Rattle.mos_text.specs.declared.scalar.Scalar.{Scalar}
-use Rattle.mos_text.specs.declared.scalar.Scalar.TheVariants.{Int}
 use Rattle.job_calls.specs.declared.reply.Reply.{Reply}
-use Rattle.mos_meaning.specs.State.{State, Stop, Exited, Failed, Stuck, Outcome, beginning}
-use Rattle.mos_meaning.specs.Syntax.{Block, variables_of}
-use Rattle.mos_meaning.specs.Effects.{Done, Goes, Broke, Continues, Ends, Routine, effects_of}
+use Rattle.mos_names.specs.NameLists.{Name, place_of}
+use Rattle.mos_value.specs.Values.{Value, Place}
+use Rattle.run_state.specs.Stops.{Stop, Exited, Failed, Stuck, Lost, Outcome}
+use Rattle.run_state.specs.State.{World, State, beginning, over, outcome_of, Out, Gave, Halts, bind}
+use Rattle.run_state.specs.Places.{load, Argument, ByValue, argument_places, entered, left, most_calls}
+use Rattle.run_state.specs.Parameters.{Parameter, and_then, given_values, with_values, refused}
+use Rattle.mos_meaning.specs.Syntax.{Own, Block, Body, Program}
+use Rattle.mos_meaning.specs.Values.{Names, Env, Routine, place_in, loaded}
+use Rattle.mos_meaning.specs.Effects.{Flow, effects_of}
 
 -- Routines.
 
--- a routine: its name and its statements
-pub record Body : Type 0 where
-  pub name : List ℕ
-  pub statements : Block
+-- the result of a routine whose statements came to their end: that of a function is in its variable
+abbrev pub result_of : Names → Env → Option Name → State → Out (Option Value)
+result_of names env None s = Gave None (over (left s.memory.store) s)
+result_of names env (Some n) s = bind (loaded (place_in names env Own n) s) (λ v s1. Gave (Some v) (over (left s1.memory.store) s1))
 
--- the routines of a model: there are none yet
-abbrev pub bodies_of : Block → List Body
-bodies_of model = []
+-- values of its own
+abbrev pub by_values : List Value → List Argument
+by_values [] = []
+by_values (value ∷ values) = ByValue value ∷ by_values values
 
--- what a routine does, where there is one
-abbrev pub do_found : Option Body → State → (Block → Done) → Done
-do_found None s go = Ends Stuck s
-do_found (Some body) s go = go body.statements
+-- its statements, on a frame of its own with the arguments and then the defaults of its other variables
+abbrev pub body_of : World → Routine → Names → Body → List Argument → State → Out (Option Value)
+body_of w call names body given s =
+    let slots : List Argument = given ++ by_values body.defaults in
+    let inner : Names = record names { own = body.own } in
+    let env : Env = record { bound = []; places = argument_places (length s.memory.store) 0 slots } in
+    bind (effects_of w call inner body.block env (over (entered slots s.memory.store) s)) (λ flow s1. result_of inner env body.result s1)
 
--- what a call of each routine does, where at most so many calls stand inside one another. Each call takes a tick:
--- with as many calls as the budget has ticks, a run never needs one that is not left.
-abbrev pub routines : List Body → List (List ℕ) → ℕ → Routine
-routines bodies names zero n s = Ends Stuck s
-routines bodies names (suc most) n s =
-    do_found (find (λ (body : Body). bytes_eq n body.name) bodies) s (λ statements. effects_of (routines bodies names most) names statements s)
+-- there is such a routine, and it takes so many arguments
+abbrev pub found : Option Body → World → Routine → Names → List Argument → State → Out (Option Value)
+found None w call names given s = Halts Lost None s
+found (Some body) w call names given s =
+    if nat_eq (length given) body.formals then body_of w call names body given s else Halts Lost None s
+
+-- the names of a model, outside of routines
+abbrev pub names_of : Program → Names
+names_of program = record { own = []; model = program.names }
+
+-- what a call of each routine does, where so many more calls may stand inside one another
+abbrev pub routines : World → Program → ℕ → Routine
+routines w program zero number given s = Halts (Failed Depth) None s
+routines w program (suc n) number given s = found (slice_get program.bodies number) w (routines w program n) (names_of program) given s
 
 -- The whole run.
 
--- what is told of a run that stopped in this state
-abbrev pub told : ℕ → Stop → State → Outcome
-told budget stop s = record {
-  output = s.memory.output;
-  calls = s.calls;
-  ticks = budget - s.ticks;
-  stop = stop;
-}
+-- outside of routines there are no variables but the model's
+abbrev pub outside : Env
+outside = record { bound = []; places = [] }
+
+-- the statements of a model from a state on
+abbrev pub main_effect : World → Program → State → Out Flow
+main_effect w program s = effects_of w (routines w program most_calls) (names_of program) program.block outside s
 
 -- the end of the text ends a model with code 0; outside a loop `break` and `next` go there, but no
 -- accepted model has them there
-abbrev pub told_done : ℕ → Done → Outcome
-told_done budget (Goes s) = told budget (Exited (pos 0)) s
-told_done budget (Broke s) = told budget (Exited (pos 0)) s
-told_done budget (Continues s) = told budget (Exited (pos 0)) s
-told_done budget (Ends stop s) = told budget stop s
+abbrev pub ended : Out Flow → Outcome
+ended (Gave flow s) = outcome_of (Exited (pos 0)) s
+ended (Halts stop line s) = outcome_of stop s
 
--- a run whose parameter text is refused does nothing
-abbrev pub refused : Outcome
-refused = record { output = []; calls = []; ticks = 0; stop = Failed BadParam }
+-- a run that begins with these values in the model's variables
+abbrev pub begun : World → Program → Option (List Value) → Outcome
+begun w program None = outcome_of Lost (beginning [])
+begun w program (Some values) = ended (main_effect w program (beginning values))
 
--- before its first assignment a variable has the default
-abbrev pub defaults : ℕ → List Scalar
-defaults many = replicate many (Int (pos 0))
+-- what the parameter text gives goes over the defaults
+abbrev pub with_given : World → Program → Option (List Scalar) → Outcome
+with_given w program None = refused
+with_given w program (Some given) =
+    begun w program (with_values (map (λ (p : Parameter). place_of p.name program.names) program.params) given program.defaults)
 
--- a model has no parameters today, so that only the empty text is accepted
-abbrev pub meaning_of : Block → List ℕ → List Reply → ℕ → Outcome
-meaning_of model [] replies budget =
-    told_done budget
-    (effects_of (routines (bodies_of model) (variables_of model) budget) (variables_of model) model
-    (beginning (defaults (length (variables_of model))) replies budget))
-meaning_of model (byte ∷ params) replies budget = refused
+-- the meaning
+abbrev pub meaning_of : Program → List ℕ → List Reply → ℕ → Outcome
+meaning_of program text replies budget =
+    with_given (record { replies = replies; budget = budget }) program (given_values program.params text)

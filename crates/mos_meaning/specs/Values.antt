@@ -1,79 +1,124 @@
--- Operators on values and their limits, the same for the meaning of a model and for the machine.
+-- The value of an expression, by the tree. Operands are evaluated from left to right.
 
-use Rattle.std.specs.Prelude.{ℕ, ℤ, pos, negsuc, ◌+ℤ◌, ◌-ℤ◌, ◌+◌, Bool, true, false, List, [], ◌∷◌, ◌++◌, Option, Some, None, nat_lt, nat_le, nat_eq, not, ◌&&◌, length, codes, decimal, if◌then◌else◌, option_map}
-use Rattle.std.specs.declared.cmp.Ordering.{Ordering}
-use Rattle.std.specs.Ordering.{is_eq, is_lt, is_gt, nat_cmp, int_cmp, int_eq}
-use Rattle.std.specs.Cmp.Lexicographic.{slice_cmp}
-use Rattle.std.specs.Fmt.{signed_decimal}
+use Rattle.std.specs.Prelude.{ℕ, zero, suc, ℤ, pos, Bool, true, false, List, [], ◌∷◌, ◌++◌, Option, Some, None, slice_get, if◌then◌else◌, reverse}
+use Rattle.std.specs.Str.{bytes_eq}
+use Rattle.mos_text.specs.declared.fault_kind.FaultKind.{FaultKind}
 use Rattle.mos_text.specs.declared.scalar.Scalar.{Scalar}
-use Rattle.mos_text.specs.declared.scalar.Scalar.TheVariants.{Int, Bool as Truth, Str, Model, Event}
-use Rattle.bim_code.specs.declared.instruction.Comparison.{Comparison}
-use Rattle.bim_code.specs.declared.instruction.Comparison.TheVariants.{Equal, NotEqual, Less, AtMost, Greater, AtLeast}
-use Rattle.mos_meaning.specs.State.{Memory}
+use Rattle.mos_text.specs.declared.scalar.Scalar.TheVariants.{Int, Bool as Truth, Str}
+use Rattle.mos_names.specs.NameLists.{Name, place_of}
+use Rattle.mos_value.specs.Values.{Value, One, Place, members_of}
+use Rattle.mos_value.specs.Answers.{between, sum, range, answer}
+use Rattle.mos_value.specs.Answers as how
+use Rattle.run_state.specs.Stops.{Stop, Failed, Stuck, Lost}
+use Rattle.run_state.specs.State.{World, State, Out, Gave, Halts, bind, or_stop, answered, had, tick}
+use Rattle.run_state.specs.Calls.{ask}
+use Rattle.run_state.specs.HubFunctions.{HubFunction, Calling, Makes, Refuses, Unfit, call_of, value_of_reply}
+use Rattle.run_state.specs.Places.{load, Argument, ByValue, ByPlace}
+use Rattle.mos_meaning.specs.Syntax.{Scope, Own, Model, Expression, number, text, truth, variable, index, apply, range_of, sum_over, invoke, ask_hub, unbuilt, Arguments, no_argument, by_value, by_place}
 
--- -2147483648 to 2147483647
-abbrev pub is_integer : ℤ → Bool
-is_integer (pos n) = nat_lt n 2147483648
-is_integer (negsuc n) = nat_lt n 2147483648
+-- the names of the variables, the routine's that runs and the model's; the place of each is by its place
+-- among them
+pub record Names : Type 0 where
+  pub own : List Name
+  pub model : List Name
 
--- a result of integers, where it has 32 bits
-abbrev pub integer : ℤ → Option ℤ
-integer n = if is_integer n then Some n else None
+-- what the names of the routine that runs stand for: index names for constants, the newest first, and
+-- its variables for places
+pub record Env : Type 0 where
+  pub bound : List (Name × Scalar)
+  pub places : List Place
 
-abbrev pub sum_of : ℤ → ℤ → Option ℤ
-sum_of a b = integer (a +ℤ b)
+-- what a call of a routine does, by its number, with its arguments: a function gives a value
+abbrev pub Routine : Type 0
+Routine = ℕ → List Argument → State → Out (Option Value)
 
-abbrev pub difference_of : ℤ → ℤ → Option ℤ
-difference_of a b = integer (a -ℤ b)
+-- Names.
 
--- integers go by their size, texts by their bytes
-abbrev pub order_of : Scalar → Scalar → Option Ordering
-order_of (Int a) (Int b) = Some (int_cmp a b)
-order_of (Str a) (Str b) = Some (slice_cmp nat_cmp a b)
-order_of _ _ = None
+-- the place of a variable, where it has one
+abbrev pub place_in : Names → Env → Scope → Name → Option Place
+place_in names env Own n = slice_get env.places (place_of n names.own)
+place_in names env Model n = Some (record { frame = 0; slot = place_of n names.model })
 
--- whether two values of one kind are the same
-abbrev pub same_value : Scalar → Scalar → Option Bool
-same_value (Truth a) (Truth b) = Some (if a then b else not b)
-same_value (Model a) (Model b) = Some (nat_eq a b)
-same_value (Event a m) (Event b n) = Some (int_eq a b && int_eq m n)
-same_value a b = option_map is_eq (order_of a b)
+-- its value
+abbrev pub loaded : Option Place → State → Out Value
+loaded None s = Halts Lost None s
+loaded (Some place) s = or_stop Lost (load place s.memory.store) s
 
--- a comparison of two values of one kind
-abbrev pub compared : Comparison → Scalar → Scalar → Option Bool
-compared Equal a b = same_value a b
-compared NotEqual a b = option_map not (same_value a b)
-compared Less a b = option_map is_lt (order_of a b)
-compared AtMost a b = option_map (λ order. not (is_gt order)) (order_of a b)
-compared Greater a b = option_map is_gt (order_of a b)
-compared AtLeast a b = option_map (λ order. not (is_lt order)) (order_of a b)
+-- the constant that an index name is
+abbrev pub bound_in : List (Name × Scalar) → Name → Option Value
+bound_in [] n = None
+bound_in (one ∷ more) n = if bytes_eq n one.0 then Some (One one.1) else bound_in more n
 
--- a text, where it has at most 1,000,000 bytes
-abbrev pub limited : List ℕ → Option (List ℕ)
-limited text = if nat_le (length text) 1000000 then Some text else None
+-- one more index name
+abbrev pub with_index : Name → Scalar → Env → Env
+with_index n x env = record env { bound = (n, x) ∷ env.bound }
 
-abbrev pub truth_text : Bool → List ℕ
-truth_text true = codes "true"
-truth_text false = codes "false"
+-- Steps of evaluation.
 
--- the printed form of a value
-abbrev pub printed : Scalar → List ℕ
-printed (Int n) = signed_decimal n
-printed (Truth b) = truth_text b
-printed (Str text) = text
-printed (Model n) = codes "model " ++ decimal n
-printed (Event class value) = codes "event " ++ signed_decimal class ++ codes " " ++ signed_decimal value
+-- one way or the other, by a condition
+abbrev pub on_truth : {A : Type 0} → Value → State → Out A → Out A → Out A
+on_truth (One (Truth true)) s when_true when_false = when_true
+on_truth (One (Truth false)) s when_true when_false = when_false
+on_truth _ s when_true when_false = Halts Stuck None s
 
--- the printed form of a value as a text
-abbrev pub shown : Scalar → Option (List ℕ)
-shown value = limited (printed value)
+-- a tick first
+abbrev pub ticking : {A : Type 0} → World → State → (State → Out A) → Out A
+ticking w s go = bind (had (tick w s.counts) s) (λ done s1. go s1)
 
--- a newline, where one is wanted
-abbrev pub line_end : Bool → List ℕ
-line_end true = 10 ∷ []
-line_end false = []
+-- a call of a routine takes a tick
+abbrev pub calling : World → Routine → ℕ → List Argument → State → Out (Option Value)
+calling w call routine all s = ticking w s (λ s1. call routine all s1)
 
--- the output with more at its end, where it then has at most 1,048,576 bytes
-abbrev pub written : Memory → List ℕ → Option Memory
-written m more =
-    if nat_le (length m.output + length more) 1048576 then Some (record m { output = m.output ++ more }) else None
+-- the call that a function of the hub makes, and its value
+abbrev pub made : World → Calling → State → Out Value
+made w (Makes call) s = bind (had (ask w call s.counts) s) (λ r s1. or_stop Stuck (value_of_reply r) s1)
+made w (Refuses kind) s = Halts (Failed kind) None s
+made w Unfit s = Halts Stuck None s
+
+-- one more value
+abbrev pub with_first : Value → Option (List Value) → Option (List Value)
+with_first value None = None
+with_first value (Some values) = Some (value ∷ values)
+
+-- the values of arguments, none of which is shared
+abbrev pub values_in : List Argument → Option (List Value)
+values_in [] = Some []
+values_in (ByValue value ∷ rest) = with_first value (values_in rest)
+values_in (ByPlace place ∷ rest) = None
+
+-- the sum over members, each of which takes a tick, on top of the sum so far
+abbrev pub sums : World → (Scalar → State → Out Value) → (Scalar → State → Out Value) → List Scalar → Value → State → Out Value
+sums w condition body [] sofar s = Gave sofar s
+sums w condition body (x ∷ xs) sofar s =
+    ticking w s (λ s1. bind (condition x s1) (λ c s2. on_truth c s2
+    (bind (body x s2) (λ v s3. bind (answered (answer (between sum) (sofar ∷ v ∷ [])) s3) (λ total s4. sums w condition body xs total s4)))
+    (sums w condition body xs sofar s2)))
+
+abbrev mutual
+  -- the value of an expression
+  pub value_of : World → Routine → Names → Expression → Env → State → Out Value
+  value_of w call names (number n) env s = Gave (One (Int n)) s
+  value_of w call names (text t) env s = answered (how.text t) s
+  value_of w call names (truth b) env s = Gave (One (Truth b)) s
+  value_of w call names (variable scope n) env s = loaded (place_in names env scope n) s
+  value_of w call names (index n) env s = or_stop Lost (bound_in env.bound n) s
+  value_of w call names (apply operator a b) env s =
+      bind (value_of w call names a env s) (λ x s1. bind (value_of w call names b env s1) (λ y s2. answered (answer (between operator) (x ∷ y ∷ [])) s2))
+  value_of w call names (range_of a b) env s =
+      bind (value_of w call names a env s) (λ x s1. bind (value_of w call names b env s1) (λ y s2. answered (answer range (x ∷ y ∷ [])) s2))
+  value_of w call names (sum_over i set condition body) env s =
+      bind (value_of w call names set env s) (λ v s1. bind (or_stop Stuck (members_of v) s1) (λ xs s2.
+      sums w (λ x. value_of w call names condition (with_index i x env)) (λ x. value_of w call names body (with_index i x env)) xs (One (Int (pos 0))) s2))
+  value_of w call names (invoke routine all) env s =
+      bind (arguments_of w call names all env [] s) (λ given s1. bind (calling w call routine (reverse given) s1) (λ v s2. or_stop Stuck v s2))
+  value_of w call names (ask_hub function all) env s =
+      bind (arguments_of w call names all env [] s) (λ given s1. bind (or_stop Stuck (values_in (reverse given)) s1) (λ values s2. made w (call_of function values) s2))
+  value_of w call names unbuilt env s = Halts Lost None s
+
+  -- arguments in their order, on top of those so far, the last first
+  pub arguments_of : World → Routine → Names → Arguments → Env → List Argument → State → Out (List Argument)
+  arguments_of w call names no_argument env sofar s = Gave sofar s
+  arguments_of w call names (by_value e rest) env sofar s =
+      bind (value_of w call names e env s) (λ v s1. arguments_of w call names rest env (ByValue v ∷ sofar) s1)
+  arguments_of w call names (by_place scope n rest) env sofar s =
+      bind (or_stop Lost (place_in names env scope n) s) (λ place s1. arguments_of w call names rest env (ByPlace place ∷ sofar) s1)

@@ -1,5 +1,6 @@
 //! Worked examples of the definitions: functions that do nothing, whose contracts are the examples.
-ghost use Rattle.mos_meaning.specs.Examples.{HelloMeans, HelloSpent, HelloRefused, FiveMeans, TooMuchMeans, LastWayMeans, DownMeans, DownSpent, DownEnough, EndlessSpent, UntilTwoMeans, GreetingCalled, UnknownCalled, HelloCourse, HelloCourseSpent, HelloFollows, TooFewLines, NoModel, AnotherSource};
+ghost use Rattle.mos_meaning.specs.Examples.{HelloMeans, HelloSpent, HelloRefused, FiveMeans, TooMuchMeans, LastWayMeans, ParameterMeans, DownMeans, DownSpent, DownEnough, EndlessSpent, UntilTwoMeans, HelloCourse, HelloCourseSpent, ParameterCourses, MeaninglessOperands, HelloFollows, TooFewLines, NoModel, AnotherSource};
+ghost use Rattle.mos_meaning.specs.FormsToCome.{ExampleMeans, ExampleAgrees, TooDeepMeans, TooDeepAgrees};
 
 /// What a few models mean.
 pub fn meanings()
@@ -9,6 +10,7 @@ pub fn meanings()
     ensures sum { FiveMeans }
     ensures overflow { TooMuchMeans }
     ensures last_way { LastWayMeans }
+    ensures parameter { ParameterMeans }
 {}
 
 /// What models with loops mean.
@@ -20,16 +22,21 @@ pub fn meanings_of_loops()
     ensures until_two { UntilTwoMeans }
 {}
 
-/// What calls of routines do.
-pub fn calls_of_routines()
-    ensures greeting { GreetingCalled }
-    ensures unknown { UnknownCalled }
-{}
-
-/// What the image that writes hello does.
+/// What a few images do.
 pub fn courses()
     ensures hello { HelloCourse }
     ensures spent { HelloCourseSpent }
+    ensures parameter { ParameterCourses }
+    ensures meaningless { MeaninglessOperands }
+{}
+
+/// A model with an aggregate, a routine by reference and a call of the hub: what it means, and that the
+/// machine does the same.
+pub fn forms_to_come()
+    ensures means { ExampleMeans }
+    ensures agrees { ExampleAgrees }
+    ensures too_deep { TooDeepMeans }
+    ensures too_deep_agrees { TooDeepAgrees }
 {}
 
 /// A run line that follows its source.

@@ -1,12 +1,8 @@
-//! Laws of the machine: a function that does nothing, whose contract they are.
-ghost use Rattle.mos_meaning.specs.MachineLaws.{OverInTime, FewSteps, TicksFall, OneEnd, StepByStep, StaysOver};
+//! Laws of the meaning: a function that does nothing, whose contract they are.
+ghost use Rattle.mos_meaning.specs.Working.{WorkingNeverStuck, WorkingNeverLost};
 
-/// The machine of an image whose loops take ticks stops, after few steps for each tick, in one way.
-pub fn machine_laws()
-    ensures over_in_time { OverInTime }
-    ensures few_steps { FewSteps }
-    ensures ticks_fall { TicksFall }
-    ensures one_end { OneEnd }
-    ensures step_by_step { StepByStep }
-    ensures stays_over { StaysOver }
+/// No run of a model whose statements work is stuck or lost.
+pub fn working_models()
+    ensures never_stuck { WorkingNeverStuck }
+    ensures never_lost { WorkingNeverLost }
 {}

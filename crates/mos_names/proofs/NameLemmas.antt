@@ -6,8 +6,8 @@ use Rattle.std.specs.Str.{bytes_eq}
 use Rattle.std.proofs.lemmas.List.{map-append}
 use Rattle.std.proofs.lemmas.List.Recursion.{is_position_or_len}
 use Rattle.std.proofs.lemmas.List.Sums.{prefix_len-le-length}
-use Rattle.mos_meaning.specs.Syntax.{has_name, with_name}
-use Rattle.mos_meaning.specs.Effects.{place_of}
+use Rattle.mos_names.specs.NameLists.{has_name, with_name}
+use Rattle.mos_names.specs.NameLists.{place_of}
 use Rattle.indexmap.specs.IndexSet.{insert_key}
 
 module _ {X : Type 0} (p : X → Bool) (xs : List X) where

@@ -1,7 +1,7 @@
 //! Distinct names in their order.
 ghost use Rattle.std.specs.Prelude.{◌≡◌, [], ◌≤◌, ◌↔◌, IsTrue, IfOk, OnOk, OnErr, length};
-ghost use Rattle.mos_meaning.specs.Effects.{place_of};
-ghost use Rattle.mos_meaning.specs.Syntax.{has_name, with_name};
+ghost use Rattle.mos_names.specs.NameLists.{place_of};
+ghost use Rattle.mos_names.specs.NameLists.{has_name, with_name};
 
 use indexmap::IndexSet;
 use mos_text::{NoMemory, Text};

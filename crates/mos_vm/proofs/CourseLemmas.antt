@@ -1,36 +1,41 @@
 -- The course of an image, step by step.
 
-use Rattle.std.proofs.Common.{◌≡◌, ◌≤◌, ◌<◌, ◌^◌, ◌*◌, ℕ, ◌+◌, ◌-◌, List, [], length, Option, Some, None, refl, sym, ap, ◌∙◌, mul-le-mul_right, true, false, arith}
+use Rattle.std.proofs.Common.{◌≡◌, ◌≤◌, ◌<◌, ◌^◌, ◌*◌, ℕ, ◌+◌, List, [], length, Option, Some, None, refl, sym, ap, ◌∙◌, subst, mul-le-mul_right, true, false, arith}
 use Rattle.std.proofs.lemmas.Bool.Decides.{nat_tests}
 use Rattle.std.specs.Prelude.{nat_le}
 use Rattle.bim_code.specs.declared.image.Image.{Image}
 use Rattle.bim_code.specs.declared.instruction.Instruction.{Instruction}
-use Rattle.bim_code.specs.Rows.{width}
 use Rattle.bim_code.specs.Code.{instruction_at, code_size}
-use Rattle.mos_meaning.specs.State.{State, Stuck}
-use Rattle.mos_meaning.specs.Machine.{At, Over, Frame, target, decoded, run, steps_taken, start, most_steps, told_machine, Course}
-use Rattle.mos_meaning.specs.MachineLaws.{KeepsTicks, ticks_left, OverInTime, FewSteps, StepByStep, StaysOver}
+use Rattle.run_state.specs.Stops.{Stuck, Course, Outcome}
+use Rattle.mos_value.specs.Values.{Value}
+use Rattle.bim_machine.specs.Starts.{Begins, beginning_of}
+use Rattle.bim_machine.specs.Machine.{Machine, Over}
+use Rattle.bim_machine.specs.Courses.{Progress, site_of, decoded, step, main, most_steps, told_course, course_from}
+use Rattle.bim_machine.specs.Laws.{IsOver, StepByStep, StaysOver, TicksWithin}
 use Rattle.mos_vm.specs.declared.stop.Stop.{Stop as VmStop}
 use Rattle.mos_vm.specs.declared.stop.Control.{Control}
 use Rattle.mos_vm.specs.declared.runner.RunResult.{RunResult}
-use Rattle.mos_vm.specs.MachineState.{MachineState}
-use Rattle.mos_vm.specs.Courses.{IsCourse, stop_of}
-use Rattle.mos_vm.specs.Running.{IsResultOf}
+use Rattle.mos_vm.specs.Courses.{stop_of, IsCourse}
 use Rattle.mos_vm.specs.ByAddress.{by_address, found_at}
-use Rattle.mos_vm.specs.Stepping.{IsStep, state_after}
+use Rattle.mos_vm.specs.Stepping.{Kept, machine_with, world, machine_after, IsStep, IsResultOf}
+use Rattle.mos_vm.specs.Running.{machine_at, after_steps, IsOverInTime, IsRunOf}
 use Rattle.mos_vm.proofs.AddressLemmas.{begun_is, length_within}
 
+-- after so many steps the machine is this one
+abbrev pub IsBehind : Image → ℕ → Kept → ℕ → Machine → Type 0
+IsBehind image budget kept n machine = after_steps image budget kept n ≡ record { steps = n; machine = machine }
+
 -- a machine that stands after some steps has more steps before it
-pub still_few : (image : Image) (budget n address : ℕ) (f : Frame) (s : State) → OverInTime → StaysOver → KeepsTicks image
-    → run image n (start image [] budget) ≡ At address f s → n < most_steps image budget
-still_few image budget n address f s in_time stays keeps stands = tested (nat_le (most_steps image budget) n) refl
+pub still_few : (image : Image) (budget : ℕ) (kept : Kept) (n address : ℕ) (now : Kept) → StaysOver → IsOverInTime image budget kept
+    → IsBehind image budget kept n (machine_at address now) → n < most_steps image budget
+still_few image budget kept n address now stays over stands = tested (nat_le (most_steps image budget) n) refl
   where
     tested : (b : _) → nat_le (most_steps image budget) n ≡ b → n < most_steps image budget
     tested true e =
         let most : most_steps image budget ≤ n = grind (arith, nat_tests, e) in
-        let o = in_time image [] budget keeps in
-        let over = (stays image (start image [] budget) (most_steps image budget) n o.stop o.state o.by most).0 in
-        let both : At address f s ≡ Over o.stop o.state = sym stands ∙ over in
+        let same = stays image (world budget) (most_steps image budget) n 0 (machine_at 0 kept) over most in
+        let both : machine_at address now ≡ Over over.stop over.address over.state =
+        ap (λ (p : Progress). p.machine) (sym stands ∙ same) ∙ over.by in
         cc
     tested false e = grind (arith, nat_tests, e)
 
@@ -47,61 +52,48 @@ pub found_there : (image : Image) (bytes : List (Option Instruction)) (address :
     → bytes ≡ by_address image.code → found_at bytes address ≡ found → instruction_at image.code address ≡ found
 found_there image bytes address found is e = sym (begun_is image.code address) ∙ ap (λ all. found_at all address) (sym is) ∙ e
 
+-- one step more
+one_step : (image : Image) (budget : ℕ) (kept : Kept) (n address : ℕ) (old : Kept) (found : Option Instruction) → StepByStep
+    → IsBehind image budget kept n (machine_at address old) → instruction_at image.code address ≡ found
+    → IsBehind image budget kept (n + 1) (decoded image (world budget) found address old.work main old.state)
+one_step image budget kept n address old found by_step stands is =
+    let steps : 0 + n + 1 ≡ n + 1 = omega arith in
+    by_step image (world budget) n 0 address old.work main old.state (machine_at 0 kept) (ap (λ (p : Progress). p.machine) stands)
+    ∙ ap (λ k. record { steps = k; machine = step image (world budget) address old.work main old.state }) steps
+    ∙ ap (λ there. record { steps = n + 1; machine = decoded image (world budget) there address old.work main old.state }) is
+
 -- one instruction leads on
-pub leads_on : (image : Image) (budget n address : ℕ) (old : MachineState) (i : Instruction) (flow : Control) (new : MachineState) → StepByStep
-    → run image n (start image [] budget) ≡ At address old.frame old.state
-    → instruction_at image.code address ≡ Some i → IsStep image i old flow new
-    → run image (n + 1) (start image [] budget) ≡ state_after (address + width i) (target i (address + width i)) flow new
-leads_on image budget n address old i flow new by_step stands found leads =
-    (by_step image (start image [] budget) n address old.frame old.state stands).0
-    ∙ ap (λ begun. decoded image begun address old.frame old.state) found
-    ∙ leads (address + width i) (target i (address + width i))
+pub leads_on : (image : Image) (budget : ℕ) (kept : Kept) (n address : ℕ) (old : Kept) (i : Instruction) (flow : Control) (new : Kept) → StepByStep
+    → IsBehind image budget kept n (machine_at address old) → instruction_at image.code address ≡ Some i → IsStep image budget i old flow new
+    → IsBehind image budget kept (n + 1) (machine_after (site_of i address) flow new)
+leads_on image budget kept n address old i flow new by_step stands found leads =
+    one_step image budget kept n address old (Some i) by_step stands found
+    ∙ ap (λ (m : Machine). record { steps = n + 1; machine = m }) (leads (site_of i address))
 
 -- where nothing begins the machine is stuck
-pub stuck_on : (image : Image) (budget n address : ℕ) (old : MachineState) → StepByStep
-    → run image n (start image [] budget) ≡ At address old.frame old.state → instruction_at image.code address ≡ None
-    → run image (n + 1) (start image [] budget) ≡ Over Stuck old.state
-stuck_on image budget n address old by_step stands none =
-    (by_step image (start image [] budget) n address old.frame old.state stands).0
-    ∙ ap (λ begun. decoded image begun address old.frame old.state) none
+pub stuck_on : (image : Image) (budget : ℕ) (kept : Kept) (n address : ℕ) (old : Kept) → StepByStep
+    → IsBehind image budget kept n (machine_at address old) → instruction_at image.code address ≡ None
+    → IsBehind image budget kept (n + 1) (Over Stuck address old.state)
+stuck_on image budget kept n address old by_step stands none = one_step image budget kept n address old None by_step stands none
 
--- a machine that stops after one step more has its whole course behind it
-pub record Stops (image : Image) (budget n : ℕ) (h : VmStop) (new : MachineState) (ran : RunResult) : Type 0 where
-  pub over : run image (n + 1) (start image [] budget) ≡ Over (stop_of h) new.state
-  pub steps : steps_taken image (n + 1) (start image [] budget) ≡ n + 1
-  pub few : n < most_steps image budget
-  pub told_is : IsResultOf new h budget (n + 1) ran
-
-pub is_stop : (image : Image) (budget n address : ℕ) (old : MachineState) (h : VmStop) (new : MachineState) (ran : RunResult) → OverInTime → StaysOver → StepByStep → KeepsTicks image
-    → run image n (start image [] budget) ≡ At address old.frame old.state
-    → run image (n + 1) (start image [] budget) ≡ Over (stop_of h) new.state
-    → IsResultOf new h budget (n + 1) ran → Stops image budget n h new ran
-is_stop image budget n address old h new ran in_time stays by_step keeps stands over told_is = record {
-  over = over;
-  steps = (by_step image (start image [] budget) n address old.frame old.state stands).2;
-  few = still_few image budget n address old.frame old.state in_time stays keeps stands;
-  told_is = told_is;
-}
-
-course_eq : (o o' : _) (n n' : ℕ) → o ≡ o' → n ≡ n' → (let c : Course = record { outcome = o; steps = n } in c) ≡ record { outcome = o'; steps = n' }
+course_eq : (o o' : Outcome) (n n' : ℕ) → o ≡ o' → n ≡ n' → (let c : Course = record { outcome = o; steps = n } in c) ≡ record { outcome = o'; steps = n' }
 course_eq o o' n n' p q = ap (λ x. record { outcome = x; steps = n }) p ∙ ap (λ m. record { outcome = o'; steps = m }) q
 
-pub is_course : (image : Image) (budget n : ℕ) (h : VmStop) (new : MachineState) (ran : RunResult) → StaysOver → Stops image budget n h new ran → IsCourse image budget ran
-is_course image budget n h new ran stays stops =
-    let few = stops.few in
-    let all = stays image (start image [] budget) (n + 1) (most_steps image budget) (stop_of h) new.state stops.over (omega (arith, few)) in
-    course_eq _ _ _ _
-    (ap (told_machine budget) all.0 ∙ sym stops.told_is.0)
-    (all.1 ∙ stops.steps ∙ sym stops.told_is.1)
+-- a machine that stops after one step more has its whole course behind it
+pub is_run : (image : Image) (budget : ℕ) (kept : Kept) (n address : ℕ) (how : VmStop) (new : Kept) (ran : RunResult) → StaysOver
+    → n < most_steps image budget → IsBehind image budget kept (n + 1) (Over (stop_of how) address new.state) → IsResultOf new how (n + 1) ran
+    → IsRunOf image budget kept ran
+is_run image budget kept n address how new ran stays few over told_is =
+    let is_over : IsOver (after_steps image budget kept (n + 1)).machine =
+    record { stop = stop_of how; address = address; state = new.state; by = ap (λ (p : Progress). p.machine) over } in
+    ap told_course (stays image (world budget) (n + 1) (most_steps image budget) 0 (machine_at 0 kept) is_over (omega (arith, few)) ∙ over)
+    ∙ course_eq _ _ _ _ (sym told_is.0) (sym told_is.1)
 
-pub few_steps : (image : Image) (budget n : ℕ) (h : VmStop) (new : MachineState) (ran : RunResult) → FewSteps → KeepsTicks image → Stops image budget n h new ran
-    → ran.steps ≤ length image.code * (2 * ran.ticks + 2)
-few_steps image budget n h new ran few keeps stops =
-    let most = few image [] budget (n + 1) keeps in
-    let left : ticks_left (run image (n + 1) (start image [] budget)) ≡ new.state.ticks = ap ticks_left stops.over in
-    let ticks : ran.ticks ≡ budget - new.state.ticks = ap (λ o. o.ticks) stops.told_is.0 in
-    let same : most_steps image (budget - ticks_left (run image (n + 1) (start image [] budget))) ≡ length image.code * (2 * ran.ticks + 2) =
-    ap (λ t. most_steps image (budget - t)) left ∙ sym (ap (most_steps image) ticks) in
-    let steps = stops.steps in
-    let told_steps = stops.told_is.1 in
-    omega (arith, most, same, steps, told_steps)
+-- a run from the beginning is the course of the image
+pub course_by : (image : Image) (budget : ℕ) (values : List Value) (ran : RunResult) → beginning_of image [] ≡ Begins values
+    → IsRunOf image budget (machine_with values) ran → IsCourse image budget ran
+course_by image budget values ran begins is = ap (course_from image (world budget)) begins ∙ is
+
+-- whose ticks are within its budget
+pub ticks_of : (image : Image) (budget : ℕ) (ran : RunResult) → TicksWithin → IsCourse image budget ran → ran.ticks ≤ budget
+ticks_of image budget ran within is = subst (λ (course : Course). course.outcome.ticks ≤ budget) is (within image [] [] budget)

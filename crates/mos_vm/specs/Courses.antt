@@ -2,9 +2,9 @@
 
 use Rattle.std.specs.Prelude.{◌≡◌, ℕ, []}
 use Rattle.bim_code.specs.declared.image.Image.{Image}
-use Rattle.mos_meaning.specs.State.{Outcome, Stop}
-use Rattle.mos_meaning.specs.State as stop
-use Rattle.mos_meaning.specs.Machine.{course_of}
+use Rattle.run_state.specs.Stops.{Outcome, Stop}
+use Rattle.run_state.specs.Stops as stop
+use Rattle.bim_machine.specs.Courses.{course_of}
 use Rattle.mos_vm.specs.declared.stop.Stop.{Stop as VmStop}
 use Rattle.mos_vm.specs.declared.stop.Stop.TheVariants as vm
 use Rattle.mos_vm.specs.declared.runner.RunResult.{RunResult}
@@ -20,6 +20,6 @@ stop_of vm.Stuck = stop.Stuck
 abbrev pub outcome_of : RunResult → Outcome
 outcome_of ran = record { output = ran.output; calls = []; ticks = ran.ticks; stop = stop_of ran.stop }
 
--- the run is the course of the image, with no replies
+-- the run is the course of the image, with the empty parameter text and no replies
 abbrev pub IsCourse : Image → ℕ → RunResult → Type 0
 IsCourse image budget ran = course_of image [] [] budget ≡ record { outcome = outcome_of ran; steps = ran.steps }

@@ -1,5 +1,7 @@
-pub mod MachineState
-pub mod Courses
-pub mod Stepping
-pub mod Running
 pub mod ByAddress
+pub mod Courses
+pub mod HeldValues
+pub mod Rows
+pub mod Stepping
+pub mod Beginnings
+pub mod Running

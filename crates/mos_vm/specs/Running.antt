@@ -1,20 +1,37 @@
--- As the code goes about it: how a machine begins, and what it leaves when it stops.
+-- As the code goes about it: the run of a machine from its first instruction on.
 
 use Rattle.std.specs.Prelude.{◌≡◌, ℕ, []}
-use Rattle.mos_meaning.specs.State.{beginning}
-use Rattle.mos_meaning.specs.Meaning.{told, defaults}
-use Rattle.mos_vm.specs.declared.stop.Stop.{Stop as VmStop}
+use Rattle.bim_code.specs.declared.image.Image.{Image}
+use Rattle.run_state.specs.Stops.{Stuck, Course}
+use Rattle.run_state.specs.State.{beginning}
+use Rattle.run_state.specs.State as state
+use Rattle.bim_machine.specs.Machine.{Machine, At}
+use Rattle.bim_machine.specs.Courses.{Progress, run, main, most_steps, told_course}
+use Rattle.bim_machine.specs.Laws.{IsOver}
 use Rattle.mos_vm.specs.declared.runner.RunResult.{RunResult}
-use Rattle.mos_vm.specs.Courses.{stop_of, outcome_of}
-use Rattle.mos_vm.specs.MachineState.{MachineState}
+use Rattle.mos_vm.specs.Courses.{outcome_of}
+use Rattle.mos_vm.specs.Stepping.{Kept, world}
 
--- a machine that begins with so many variables
-abbrev pub begins : ℕ → ℕ → MachineState
-begins many budget = record {
-  frame = record { stack = []; held = [] };
-  state = beginning (defaults many) [] budget;
-}
+-- a machine at an address
+abbrev pub machine_at : ℕ → Kept → Machine
+machine_at address kept = At address kept.work main kept.state
 
--- the result of a machine that stopped so, after so many steps
-abbrev pub IsResultOf : MachineState → VmStop → ℕ → ℕ → RunResult → Type 0
-IsResultOf m how budget steps ran = (outcome_of ran ≡ told budget (stop_of how) m.state) × (ran.steps ≡ steps)
+-- the machine behind so many steps from address 0
+abbrev pub after_steps : Image → ℕ → Kept → ℕ → Progress
+after_steps image budget kept n = run image (world budget) n 0 (machine_at 0 kept)
+
+-- it is over after as many steps as a course is given
+abbrev pub IsOverInTime : Image → ℕ → Kept → Type 0
+IsOverInTime image budget kept = IsOver (after_steps image budget kept (most_steps image budget)).machine
+
+-- what is told of a run
+abbrev pub course_of_run : RunResult → Course
+course_of_run ran = record { outcome = outcome_of ran; steps = ran.steps }
+
+-- it is all that the machine does
+abbrev pub IsRunOf : Image → ℕ → Kept → RunResult → Type 0
+IsRunOf image budget kept ran = told_course (after_steps image budget kept (most_steps image budget)) ≡ course_of_run ran
+
+-- the run of an image without a beginning
+abbrev pub IsBroken : RunResult → Type 0
+IsBroken ran = course_of_run ran ≡ record { outcome = state.outcome_of Stuck (beginning []); steps = 0 }

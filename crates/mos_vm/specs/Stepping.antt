@@ -1,49 +1,51 @@
--- As the code goes about it: what one instruction makes of the machine that the program keeps.
+-- As the code goes about it: what the program keeps of a machine, but for the address of its
+-- instruction, and where one instruction leads it.
 
-use Rattle.std.specs.Prelude.{◌≡◌, ℕ, ℤ, [], Option}
+use Rattle.std.specs.Prelude.{◌≡◌, ℕ, List, []}
 use Rattle.bim_code.specs.declared.image.Image.{Image}
 use Rattle.bim_code.specs.declared.instruction.Instruction.{Instruction}
-use Rattle.mos_meaning.specs.Machine.{Machine, At, Over, act, settle, on_integers, or_fault, On}
-use Rattle.mos_text.specs.declared.fault_kind.FaultKind.TheVariants.{OutFull}
-use Rattle.mos_meaning.specs.Values.{sum_of, difference_of, written}
-use Rattle.mos_vm.specs.declared.arithmetic.Operator.{Operator}
-use Rattle.mos_vm.specs.declared.arithmetic.Operator.TheVariants.{Sum, Difference}
+use Rattle.mos_value.specs.Values.{Value}
+use Rattle.run_state.specs.State.{World, State, beginning}
+use Rattle.run_state.specs.State as state
+use Rattle.bim_machine.specs.Machine.{Machine, At, Over, Work, Site, Act, idle, settle}
+use Rattle.bim_machine.specs.Instructions.{act}
+use Rattle.bim_machine.specs.Courses.{main}
+use Rattle.mos_vm.specs.declared.stop.Stop.{Stop as VmStop}
 use Rattle.mos_vm.specs.declared.stop.Control.{Control}
 use Rattle.mos_vm.specs.declared.stop.Control.TheVariants.{Goes, Jumps, Halts}
-use Rattle.mos_vm.specs.Courses.{stop_of}
-use Rattle.mos_vm.specs.MachineState.{MachineState}
+use Rattle.mos_vm.specs.declared.runner.RunResult.{RunResult}
+use Rattle.mos_vm.specs.Courses.{stop_of, outcome_of}
 
--- the state of the abstract machine: behind the instruction, where that names, or over
-abbrev pub state_after : ℕ → ℕ → Control → MachineState → Machine
-state_after next named Goes m = At next m.frame m.state
-state_after next named Jumps m = At named m.frame m.state
-state_after next named (Halts how) m = Over (stop_of how) m.state
+-- what is at hand, and the state of the run
+pub record Kept : Type 0 where
+  pub work : Work
+  pub state : State
+
+-- no replies yet, and so many ticks
+abbrev pub world : ℕ → World
+world budget = record { replies = []; budget = budget }
+
+-- a machine that begins with these values in its global slots
+abbrev pub machine_with : List Value → Kept
+machine_with values = record { work = idle; state = beginning values }
+
+-- the machine behind an instruction, or where that names, or over
+abbrev pub machine_after : Site → Control → Kept → Machine
+machine_after site Goes kept = At site.next kept.work main kept.state
+machine_after site Jumps kept = At site.named kept.work main kept.state
+machine_after site (Halts how) kept = Over (stop_of how) site.at kept.state
+
+-- what is asked for leads there, of whatever image and wherever it stands
+abbrev pub Settles : ℕ → Act → Kept → Control → Kept → Type 0
+Settles budget asked before control after = (image : Image) (site : Site)
+    → settle image (world budget) asked site main before.state ≡ machine_after site control after
 
 -- the instruction leads from the one to the other, wherever it stands
-abbrev pub IsStep : Image → Instruction → MachineState → Control → MachineState → Type 0
-IsStep image i before control after =
-    (next named : ℕ) → settle (act image i before.frame before.state.memory) next named before.state ≡ state_after next named control after
+abbrev pub IsStep : Image → ℕ → Instruction → Kept → Control → Kept → Type 0
+IsStep image budget i before control after = (site : Site)
+    → settle image (world budget) (act image.constants i main.slots before.work before.state.memory.store) site main before.state
+    ≡ machine_after site control after
 
--- an image that has nothing
-abbrev pub no_image : Image
-no_image = record { constants = []; types = []; params = []; globals = []; routines = []; points = []; code = [] }
-
--- the same for an instruction that looks at nothing of the image
-abbrev pub IsStepAnywhere : Instruction → MachineState → Control → MachineState → Type 0
-IsStepAnywhere i before control after = IsStep no_image i before control after
-
--- the operator on integers that is carried out
-abbrev pub operation : Operator → ℤ → ℤ → Option ℤ
-operation Sum = sum_of
-operation Difference = difference_of
-
--- the operator on the two integers on top leads from the one to the other
-abbrev pub Combines : Operator → MachineState → Control → MachineState → Type 0
-Combines operator before control after =
-    (next named : ℕ) → settle (on_integers (operation operator) before.frame before.state.memory) next named before.state ≡ state_after next named control after
-
--- all that is held leads to the output, where it still has room
-abbrev pub WritesHeld : MachineState → Control → MachineState → Type 0
-WritesHeld before control after =
-    (next named : ℕ) → settle (or_fault OutFull (written before.state.memory before.frame.held) (λ m. On (record before.frame { held = [] }) m)) next named before.state
-    ≡ state_after next named control after
+-- the result of a machine that stopped so, after so many steps
+abbrev pub IsResultOf : Kept → VmStop → ℕ → RunResult → Type 0
+IsResultOf kept how steps ran = (outcome_of ran ≡ state.outcome_of (stop_of how) kept.state) × (ran.steps ≡ steps)

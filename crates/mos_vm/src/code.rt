@@ -1,7 +1,6 @@
 //! Code by its addresses: what begins at each byte.
 ghost use Rattle.std.specs.Prelude.{◌≡◌, ◌++◌, None, IfOk, OnOk, replicate};
-ghost use Rattle.mos_meaning.specs.Machine.{target};
-ghost use Rattle.mos_vm.specs.ByAddress.{by_address, cells_of, found_at};
+ghost use Rattle.mos_vm.specs.ByAddress.{by_address, cells_of, found_at, target};
 
 use bim_code::Instruction;
 use mos_text::NoMemory;

@@ -1,12 +1,18 @@
-//! The machine that carries out an image: it keeps operands, held texts, variables, output and
-//! ticks, and does with them, instruction by instruction, what the definitions say.
+//! The machine that carries out an image: it keeps operands, held texts, values, output and ticks,
+//! and does with them, instruction by instruction, what the definitions say.
 #![tactic(auto)]
 
-mod arithmetic;
+mod answers;
+mod asked;
 mod code;
 mod machine;
+mod printing;
+mod rows;
 mod runner;
+mod start;
 mod stop;
+mod value;
+mod work;
 
 pub use runner::{RunResult, run};
 pub use stop::Stop;

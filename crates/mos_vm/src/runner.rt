@@ -1,14 +1,16 @@
 //! Carries out a whole image, and says what can be told of the run.
-ghost use Rattle.std.specs.Prelude.{◌≡◌, ◌<◌, ◌≤◌, ◌+◌, ◌*◌, ◌^◌, IfOk, length};
+ghost use Rattle.std.specs.Prelude.{◌<◌, ◌≤◌, ◌+◌, ◌*◌, ◌^◌, IfOk, length};
 ghost use Rattle.bim_code.specs.Code.{code_size};
-ghost use Rattle.mos_meaning.specs.MachineLaws.{KeepsTicks};
+ghost use Rattle.bim_code.specs.Rules.{KeepsTicks};
 ghost use Rattle.mos_vm.specs.Courses.{IsCourse};
+ghost use Rattle.mos_vm.specs.Running.{IsOverInTime, IsRunOf, IsBroken};
 
 use crate::code::{by_address, found_at, target};
 use crate::machine::Machine;
+use crate::start::beginning;
 use crate::stop::{Control, Stop};
 use bim_code::Image;
-use mos_meaning::machine_laws;
+use bim_machine::machine_laws;
 use mos_text::{Blob, NoMemory};
 use std::alloc::Global;
 
@@ -24,7 +26,8 @@ pub struct RunResult {
     pub steps: u64,
 }
 
-/// Carries out an image with the empty parameter text, for so many ticks. Calls are not made yet.
+/// Carries out an image with the empty parameter text, for so many ticks. It makes no call: no
+/// instruction asks for one yet.
 pub fn run(alloc: Global, image: &Image, budget: u32) -> Result<RunResult, NoMemory>
     requires keeps { KeepsTicks image.now }
     requires small { code_size image.now.code < 2 ^ 30 }
@@ -33,20 +36,46 @@ pub fn run(alloc: Global, image: &Image, budget: u32) -> Result<RunResult, NoMem
     ensures steps { IfOk result (λ ran. ran.steps ≤ length image.now.code * (2 * ran.ticks + 2)) }
 {
     machine_laws();
+    match beginning(alloc, image)? {
+        Some(values) => go(alloc, image, budget, Machine::begin(alloc, values)),
+        None => Ok(broken(alloc)),
+    }
+}
+
+/// The run of an image whose tables are wrong.
+fn broken(alloc: Global) -> RunResult
+    ensures { IsBroken result }
+{
+    RunResult {
+        stop: Stop::Stuck,
+        output: Blob::from_vec(Vec::new(alloc)),
+        ticks: 0,
+        steps: 0,
+    }
+}
+
+/// Carries out an image from its first instruction on.
+fn go(alloc: Global, image: &Image, budget: u32, machine: Machine) -> Result<RunResult, NoMemory>
+    requires over { IsOverInTime image.now budget machine }
+    requires small { code_size image.now.code < 2 ^ 30 }
+    ensures { IfOk result (λ ran. IsRunOf image.now budget machine ran) }
+{
+    machine_laws();
     let code = by_address(alloc, image.code.as_slice())?;
-    let mut machine = Machine::begin(alloc, image.globals.len(), budget)?;
+    let mut machine = machine;
     let mut address: u32 = 0;
     let mut steps: u64 = 0;
     loop {
+        let begun = steps + 1;
         let Some(instruction) = found_at(&code, address) else {
-            return Ok(machine.ended(Stop::Stuck, budget, steps + 1));
+            return Ok(machine.ended(Stop::Stuck, begun));
         };
         let next = address + instruction.width();
-        match machine.step(alloc, image, instruction)? {
+        match machine.step(alloc, image, budget, instruction)? {
             Control::Goes => address = next,
             Control::Jumps => address = target(instruction, next),
-            Control::Halts(halt) => return Ok(machine.ended(halt, budget, steps + 1)),
+            Control::Halts(stop) => return Ok(machine.ended(stop, begun)),
         }
-        steps += 1;
+        steps = begun;
     }
 }

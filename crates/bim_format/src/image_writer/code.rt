@@ -4,7 +4,7 @@ ghost use Rattle.bim_code.specs.Code.{code_bytes, code_size};
 
 use super::numbers::put_u32;
 use super::spelled::{Spelled, put_all};
-use bim_code::Instruction;
+use bim_code::{Instruction, Operands};
 use std::alloc::AllocError;
 
 impl Spelled for Instruction {
@@ -16,10 +16,14 @@ impl Spelled for Instruction {
 
     fn put(&self, out: &mut Vec<u8>) -> Result<(), AllocError> {
         out.push(self.code())?;
-        if let Some(operand) = self.operand() {
-            put_u32(out, operand)?;
+        match self.operands() {
+            Operands::None => Ok(()),
+            Operands::One(operand) => put_u32(out, operand),
+            Operands::Two(first, second) => {
+                put_u32(out, first)?;
+                put_u32(out, second)
+            }
         }
-        Ok(())
     }
 }
 

@@ -1,6 +1,6 @@
 -- the end of what is still to come is the end of all
 use Rattle.std.proofs.Common.{◌≡◌, ◌≤◌, ◌+◌, ◌*◌, drop}
-use Rattle.mos_meaning.specs.Syntax.{block_of, branches_of}
+use Rattle.mos_meaning.specs.Sources.{block_of, branches_of}
 use Rattle.bim_compile.specs.Built.{AreBuiltBranches, IsBuiltBlock}
 use Rattle.bim_compile.specs.Compiled.{branches_end, block_end}
 use Rattle.bim_compile.specs.Sizes.{size_of_branches, size_of_block}

@@ -1,6 +1,6 @@
 -- the end of what is still to come is the end of all
 use Rattle.std.proofs.Common.{◌≡◌, ◌≤◌, ◌+◌, ◌*◌, drop, map}
-use Rattle.mos_meaning.specs.Syntax.{block, top_effect}
+use Rattle.mos_meaning.specs.Sources.{block, top_effect}
 use Rattle.bim_compile.specs.Built.{IsBuiltBlock}
 use Rattle.bim_compile.specs.Compiled.{block_end}
 use Rattle.bim_compile.specs.Sizes.{size_of_block}

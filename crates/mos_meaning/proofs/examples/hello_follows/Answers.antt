@@ -6,6 +6,7 @@ use Rattle.job_calls.specs.Runs.{Opening}
 use Rattle.job_calls.specs.HelloJournal.{hello_entries, hello_runs, hello_file}
 use Rattle.mos_meaning.specs.Examples.{hello, hello_image, hello_behaviours}
 use Rattle.mos_meaning.specs.Follows.{Follows, behaviour_of}
+use Rattle.mos_meaning.specs.Sources.{program_of}
 use Rattle.mos_meaning.proofs.examples.hello_follows.Goals as goal
 
 abbrev opened : Opening
@@ -19,7 +20,7 @@ each zero line e = subst (Follows hello_entries opened hello_behaviours 0) (insi
   source = 0;
   params = [];
   file = hello_file;
-  behaviour = behaviour_of hello hello_image;
+  behaviour = behaviour_of (program_of hello) hello_image;
   source_is = refl;
   params_is = refl;
   file_is = refl;

@@ -5,4 +5,4 @@ use Rattle.mos_meaning.proofs.examples.meanings.Goals as goal
 
 pub returns : goal.returns
 unfolding digits
-returns c = record { hello = refl; spent = refl; refused = refl; sum = refl; overflow = refl; last_way = refl }
+returns c = record { hello = refl; spent = refl; refused = refl; sum = refl; overflow = refl; last_way = refl; parameter = (refl, refl, refl) }

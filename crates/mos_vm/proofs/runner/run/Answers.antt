@@ -1,115 +1,21 @@
--- each pass is one step of the machine, and the last is the end of its course
-use Rattle.std.proofs.Common.{◌≡◌, ◌<◌, ◌+◌, ap, sym, ◌∙◌, None, Some, arith}
-use Rattle.bim_code.specs.Code.{instruction_at}
-use Rattle.mos_meaning.specs.Machine.{At, target, most_steps}
-use Rattle.mos_vm.specs.declared.stop.Stop.TheVariants as vm
-use Rattle.mos_vm.specs.declared.stop.Control.TheVariants.{Goes, Jumps, Halts}
-use Rattle.mos_vm.proofs.CourseLemmas.{still_few, steps_fit, found_there, leads_on, stuck_on, is_course, few_steps, is_stop}
-use Rattle.mos_vm.proofs.AddressLemmas.{at_within}
+-- by the laws of the machine
+use Rattle.std.proofs.Common.{sym, subst}
+use Rattle.std.proofs.lemmas.Result.{IfOk-weaker}
+use Rattle.mos_vm.specs.Running.{IsOverInTime}
+use Rattle.mos_vm.specs.Stepping.{world}
+use Rattle.mos_vm.proofs.CourseLemmas.{course_by, ticks_of}
 use Rattle.mos_vm.proofs.runner.run.Goals as goal
-use Rattle.mos_vm.proofs.runner.run.Goals.{in-Goes, in-Jumps}
 
-pub overflow_add-steps : goal.overflow_add-steps
-overflow_add-steps c =
-    let laws = c.machine_laws.ensures in
-    let few = still_few c.args.image.now c.args.budget c.loop-instruction.steps _ _ _ laws.over_in_time laws.stays_over c.requires.keeps c.loop-instruction.invariant.stands in
-    let fit = steps_fit c.args.image.now c.args.budget c.requires.small c.ranges.budget.fits in
-    omega (arith, few, fit)
+pub go-requires-clause-over : goal.go-requires-clause-over
+go-requires-clause-over c =
+    subst (IsOverInTime c.args.image.now c.args.budget) (sym c.begin.ensures)
+    (c.machine_laws.ensures.over_in_time c.args.image.now (world c.args.budget) c.in-Some.values c.requires.keeps)
 
-pub overflow_add-steps-in-Halts : goal.overflow_add-steps-in-Halts
-overflow_add-steps-in-Halts c =
-    let laws = c.machine_laws.ensures in
-    let few = still_few c.args.image.now c.args.budget c.loop-instruction.steps _ _ _ laws.over_in_time laws.stays_over c.requires.keeps c.loop-instruction.invariant.stands in
-    let fit = steps_fit c.args.image.now c.args.budget c.requires.small c.ranges.budget.fits in
-    omega (arith, few, fit)
-
-pub overflow_add-steps-in-loop-instruction : goal.overflow_add-steps-in-loop-instruction
-overflow_add-steps-in-loop-instruction c =
-    let laws = c.machine_laws.ensures in
-    let few = still_few c.args.image.now c.args.budget c.loop-instruction.steps _ _ _ laws.over_in_time laws.stays_over c.requires.keeps c.loop-instruction.invariant.stands in
-    let fit = steps_fit c.args.image.now c.args.budget c.requires.small c.ranges.budget.fits in
-    omega (arith, few, fit)
-
-pub loop-instruction-smaller : goal.loop-instruction-smaller
-loop-instruction-smaller c =
-    let laws = c.machine_laws.ensures in
-    let few : c.loop-instruction.steps < most_steps c.args.image.now c.args.budget =
-    still_few c.args.image.now c.args.budget c.loop-instruction.steps _ _ _ laws.over_in_time laws.stays_over c.requires.keeps c.loop-instruction.invariant.stands in
-    omega (arith, few)
-
-pub overflow_add-next : goal.overflow_add-next
-overflow_add-next c =
-    let code = c.args.image.now.code in
-    let found : instruction_at code c.loop-instruction.address ≡ Some c.in-Some.instruction =
-    found_there c.args.image.now _ c.loop-instruction.address (Some c.in-Some.instruction) (c.deref.ensures.value ∙ c.loop-instruction.invariant.code) (sym c.found_at.ensures ∙ c.in-Some.is) in
-    let within = at_within code c.loop-instruction.address c.in-Some.instruction found in
-    omega (arith, within, c.requires.small, c.width.ensures)
-
-pub returns-in_default-clause-course : goal.returns-in_default-clause-course
-returns-in_default-clause-course c =
-    let laws = c.machine_laws.ensures in
+pub returns-in-Some-clause-ticks : goal.returns-in-Some-clause-ticks
+returns-in-Some-clause-ticks c =
     let image = c.args.image.now in
-    let steps = c.loop-instruction.steps in
-    let none = found_there image _ c.loop-instruction.address None (c.deref.ensures.value ∙ c.loop-instruction.invariant.code) (sym c.found_at.ensures ∙ c.in_default.is) in
-    let over = stuck_on image c.args.budget steps c.loop-instruction.address c.loop-instruction.machine laws.step_by_step c.loop-instruction.invariant.stands none in
-    is_course image c.args.budget steps vm.Stuck c.loop-instruction.machine c.ended.result laws.stays_over
-    (is_stop image c.args.budget steps c.loop-instruction.address c.loop-instruction.machine vm.Stuck c.loop-instruction.machine c.ended.result
-    laws.over_in_time laws.stays_over laws.step_by_step c.requires.keeps c.loop-instruction.invariant.stands over c.ended.ensures)
-
-pub returns-in_default-clause-steps : goal.returns-in_default-clause-steps
-returns-in_default-clause-steps c =
-    let laws = c.machine_laws.ensures in
-    let image = c.args.image.now in
-    let steps = c.loop-instruction.steps in
-    let none = found_there image _ c.loop-instruction.address None (c.deref.ensures.value ∙ c.loop-instruction.invariant.code) (sym c.found_at.ensures ∙ c.in_default.is) in
-    let over = stuck_on image c.args.budget steps c.loop-instruction.address c.loop-instruction.machine laws.step_by_step c.loop-instruction.invariant.stands none in
-    few_steps image c.args.budget steps vm.Stuck c.loop-instruction.machine c.ended.result laws.few_steps c.requires.keeps
-    (is_stop image c.args.budget steps c.loop-instruction.address c.loop-instruction.machine vm.Stuck c.loop-instruction.machine c.ended.result
-    laws.over_in_time laws.stays_over laws.step_by_step c.requires.keeps c.loop-instruction.invariant.stands over c.ended.ensures)
-
-pub returns-in-Halts-clause-course : goal.returns-in-Halts-clause-course
-returns-in-Halts-clause-course c =
-    let laws = c.machine_laws.ensures in
-    let image = c.args.image.now in
-    let steps = c.loop-instruction.steps in
-    let found : instruction_at image.code c.loop-instruction.address ≡ Some c.in-Some.instruction =
-    found_there image _ c.loop-instruction.address (Some c.in-Some.instruction) (c.deref.ensures.value ∙ c.loop-instruction.invariant.code) (sym c.found_at.ensures ∙ c.in-Some.is) in
-    let over = leads_on image c.args.budget steps c.loop-instruction.address c.loop-instruction.machine c.in-Some.instruction (Halts c.in-Halts.halt) c.step.new.self laws.step_by_step c.loop-instruction.invariant.stands found
-    (rw c.in-Halts.is at c.in_ok-step.ensures) in
-    is_course image c.args.budget steps c.in-Halts.halt c.step.new.self c.ended-in-Halts.result laws.stays_over
-    (is_stop image c.args.budget steps c.loop-instruction.address c.loop-instruction.machine c.in-Halts.halt c.step.new.self c.ended-in-Halts.result
-    laws.over_in_time laws.stays_over laws.step_by_step c.requires.keeps c.loop-instruction.invariant.stands over c.ended-in-Halts.ensures)
-
-pub returns-in-Halts-clause-steps : goal.returns-in-Halts-clause-steps
-returns-in-Halts-clause-steps c =
-    let laws = c.machine_laws.ensures in
-    let image = c.args.image.now in
-    let steps = c.loop-instruction.steps in
-    let found : instruction_at image.code c.loop-instruction.address ≡ Some c.in-Some.instruction =
-    found_there image _ c.loop-instruction.address (Some c.in-Some.instruction) (c.deref.ensures.value ∙ c.loop-instruction.invariant.code) (sym c.found_at.ensures ∙ c.in-Some.is) in
-    let over = leads_on image c.args.budget steps c.loop-instruction.address c.loop-instruction.machine c.in-Some.instruction (Halts c.in-Halts.halt) c.step.new.self laws.step_by_step c.loop-instruction.invariant.stands found
-    (rw c.in-Halts.is at c.in_ok-step.ensures) in
-    few_steps image c.args.budget steps c.in-Halts.halt c.step.new.self c.ended-in-Halts.result laws.few_steps c.requires.keeps
-    (is_stop image c.args.budget steps c.loop-instruction.address c.loop-instruction.machine c.in-Halts.halt c.step.new.self c.ended-in-Halts.result
-    laws.over_in_time laws.stays_over laws.step_by_step c.requires.keeps c.loop-instruction.invariant.stands over c.ended-in-Halts.ensures)
-
-pub loop-instruction-preserved : goal.loop-instruction-preserved
-loop-instruction-preserved c =
-    let laws = c.machine_laws.ensures in
-    let image = c.args.image.now in
-    let found : instruction_at image.code c.loop-instruction.address ≡ Some c.in-Some.instruction =
-    found_there image _ c.loop-instruction.address (Some c.in-Some.instruction) (c.deref.ensures.value ∙ c.loop-instruction.invariant.code) (sym c.found_at.ensures ∙ c.in-Some.is) in
-    record {
-      code = c.loop-instruction.invariant.code;
-      stands = elim c.match-branch-4.branch [
-        | in-Goes w ↦
-            leads_on image c.args.budget c.loop-instruction.steps c.loop-instruction.address c.loop-instruction.machine c.in-Some.instruction Goes c.step.new.self
-            laws.step_by_step c.loop-instruction.invariant.stands found (rw w.in-Goes.is at c.in_ok-step.ensures)
-            ∙ ap (λ address. At address c.step.new.self.frame c.step.new.self.state) (ap (λ wide. c.loop-instruction.address + wide) (sym c.width.ensures) ∙ sym w.address-is)
-        | in-Jumps w ↦
-            leads_on image c.args.budget c.loop-instruction.steps c.loop-instruction.address c.loop-instruction.machine c.in-Some.instruction Jumps c.step.new.self
-            laws.step_by_step c.loop-instruction.invariant.stands found (rw w.in-Jumps.is at c.in_ok-step.ensures)
-            ∙ ap (λ address. At address c.step.new.self.frame c.step.new.self.state)
-            (ap (λ wide. target c.in-Some.instruction (c.loop-instruction.address + wide)) (sym c.width.ensures) ∙ sym w.target-address.ensures ∙ sym w.address-is)
-      ];
-    }
+    let begins = rw c.in-Some.is at c.in_ok-values.ensures in
+    let from_there = rw c.begin.ensures at c.go.ensures in
+    IfOk-weaker c.go.result _ _
+    (λ ran is. ticks_of image c.args.budget ran c.machine_laws.ensures.ticks_within (course_by image c.args.budget c.in-Some.values ran (sym begins) is))
+    from_there

@@ -1,7 +1,7 @@
 -- the keys stand for the names
 use Rattle.std.proofs.Common.{◌∙◌}
 use Rattle.std.specs.Map.Iter.{deref}
-use Rattle.mos_meaning.specs.Syntax.{has_name}
+use Rattle.mos_names.specs.NameLists.{has_name}
 use Rattle.mos_names.proofs.NameLemmas.{has_name-map}
 use Rattle.mos_names.proofs.names.Names.has.Goals as goal
 

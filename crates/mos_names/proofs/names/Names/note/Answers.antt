@@ -1,7 +1,7 @@
 -- the keys stand for the names
 use Rattle.std.proofs.Common.{◌∙◌, ap, map}
 use Rattle.std.specs.Map.Iter.{deref}
-use Rattle.mos_meaning.specs.Syntax.{with_name}
+use Rattle.mos_names.specs.NameLists.{with_name}
 use Rattle.mos_names.proofs.NameLemmas.{with_name-map}
 use Rattle.mos_names.proofs.names.Names.note.Goals as goal
 

@@ -1,7 +1,7 @@
 -- the keys stand for the names
 use Rattle.std.proofs.Common.{◌∙◌}
 use Rattle.std.specs.Map.Iter.{deref}
-use Rattle.mos_meaning.specs.Effects.{place_of}
+use Rattle.mos_names.specs.NameLists.{place_of}
 use Rattle.mos_names.proofs.NameLemmas.{place-from_Some, place-from_None}
 use Rattle.mos_names.proofs.names.Names.place.Goals as goal
 

@@ -1,0 +1,5 @@
+pub mod Starts
+pub mod Machine
+pub mod Instructions
+pub mod Courses
+pub mod Laws

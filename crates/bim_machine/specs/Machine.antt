@@ -1,0 +1,168 @@
+-- The abstract machine. An instruction gives an act, which says what is to be done and changes nothing
+-- by itself; `settle` does it.
+
+use Rattle.std.specs.Prelude.{ℕ, ◌+◌, zero, suc, ℤ, Bool, true, false, List, [], ◌∷◌, ◌++◌, Option, Some, None, map, take, drop, reverse, length, slice_get, nat_lt, if◌then◌else◌, unwrap_or}
+use Rattle.mos_text.specs.declared.fault_kind.FaultKind.{FaultKind}
+use Rattle.mos_text.specs.declared.fault_kind.FaultKind.TheVariants.{Depth}
+use Rattle.bim_code.specs.declared.image.Image.{Image}
+use Rattle.bim_code.specs.declared.image.Routine.{Routine}
+use Rattle.bim_code.specs.declared.image.Slot.{Slot}
+use Rattle.bim_code.specs.declared.instruction.Instruction.{Instruction}
+use Rattle.bim_code.specs.Rows.{width, named_address}
+use Rattle.bim_code.specs.Code.{instruction_at}
+use Rattle.mos_value.specs.Values.{Value, Place, Operand, Holds, Points, Walks}
+use Rattle.run_state.specs.Stops.{Stop, Exited, Failed, Stuck}
+use Rattle.run_state.specs.State.{World, State, over, Out, Gave, Halts, had, tick, write}
+use Rattle.run_state.specs.Calls.{Query, Answer, inquire}
+use Rattle.run_state.specs.Places.{put, most_calls, Argument, ByValue, ByPlace, argument_places, entered, left}
+use Rattle.run_state.specs.Parameters.{and_then}
+use Rattle.bim_machine.specs.Starts.{defaults_in}
+
+-- what the part of the code that runs has at hand: its operands, the top first, and the texts that it
+-- printed and did not yet write
+pub record Work : Type 0 where
+  pub stack : List Operand
+  pub held : List ℕ
+
+-- a part that waits for the routine that it called
+pub record Caller : Type 0 where
+  pub work : Work
+  pub slots : List Place
+  pub back : ℕ
+
+-- what stays while one part runs: the places of its slots, the address to which it goes back, and who
+-- waits for it, the nearest first
+pub record Here : Type 0 where
+  pub slots : List Place
+  pub back : ℕ
+  pub callers : List Caller
+
+-- at an address, or over at the instruction of this address
+pub data Machine : Type 0 where
+  At : (address : ℕ) (work : Work) (here : Here) (s : State) → Machine
+  Over : (stop : Stop) (address : ℕ) (s : State) → Machine
+
+-- how an instruction can stop the run by itself
+pub data Halt : Type 0 where
+  Exits : (code : ℤ) → Halt
+  Fails : (kind : FaultKind) → Halt
+  Sticks : Halt  -- it does not find what it wants
+
+-- the stop that a halt is
+abbrev pub stop_of : Halt → Stop
+stop_of (Exits code) = Exited code
+stop_of (Fails kind) = Failed kind
+stop_of Sticks = Stuck
+
+-- what an instruction asks of the machine
+pub data Act : Type 0 where
+  On : (work : Work) → Act  -- go on behind it
+  Jumps : (work : Work) → Act  -- go on at the address that it names
+  Stops : (halt : Halt) → Act
+  Puts : (values : List (Place × Value)) (work : Work) → Act  -- put the values, then go on
+  Prints : (text : List ℕ) (work : Work) → Act  -- write the text, then go on
+  Ticks : Act → Act  -- take a tick first
+  Asks : Query → (Answer → Act) → Act  -- ask first
+  Enters : (routine : ℕ) (work : Work) → Act  -- take a tick, then call a routine on the operands
+  Leaves : (result : Option Value) → Act  -- go back to the caller
+
+-- the addresses of an instruction, of what stands behind it, and of what it names
+pub record Site : Type 0 where
+  pub at : ℕ
+  pub next : ℕ
+  pub named : ℕ
+
+-- what comes to a result goes on with it
+abbrev pub on_out : {A : Type 0} → ℕ → Out A → (A → State → Machine) → Machine
+on_out at (Gave x s) go = go x s
+on_out at (Halts stop line s) go = Over stop at s
+
+-- nothing at hand
+abbrev pub idle : Work
+idle = record { stack = []; held = [] }
+
+-- a value on top
+abbrev pub push : Value → Work → Work
+push value work = record work { stack = Holds value ∷ work.stack }
+
+-- Values are put.
+
+-- values at places that are there, one after the other
+abbrev pub put_all : List (Place × Value) → List (List Value) → Option (List (List Value))
+put_all [] store = Some store
+put_all (one ∷ more) store = and_then (put one.0 one.1 store) (put_all more)
+
+-- what is put goes on
+abbrev pub stored : Option (List (List Value)) → Work → Site → Here → State → Machine
+stored None work site here s = Over Stuck site.at s
+stored (Some store) work site here s = At site.next work here (over store s)
+
+-- Routines are entered and left.
+
+-- the arguments of these slots, the last first, off the operands
+abbrev pub arguments_off : List Slot → List Operand → List Argument → Option (List Argument × List Operand)
+arguments_off [] stack sofar = Some (sofar, stack)
+arguments_off (slot ∷ slots) [] sofar = None
+arguments_off (slot ∷ slots) (Holds value ∷ stack) sofar =
+    if slot.by_reference then None else arguments_off slots stack (ByValue value ∷ sofar)
+arguments_off (slot ∷ slots) (Points place ∷ stack) sofar =
+    if slot.by_reference then arguments_off slots stack (ByPlace place ∷ sofar) else None
+arguments_off (slot ∷ slots) (Walks left ∷ stack) sofar = None
+
+-- values of its own
+abbrev pub by_values : List Value → List Argument
+by_values [] = []
+by_values (value ∷ values) = ByValue value ∷ by_values values
+
+-- a routine begins with its arguments and with the defaults of its other slots
+abbrev pub begins : Option (List Argument × List Operand) → Option (List Value) → Routine → Work → Site → Here → State → Machine
+begins (Some (given, stack)) (Some others) routine work site here s =
+    let slots = given ++ by_values others in
+    At routine.address idle record {
+      slots = argument_places (length s.memory.store) 0 slots;
+      back = site.next;
+      callers = record { work = record work { stack = stack }; slots = here.slots; back = here.back } ∷ here.callers;
+    } (over (entered slots s.memory.store) s)
+begins given others routine work site here s = Over Stuck site.at s
+
+-- the routine that was found begins
+abbrev pub begins_routine : Image → Option Routine → Work → Site → Here → State → Machine
+begins_routine image None work site here s = Over Stuck site.at s
+begins_routine image (Some routine) work site here s =
+    begins
+    (arguments_off (reverse (take routine.arguments routine.slots)) work.stack [])
+    (defaults_in image.types (map (λ (slot : Slot). slot.typ) (drop routine.arguments routine.slots)))
+    routine work site here s
+
+-- only so many calls stand inside one another
+abbrev pub enters : Bool → Image → ℕ → Work → Site → Here → State → Machine
+enters true image number work site here s = begins_routine image (slice_get image.routines number) work site here s
+enters false image number work site here s = Over (Failed Depth) site.at s
+
+-- the result of a routine on top, if it has one
+abbrev pub with_result : Option Value → Work → Work
+with_result None work = work
+with_result (Some value) work = push value work
+
+-- the nearest caller goes on
+abbrev pub leaves : List Caller → Option Value → Site → Here → State → Machine
+leaves [] result site here s = Over Stuck site.at s
+leaves (caller ∷ callers) result site here s =
+    At here.back (with_result result caller.work) (record { slots = caller.slots; back = caller.back; callers = callers })
+    (over (left s.memory.store) s)
+
+-- What is to be done is done.
+
+-- the next state of the machine
+abbrev pub settle : Image → World → Act → Site → Here → State → Machine
+settle image w (On work) site here s = At site.next work here s
+settle image w (Jumps work) site here s = At site.named work here s
+settle image w (Stops halt) site here s = Over (stop_of halt) site.at s
+settle image w (Puts values work) site here s = stored (put_all values s.memory.store) work site here s
+settle image w (Prints text work) site here s = on_out site.at (write text s) (λ done s1. At site.next work here s1)
+settle image w (Ticks act) site here s = on_out site.at (had (tick w s.counts) s) (λ done s1. settle image w act site here s1)
+settle image w (Asks query go) site here s =
+    on_out site.at (had (inquire w query s.counts) s) (λ answer s1. settle image w (go answer) site here s1)
+settle image w (Enters number work) site here s =
+    on_out site.at (had (tick w s.counts) s) (λ done s1. enters (nat_lt (length here.callers) most_calls) image number work site here s1)
+settle image w (Leaves result) site here s = leaves here.callers result site here s

@@ -1,0 +1,334 @@
+-- A model whose every statement works is never stuck and never lost: each variable holds an integer at
+-- all times, and a loop has no more passes than ticks.
+
+use Rattle.std.proofs.Common.{◌≡◌, ◌≢◌, ℕ, zero, suc, ◌+◌, ◌-◌, ◌<◌, ◌≤◌, ℤ, ◌+ℤ◌, ◌-ℤ◌, List, [], ◌∷◌, ◌++◌, Bool, Option, Some, None, refl, sym, ap, subst, ◌∙◌, true, false, length, nat_lt, nat_eq, nat_le, cond, pos, slice_get, slice_set, get_or, option_map, arith}
+use Rattle.std.specs.Prelude.{All, if◌then◌else◌, ◌||◌, replicate}
+use Rattle.std.specs.Str.{bytes_eq}
+use Rattle.std.proofs.lemmas.Bool.Decides.{nat_tests}
+use Rattle.std.proofs.lemmas.List.{length-set, length-replicate}
+use Rattle.std.proofs.lemmas.List.Elements.{All-set, All-replicate}
+use Rattle.std.proofs.lemmas.Option.{slice_get-get_or}
+use Rattle.mos_text.specs.declared.fault_kind.FaultKind.TheVariants.{Overflow, TooBig}
+use Rattle.mos_text.specs.declared.scalar.Scalar.{Scalar}
+use Rattle.mos_text.specs.declared.scalar.Scalar.TheVariants.{Int, Bool as Truth, Str, Model as ModelOf, Event}
+use Rattle.job_calls.specs.declared.reply.Reply.{Reply}
+use Rattle.mos_names.specs.NameLists.{Name, has_name, place_of}
+use Rattle.mos_value.specs.Values.{Value, One, SetOf, ListOf, Range, Fields, Place}
+use Rattle.mos_value.specs.Answers.{Comparison, equal, not_equal, less, at_most, greater, at_least, Operator, between, sum, difference, compare, show, integer, is_integer, answer, compared, printed, Gives, Faults}
+use Rattle.mos_value.specs.Answers as how
+use Rattle.run_state.specs.Stops.{Stop, Stuck, Lost, Exited, Failed}
+use Rattle.run_state.specs.State.{World, State, beginning, over, Out, Gave, Halts, bind, on_line, or_stop, answered, line_end}
+use Rattle.run_state.specs.Places.{load, load_in, put, put_in, put_slot}
+use Rattle.run_state.specs.Parameters.{given_values}
+use Rattle.mos_meaning.specs.Syntax.{Scope, Own, Model, Expression, number, text, truth, variable, index, apply, range_of, sum_over, invoke, ask_hub, unbuilt, Shown, nothing, one_more, Effect, assign, change, write, perform, if_, while_, do_, break_, next_, unbuilt_effect, Branches, else_, elif, Block, no_more, first, Program}
+use Rattle.mos_meaning.specs.Sources.{variables_of, program_of}
+use Rattle.mos_meaning.specs.Values.{Names, Env, Routine, place_in, loaded, on_truth, ticking, value_of}
+use Rattle.mos_meaning.specs.Effects.{Flow, Goes, Breaks, Continues, stored, assigned, changed, on_text, written, after_pass, passes, after_statement, effect_of, branch_of, effects_of}
+use Rattle.mos_meaning.specs.Meaning.{names_of, main_effect, ended, begun, with_given, meaning_of}
+use Rattle.mos_meaning.specs.Working.{IsVariable, IsSum, IsNumeric, IsShown, IsComparison, IsCondition, AreShown, Works, BranchesWork, AllWork, NeverStuck, NeverLost}
+use Rattle.mos_meaning.proofs.Fine.{HasReason, IsInt, Sound, FineIs, Fine, gave, halts, sooner, renewed, then_fine, on_line_fine, tick_fine, write_fine}
+
+abbrev outside_names : List Name → Names
+outside_names names = record { own = []; model = names }
+
+abbrev IsTruth : Value → Type 0
+IsTruth (One (Truth b)) = Unit {0}
+IsTruth _ = ⊥
+
+abbrev IsText : Value → Type 0
+IsText (One (Str t)) = Unit {0}
+IsText _ = ⊥
+
+-- an integer or a text
+abbrev IsPrinted : Value → Type 0
+IsPrinted (One v) = Unit {0}
+IsPrinted _ = ⊥
+
+abbrev Any : Flow → Type 0
+Any flow = Unit {0}
+
+-- the place of a variable is among them
+place_within : (n : Name) (names : List Name) → has_name n names ≡ true → place_of n names < length names
+place_within n [] h = cc
+place_within n (m ∷ names) h = by_test (bytes_eq n m) refl (place_within n names)
+  where
+    by_test : (test : Bool) → bytes_eq n m ≡ test → (has_name n names ≡ true → place_of n names < length names) → cond test 0 (place_of n names + 1) < length (m ∷ names)
+    by_test true e more = omega arith
+    by_test false e more = let rest = more (sym (ap (λ b. b || has_name n names) e) ∙ h) in omega arith
+
+integer_fine : {w : World} {names : List Name} {least : ℕ} (n : ℤ) (s : State) → Sound w names least s → Fine w names least IsInt (answered (integer n) s)
+integer_fine {w = w} {names = names} {least = least} n s sound = tested (is_integer n)
+  where
+    tested : (b : Bool) → Fine w names least IsInt (answered (if b then Gives (One (Int n)) else Faults Overflow) s)
+    tested true = gave sound tt
+    tested false = halts tt
+
+sum_fine : {w : World} {names : List Name} {least : ℕ} (operator : Operator) (x y : Value) (s : State) → IsSum operator → IsInt x → IsInt y → Sound w names least s
+    → Fine w names least IsInt (answered (answer (between operator) (x ∷ y ∷ [])) s)
+sum_fine sum (One (Int a)) (One (Int b)) s o h k sound = integer_fine (a +ℤ b) s sound
+sum_fine difference (One (Int a)) (One (Int b)) s o h k sound = integer_fine (a -ℤ b) s sound
+sum_fine sum (One (Int a)) y s o h k sound = absurd k
+sum_fine difference (One (Int a)) y s o h k sound = absurd k
+sum_fine sum x y s o h k sound = absurd h
+sum_fine difference x y s o h k sound = absurd h
+sum_fine (compare how) x y s o h k sound = absurd o
+
+-- the frame of the model is the only one
+loaded_fine : {w : World} {names : List Name} {least : ℕ} (slot : ℕ) (s : State) → slot < length names → Sound w names least s
+    → Fine w names least IsInt (loaded (Some (record { frame = 0; slot = slot })) s)
+loaded_fine {w = w} {names = names} {least = least} slot s inside sound =
+    let wide = sound.wide in
+    let within : slot < length sound.frame = omega (arith, wide, inside) in
+    let found : slice_get sound.frame slot ≡ Some (get_or sound.frame slot (One (Int (pos 0)))) = slice_get-get_or sound.frame slot (One (Int (pos 0))) within in
+    let there : load_in s.memory.store 0 slot ≡ Some (get_or sound.frame slot (One (Int (pos 0)))) = ap (λ store. load_in store 0 slot) sound.store ∙ found in
+    subst (λ (o : Option Value). Fine w names least IsInt (or_stop Lost o s)) (sym there) (gave sound (sound.ints slot (One (Int (pos 0))) within))
+
+assigned_fine : {w : World} {names : List Name} {least : ℕ} (slot : ℕ) (v : Value) (s : State) → slot < length names → IsInt v → Sound w names least s
+    → Fine w names least Any (assigned (Some (record { frame = 0; slot = slot })) v s)
+assigned_fine {w = w} {names = names} {least = least} slot v s inside int sound =
+    let wide = sound.wide in
+    let within : slot < length sound.frame = omega (arith, wide, inside) in
+    let test : nat_lt slot (length sound.frame) ≡ true = grind (arith, nat_tests, within) in
+    let one : put_slot sound.frame slot v ≡ Some (slice_set sound.frame slot v) = ap (λ b. if b then Some (slice_set sound.frame slot v) else None) test in
+    let there : put_in s.memory.store 0 slot v ≡ Some (slice_set sound.frame slot v ∷ []) =
+    ap (λ store. put_in store 0 slot v) sound.store ∙ ap (λ (o : Option (List Value)). option_map (λ (g : List Value). g ∷ []) o) one in
+    subst (λ (o : Option (List (List Value))). Fine w names least Any (stored o s)) (sym there) (gave (record {
+      frame = slice_set sound.frame slot v;
+      store = refl;
+      wide = length-set sound.frame slot v ∙ wide;
+      ints = All-set IsInt sound.frame slot v int sound.ints;
+      later = sound.later;
+      within = sound.within;
+    }) tt)
+
+value_fine : {w : World} {names : List Name} {least : ℕ} (call : Routine) (e : Expression) (env : Env) (s : State) → IsNumeric names e → Sound w names least s
+    → Fine w names least IsInt (value_of w call (outside_names names) e env s)
+value_fine call (number n) env s h sound = gave sound tt
+value_fine {names = names} call (variable Model n) env s h sound = loaded_fine (place_of n names) s (place_within n names h) sound
+value_fine call (variable Own n) env s h sound = absurd h
+value_fine call (apply operator a b) env s h sound =
+    then_fine _ _ (value_fine call a env s h.1 sound) (λ x s1 sound1 int.
+    then_fine _ _ (value_fine call b env s1 h.2 sound1) (λ y s2 sound2 other. sum_fine operator x y s2 h.0 int other sound2))
+value_fine call (text t) env s h sound = absurd h
+value_fine call (truth b) env s h sound = absurd h
+value_fine call (index n) env s h sound = absurd h
+value_fine call (range_of a b) env s h sound = absurd h
+value_fine call (sum_over i set condition body) env s h sound = absurd h
+value_fine call (invoke routine all) env s h sound = absurd h
+value_fine call (ask_hub function all) env s h sound = absurd h
+value_fine call unbuilt env s h sound = absurd h
+
+compared_fine : {w : World} {names : List Name} {least : ℕ} (how : Comparison) (x y : Value) (s : State) → IsInt x → IsInt y → Sound w names least s
+    → Fine w names least IsTruth (answered (answer (between (compare how)) (x ∷ y ∷ [])) s)
+compared_fine equal (One (Int a)) (One (Int b)) s h k sound = gave sound tt
+compared_fine not_equal (One (Int a)) (One (Int b)) s h k sound = gave sound tt
+compared_fine less (One (Int a)) (One (Int b)) s h k sound = gave sound tt
+compared_fine at_most (One (Int a)) (One (Int b)) s h k sound = gave sound tt
+compared_fine greater (One (Int a)) (One (Int b)) s h k sound = gave sound tt
+compared_fine at_least (One (Int a)) (One (Int b)) s h k sound = gave sound tt
+compared_fine how (One (Int a)) y s h k sound = absurd k
+compared_fine how x y s h k sound = absurd h
+
+condition_fine : {w : World} {names : List Name} {least : ℕ} (call : Routine) (e : Expression) (env : Env) (s : State) → IsCondition names e → Sound w names least s
+    → Fine w names least IsTruth (value_of w call (outside_names names) e env s)
+condition_fine call (truth b) env s h sound = gave sound tt
+condition_fine call (apply (compare how) a b) env s h sound =
+    then_fine _ _ (value_fine call a env s h.0 sound) (λ x s1 sound1 int.
+    then_fine _ _ (value_fine call b env s1 h.1 sound1) (λ y s2 sound2 other. compared_fine how x y s2 int other sound2))
+condition_fine call (apply sum a b) env s h sound = absurd h
+condition_fine call (apply difference a b) env s h sound = absurd h
+condition_fine call (number n) env s h sound = absurd h
+condition_fine call (text t) env s h sound = absurd h
+condition_fine call (variable scope n) env s h sound = absurd h
+condition_fine call (index n) env s h sound = absurd h
+condition_fine call (range_of a b) env s h sound = absurd h
+condition_fine call (sum_over i set condition body) env s h sound = absurd h
+condition_fine call (invoke routine all) env s h sound = absurd h
+condition_fine call (ask_hub function all) env s h sound = absurd h
+condition_fine call unbuilt env s h sound = absurd h
+
+truth_fine : {w : World} {names : List Name} {least : ℕ} {A : Type 0} {P : A → Type 0} (c : Value) (s : State) (when_true when_false : Out A) → IsTruth c
+    → Fine w names least P when_true → Fine w names least P when_false → Fine w names least P (on_truth c s when_true when_false)
+truth_fine (One (Truth true)) s when_true when_false h holds otherwise = holds
+truth_fine (One (Truth false)) s when_true when_false h holds otherwise = otherwise
+truth_fine c s when_true when_false h holds otherwise = absurd h
+
+-- What is printed.
+
+text_fine : {w : World} {names : List Name} {least : ℕ} (t : List ℕ) (s : State) → Sound w names least s → Fine w names least IsText (answered (how.text t) s)
+text_fine {w = w} {names = names} {least = least} t s sound = tested (nat_le (length t) 1000000)
+  where
+    tested : (b : Bool) → Fine w names least IsText (answered (if b then Gives (One (Str t)) else Faults TooBig) s)
+    tested true = gave sound tt
+    tested false = halts tt
+
+int_printed : (v : Value) → IsInt v → IsPrinted v
+int_printed (One v) h = tt
+int_printed (SetOf members) h = absurd h
+int_printed (ListOf items) h = absurd h
+int_printed (Range a b) h = absurd h
+int_printed (Fields values) h = absurd h
+
+text_printed : (v : Value) → IsText v → IsPrinted v
+text_printed (One v) h = tt
+text_printed (SetOf members) h = absurd h
+text_printed (ListOf items) h = absurd h
+text_printed (Range a b) h = absurd h
+text_printed (Fields values) h = absurd h
+
+-- one kind of value is of another
+weaker : {w : World} {names : List Name} {least : ℕ} {P Q : Value → Type 0} (o : Out Value) → ((v : Value) → P v → Q v) → Fine w names least P o → Fine w names least Q o
+weaker (Gave v s) f h = gave h.by.0 (f v h.by.1)
+weaker (Halts stop line s) f h = halts h.by
+
+shown_fine : {w : World} {names : List Name} {least : ℕ} (call : Routine) (e : Expression) (env : Env) (s : State) → IsShown names e → Sound w names least s
+    → Fine w names least IsPrinted (value_of w call (outside_names names) e env s)
+shown_fine call (text t) env s h sound = weaker _ text_printed (text_fine t s sound)
+shown_fine call (number n) env s h sound = weaker _ int_printed (value_fine call (number n) env s h sound)
+shown_fine call (variable scope n) env s h sound = weaker _ int_printed (value_fine call (variable scope n) env s h sound)
+shown_fine call (apply operator a b) env s h sound = weaker _ int_printed (value_fine call (apply operator a b) env s h sound)
+shown_fine call (truth b) env s h sound = absurd h
+shown_fine call (index n) env s h sound = absurd h
+shown_fine call (range_of a b) env s h sound = absurd h
+shown_fine call (sum_over i set condition body) env s h sound = absurd h
+shown_fine call (invoke routine all) env s h sound = absurd h
+shown_fine call (ask_hub function all) env s h sound = absurd h
+shown_fine call unbuilt env s h sound = absurd h
+
+form_fine : {w : World} {names : List Name} {least : ℕ} (v : Value) (s : State) → IsPrinted v → Sound w names least s → Fine w names least IsText (answered (answer show (v ∷ [])) s)
+form_fine (One v) s h sound = text_fine (printed v) s sound
+form_fine (SetOf members) s h sound = absurd h
+form_fine (ListOf items) s h sound = absurd h
+form_fine (Range a b) s h sound = absurd h
+form_fine (Fields values) s h sound = absurd h
+
+on_text_fine : {w : World} {names : List Name} {least : ℕ} {A : Type 0} {P : A → Type 0} (v : Value) (s : State) (go : List ℕ → Out A) → IsText v
+    → ((t : List ℕ) → Fine w names least P (go t)) → Fine w names least P (on_text v s go)
+on_text_fine (One (Str t)) s go h k = k t
+on_text_fine v s go h k = absurd h
+
+written_fine : {w : World} {names : List Name} {least : ℕ} (call : Routine) (newline : Bool) (all : Shown) (env : Env) (held : List ℕ) (s : State) → AreShown names all → Sound w names least s
+    → Fine w names least Any (written w call (outside_names names) newline all env held s)
+written_fine call newline nothing env held s h sound = write_fine (held ++ line_end newline) s _ sound (λ s1 sound1. gave sound1 tt)
+written_fine call newline (one_more e es) env held s h sound =
+    then_fine _ _ (shown_fine call e env s h.0 sound) (λ v s1 sound1 prints.
+    then_fine _ _ (form_fine v s1 prints sound1) (λ form s2 sound2 is_text.
+    on_text_fine form s2 _ is_text (λ t. written_fine call newline es env (held ++ t) s2 h.1 sound2)))
+
+-- Statements.
+
+variable_fine : {w : World} {names : List Name} {least : ℕ} (scope : Scope) (n : Name) (env : Env) (v : Value) (s : State) → IsVariable names scope n → IsInt v → Sound w names least s
+    → Fine w names least Any (assigned (place_in (outside_names names) env scope n) v s)
+variable_fine {names = names} Model n env v s h int sound = assigned_fine (place_of n names) v s (place_within n names h) int sound
+variable_fine Own n env v s h int sound = absurd h
+
+changed_fine : {w : World} {names : List Name} {least : ℕ} (operator : Operator) (scope : Scope) (n : Name) (env : Env) (v : Value) (s : State)
+    → IsSum operator → IsVariable names scope n → IsInt v → Sound w names least s
+    → Fine w names least Any (changed operator (place_in (outside_names names) env scope n) v s)
+changed_fine {names = names} operator Model n env v s o h int sound =
+    then_fine _ _ (loaded_fine (place_of n names) s (place_within n names h) sound) (λ old s1 sound1 was.
+    then_fine _ _ (sum_fine operator old v s1 o was int sound1) (λ new s2 sound2 is.
+    variable_fine Model n env new s2 h is sound2))
+changed_fine operator Own n env v s o h int sound = absurd h
+
+-- fine wherever it begins
+abbrev IsFineEffect : World → List Name → (State → Out Flow) → Type 0
+IsFineEffect w names go = (least : ℕ) (s : State) → Sound w names least s → Fine w names least Any (go s)
+
+abbrev IsFineTest : World → List Name → (State → Out Value) → Type 0
+IsFineTest w names go = (least : ℕ) (s : State) → Sound w names least s → Fine w names least IsTruth (go s)
+
+after_pass_fine : {w : World} {names : List Name} {least : ℕ} (flow : Flow) (s : State) (again : Out Flow) → Sound w names least s → Fine w names least Any again
+    → Fine w names least Any (after_pass flow s again)
+after_pass_fine Goes s again sound h = h
+after_pass_fine Breaks s again sound h = gave sound tt
+after_pass_fine Continues s again sound h = h
+
+passes_fine : {w : World} {names : List Name} (condition : State → Out Value) (body : State → Out Flow) → IsFineTest w names condition → IsFineEffect w names body
+    → (n least : ℕ) (s : State) → w.budget < n + s.counts.ticks → Sound w names least s → Fine w names least Any (passes w n condition body s)
+passes_fine condition body tests does zero least s more sound = let within = sound.within in absurd (omega (arith, more, within))
+passes_fine condition body tests does (suc n) least s more sound =
+    let early = sound.later in
+    then_fine _ _ (tests s.counts.ticks s (renewed sound)) (λ c s1 sound1 is_truth.
+    let later1 = sound1.later in
+    truth_fine c s1 _ _ is_truth
+    (tick_fine s1 _ sound1 (λ s2 sound2.
+    then_fine _ _ (does (s1.counts.ticks + 1) s2 sound2) (λ flow s3 sound3 any.
+    let later3 = sound3.later in
+    let back = sooner least (omega (arith, early, later1)) sound3 in
+    after_pass_fine flow s3 _ back (passes_fine condition body tests does n least s3 (omega (arith, more, later1, later3)) back))))
+    (gave (sooner least early sound1) tt))
+
+after_statement_fine : {w : World} {names : List Name} {least : ℕ} (flow : Flow) (s : State) (go : State → Out Flow) → Sound w names least s → Fine w names least Any (go s)
+    → Fine w names least Any (after_statement flow s go)
+after_statement_fine Goes s go sound h = h
+after_statement_fine Breaks s go sound h = gave sound tt
+after_statement_fine Continues s go sound h = gave sound tt
+
+-- a statement begins with a tick
+begins_fine : {w : World} {names : List Name} {least : ℕ} (line : ℕ) (s : State) (go : State → Out Flow) → Sound w names least s
+    → ((s1 : State) → Sound w names least s1 → Fine w names least Any (go s1)) → Fine w names least Any (on_line line (ticking w s go))
+begins_fine {least = least} line s go sound h =
+    let early = sound.later in on_line_fine line _ (tick_fine s go sound (λ s1 sound1. h s1 (sooner least (omega (arith, early)) sound1)))
+
+mutual
+  effect_fine : {w : World} {names : List Name} (call : Routine) (e : Effect) (env : Env) → Works names e → IsFineEffect w names (effect_of w call (outside_names names) e env)
+  effect_fine call (assign line scope n e) env h least s sound =
+      begins_fine line s _ sound (λ s1 sound1.
+      then_fine _ _ (value_fine call e env s1 h.1 sound1) (λ v s2 sound2 int. variable_fine scope n env v s2 h.0 int sound2))
+  effect_fine call (change line operator scope n e) env h least s sound =
+      begins_fine line s _ sound (λ s1 sound1.
+      then_fine _ _ (value_fine call e env s1 h.2 sound1) (λ v s2 sound2 int. changed_fine operator scope n env v s2 h.0 h.1 int sound2))
+  effect_fine call (write line newline all) env h least s sound =
+      begins_fine line s _ sound (λ s1 sound1. written_fine call newline all env [] s1 h sound1)
+  effect_fine call (perform line routine all) env h least s sound = absurd h
+  effect_fine call (if_ line all) env h least s sound = begins_fine line s _ sound (λ s1 sound1. branches_fine call all env h least s1 sound1)
+  effect_fine {w = w} call (while_ line e body) env h least s sound =
+      begins_fine line s _ sound (λ s1 sound1.
+      let within = sound1.within in
+      passes_fine _ _ (λ inner s2 sound2. condition_fine call e env s2 h.0 sound2) (effect_fine call body env h.1) (suc (w.budget - s1.counts.ticks)) least s1 (omega (arith, within)) sound1)
+  effect_fine call (do_ all) env h least s sound = block_fine call all env h least s sound
+  effect_fine call (break_ line) env h least s sound = begins_fine line s _ sound (λ s1 sound1. gave sound1 tt)
+  effect_fine call (next_ line) env h least s sound = begins_fine line s _ sound (λ s1 sound1. gave sound1 tt)
+  effect_fine call unbuilt_effect env h least s sound = absurd h
+
+  branches_fine : {w : World} {names : List Name} (call : Routine) (all : Branches) (env : Env) → BranchesWork names all → IsFineEffect w names (branch_of w call (outside_names names) all env)
+  branches_fine call (else_ all) env h least s sound = block_fine call all env h least s sound
+  branches_fine call (elif line e all rest) env h least s sound =
+      then_fine _ _ (on_line_fine line _ (condition_fine call e env s h.0 sound)) (λ c s1 sound1 is_truth.
+      truth_fine c s1 _ _ is_truth (block_fine call all env h.1 least s1 sound1) (branches_fine call rest env h.2 least s1 sound1))
+
+  block_fine : {w : World} {names : List Name} (call : Routine) (all : Block) (env : Env) → AllWork names all → IsFineEffect w names (effects_of w call (outside_names names) all env)
+  block_fine call no_more env h least s sound = gave sound tt
+  block_fine call (first e rest) env h least s sound =
+      then_fine _ _ (effect_fine call e env h.0 least s sound) (λ flow s1 sound1 any.
+      after_statement_fine flow s1 _ sound1 (block_fine call rest env h.1 least s1 sound1))
+
+-- the whole run stops for a reason
+ended_fine : {w : World} {names : List Name} {least : ℕ} (o : Out Flow) → Fine w names least Any o → HasReason (ended o).stop
+ended_fine (Gave flow s) h = tt
+ended_fine (Halts stop line s) h = h.by
+
+pub stops_for_a_reason : (statements : Block) → AllWork (variables_of statements) statements → (text : List ℕ) (replies : List Reply) (budget : ℕ)
+    → HasReason (meaning_of (program_of statements) text replies budget).stop
+stops_for_a_reason statements h params replies budget = given (given_values [] params)
+  where
+    given : (o : Option (List Scalar)) → HasReason (with_given (record { replies = replies; budget = budget }) (program_of statements) o).stop
+    given None = tt
+    given (Some values) =
+        let names : List Name = variables_of statements in
+        ended_fine {w = record { replies = replies; budget = budget }} {names = names} {least = 0} _
+        (block_fine _ statements _ h 0 _ (record {
+          frame = (program_of statements).defaults;
+          store = refl;
+          wide = length-replicate (length names) (One (Int (pos 0)));
+          ints = All-replicate IsInt (length names) (One (Int (pos 0))) tt;
+          later = omega arith;
+          within = omega arith;
+        }))
+
+pub never_stuck : (statements : Block) → AllWork (variables_of statements) statements → NeverStuck (program_of statements)
+never_stuck statements h params replies budget = λ e. subst HasReason e (stops_for_a_reason statements h params replies budget)
+
+pub never_lost : (statements : Block) → AllWork (variables_of statements) statements → NeverLost (program_of statements)
+never_lost statements h params replies budget = λ e. subst HasReason e (stops_for_a_reason statements h params replies budget)

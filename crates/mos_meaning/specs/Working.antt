@@ -1,0 +1,107 @@
+-- Models that a run can carry out today: values are integers but for the texts that are printed and the
+-- conditions, each name is a variable of the model, and no form is left out. No run of such a model is
+-- stuck or lost.
+
+use Rattle.std.specs.Prelude.{◌≡◌, ◌≢◌, true, List, ℕ}
+use Rattle.job_calls.specs.declared.reply.Reply.{Reply}
+use Rattle.mos_names.specs.NameLists.{Name, has_name}
+use Rattle.mos_value.specs.Answers.{Operator, sum, difference, compare}
+use Rattle.run_state.specs.Stops.{Stuck, Lost}
+use Rattle.mos_meaning.specs.Syntax.{Scope, Own, Model, Expression, number, text, truth, variable, index, apply, range_of, sum_over, invoke, ask_hub, unbuilt, Shown, nothing, one_more, Effect, assign, change, write, perform, if_, while_, do_, break_, next_, unbuilt_effect, Branches, else_, elif, Block, no_more, first, Program}
+use Rattle.mos_meaning.specs.Sources.{variables_of, program_of}
+use Rattle.mos_meaning.specs.Meaning.{meaning_of}
+
+-- a variable of the model
+abbrev pub IsVariable : List Name → Scope → Name → Type 0
+IsVariable names Model n = has_name n names ≡ true
+IsVariable names Own n = ⊥
+
+-- `+` and `-`
+abbrev pub IsSum : Operator → Type 0
+IsSum sum = Unit {0}
+IsSum difference = Unit {0}
+IsSum (compare how) = ⊥
+
+-- literals and variables with `+` and `-` between them
+abbrev pub IsNumeric : List Name → Expression → Type 0
+IsNumeric names (number n) = Unit {0}
+IsNumeric names (variable scope n) = IsVariable names scope n
+IsNumeric names (apply operator a b) = IsSum operator × IsNumeric names a × IsNumeric names b
+IsNumeric names (text t) = ⊥
+IsNumeric names (truth b) = ⊥
+IsNumeric names (index n) = ⊥
+IsNumeric names (range_of a b) = ⊥
+IsNumeric names (sum_over i set condition body) = ⊥
+IsNumeric names (invoke routine all) = ⊥
+IsNumeric names (ask_hub function all) = ⊥
+IsNumeric names unbuilt = ⊥
+
+-- a text or such a sum
+abbrev pub IsShown : List Name → Expression → Type 0
+IsShown names (text t) = Unit {0}
+IsShown names e = IsNumeric names e
+
+-- a truth, or two such sums compared
+abbrev pub IsComparison : List Name → Operator → Expression → Expression → Type 0
+IsComparison names (compare how) a b = IsNumeric names a × IsNumeric names b
+IsComparison names sum a b = ⊥
+IsComparison names difference a b = ⊥
+
+-- a truth, or a comparison
+abbrev pub IsCondition : List Name → Expression → Type 0
+IsCondition names (truth b) = Unit {0}
+IsCondition names (apply operator a b) = IsComparison names operator a b
+IsCondition names (number n) = ⊥
+IsCondition names (text t) = ⊥
+IsCondition names (variable scope n) = ⊥
+IsCondition names (index n) = ⊥
+IsCondition names (range_of a b) = ⊥
+IsCondition names (sum_over i set condition body) = ⊥
+IsCondition names (invoke routine all) = ⊥
+IsCondition names (ask_hub function all) = ⊥
+IsCondition names unbuilt = ⊥
+
+-- each of what is printed
+abbrev pub AreShown : List Name → Shown → Type 0
+AreShown names nothing = Unit {0}
+AreShown names (one_more e es) = IsShown names e × AreShown names es
+
+abbrev mutual
+  -- a statement
+  pub Works : List Name → Effect → Type 0
+  Works names (assign line scope n e) = IsVariable names scope n × IsNumeric names e
+  Works names (change line operator scope n e) = IsSum operator × IsVariable names scope n × IsNumeric names e
+  Works names (write line newline all) = AreShown names all
+  Works names (if_ line all) = BranchesWork names all
+  Works names (while_ line e body) = IsCondition names e × Works names body
+  Works names (do_ all) = AllWork names all
+  Works names (break_ line) = Unit {0}
+  Works names (next_ line) = Unit {0}
+  Works names (perform line routine all) = ⊥
+  Works names unbuilt_effect = ⊥
+
+  -- branches
+  pub BranchesWork : List Name → Branches → Type 0
+  BranchesWork names (else_ all) = AllWork names all
+  BranchesWork names (elif line e all rest) = IsCondition names e × AllWork names all × BranchesWork names rest
+
+  -- the statements of a block
+  pub AllWork : List Name → Block → Type 0
+  AllWork names no_more = Unit {0}
+  AllWork names (first e rest) = Works names e × AllWork names rest
+
+-- no run of the model is stuck, and none is lost
+abbrev pub NeverStuck : Program → Type 0
+NeverStuck program = (text : List ℕ) (replies : List Reply) (budget : ℕ) → (meaning_of program text replies budget).stop ≢ Stuck
+
+-- no run of the model is lost
+abbrev pub NeverLost : Program → Type 0
+NeverLost program = (text : List ℕ) (replies : List Reply) (budget : ℕ) → (meaning_of program text replies budget).stop ≢ Lost
+
+-- which holds of all models whose statements work
+abbrev pub WorkingNeverStuck : Type 0
+WorkingNeverStuck = (statements : Block) → AllWork (variables_of statements) statements → NeverStuck (program_of statements)
+
+-- none is lost
+abbrev pub WorkingNeverLost : Type 0
+WorkingNeverLost = (statements : Block) → AllWork (variables_of statements) statements → NeverLost (program_of statements)

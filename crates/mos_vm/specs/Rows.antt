@@ -1,0 +1,48 @@
+-- As the code goes about it: what an instruction asks of the machine that the program keeps, when it
+-- has done with the operands what it does.
+
+use Rattle.std.specs.Prelude.{◌≡◌, ℕ, List, [], ◌∷◌, Option, Some, None}
+use Rattle.bim_code.specs.declared.instruction.Instruction.{Instruction}
+use Rattle.mos_value.specs.Values.{Value}
+use Rattle.mos_value.specs.Answers.{Result, Gives, Faults, Sticks as NoAnswer}
+use Rattle.bim_machine.specs.Machine.{Work, Act, On, Jumps, Stops, Puts, Prints, Ticks, Halt, Exits, Fails, Sticks}
+use Rattle.bim_machine.specs.Instructions.{act, global}
+use Rattle.mos_vm.specs.declared.asked.Halt.{Halt as VmHalt}
+use Rattle.mos_vm.specs.declared.asked.Halt.TheVariants as halt
+use Rattle.mos_vm.specs.declared.asked.Asked.{Asked}
+use Rattle.mos_vm.specs.declared.asked.Asked.TheVariants as asked
+use Rattle.mos_vm.specs.declared.answers.Answer.{Answer}
+use Rattle.mos_vm.specs.declared.answers.Answer.TheVariants as answer
+
+abbrev pub halt_of : VmHalt → Halt
+halt_of (halt.Exits code) = Exits code
+halt_of (halt.Fails kind) = Fails kind
+halt_of halt.Sticks = Sticks
+
+-- the act that is asked for, with this at hand behind it
+abbrev pub act_of : Asked → Work → Act
+act_of asked.On work = On work
+act_of asked.Jumps work = Jumps work
+act_of (asked.Stops how) work = Stops (halt_of how)
+act_of (asked.Puts slot value) work = Puts ((global slot, value) ∷ []) work
+act_of asked.Prints work = Prints work.held (record work { held = [] })
+act_of asked.Ticks work = Ticks (On work)
+
+-- the instruction asks for that, with these constants and these values in the global slots
+abbrev pub Asks : List (List ℕ) → Instruction → List Value → Work → Asked → Work → Type 0
+Asks constants i globals before asked after = act constants i [] before (globals ∷ []) ≡ act_of asked after
+
+-- the same for an instruction that looks at neither
+abbrev pub AsksAnywhere : Instruction → Work → Asked → Work → Type 0
+AsksAnywhere i before asked after = Asks [] i [] before asked after
+
+-- the answer of an operator or a function
+abbrev pub result_of : Answer → Result
+result_of (answer.Gives value) = Gives value
+result_of (answer.Faults kind) = Faults kind
+result_of answer.Sticks = NoAnswer
+
+-- an operand that was wanted goes on, where it was found
+abbrev pub with_top : {A : Type 0} → Option A → Work → (A → Work → Act) → Act
+with_top None work go = Stops Sticks
+with_top (Some x) work go = go x work

@@ -1,0 +1,166 @@
+//! Values as the machine holds them.
+ghost use Rattle.std.specs.Prelude.{◌≡◌, [], None, IfOk, MatchOption};
+ghost use Rattle.mos_text.specs.declared.scalar.Scalar.TheVariants as scalar;
+ghost use Rattle.mos_value.specs.Values.{One, SetOf, ListOf, Range, Fields};
+ghost use Rattle.mos_vm.specs.HeldValues.{scalar_in, integer_in, truth_in, text_in};
+
+use mos_text::{NoMemory, Scalar, Text};
+use sqlite_items::Items;
+use std::alloc::Global;
+use std::marker::Model;
+
+/// A value. A contract sees it as the value of the definitions.
+#[derive(Drop)]
+pub(crate) struct Value {
+    form: Form,
+}
+
+/// How a value is held.
+#[derive(Drop)]
+enum Form {
+    One(Scalar),
+    /// Members, each once, in the order in which they were added.
+    SetOf(Items<Scalar>),
+    ListOf(Items<Scalar>),
+    /// The integers from the first to the last.
+    Range(i32, i32),
+    /// The fields of a record, in the order of its type.
+    Fields(Items<Scalar>),
+}
+
+impl Model for Value {
+    ghost use Rattle.mos_value.specs.Values.{Value as Meant};
+
+    ghost Value = { Meant };
+
+    ghost use Rattle.mos_vm.specs.HeldValues.{value_of};
+
+    ghost view = { λ v. value_of v.form };
+}
+
+impl Value {
+    /// A value without parts.
+    pub(crate) fn one(value: Scalar) -> Value
+        ensures { result ≡ One value }
+    {
+        Value {
+            form: Form::One(value),
+        }
+    }
+
+    /// A set without members.
+    pub(crate) fn no_members(alloc: Global) -> Value
+        ensures { result ≡ SetOf [] }
+    {
+        Value {
+            form: Form::SetOf(Items::new(alloc)),
+        }
+    }
+
+    /// A list without items.
+    pub(crate) fn no_items(alloc: Global) -> Value
+        ensures { result ≡ ListOf [] }
+    {
+        Value {
+            form: Form::ListOf(Items::new(alloc)),
+        }
+    }
+
+    /// The integers from the first to the last.
+    pub(crate) fn range(first: i32, last: i32) -> Value
+        ensures { result ≡ Range first last }
+    {
+        Value {
+            form: Form::Range(first, last),
+        }
+    }
+
+    /// A record with these fields.
+    pub(crate) fn fields(values: Items<Scalar>) -> Value
+        ensures { result ≡ Fields values }
+    {
+        Value {
+            form: Form::Fields(values),
+        }
+    }
+
+    /// The same value once more.
+    pub(crate) fn copy(&self, alloc: Global) -> Result<Value, NoMemory>
+        ensures { IfOk result (λ value. value ≡ self.now) }
+    {
+        let form = self.form.copy(alloc)?;
+        Ok(Value { form })
+    }
+
+    /// The value, where it is one without parts.
+    pub(crate) fn into_scalar(self) -> Option<Scalar>
+        ensures { MatchOption result (scalar_in self ≡ None) (λ value. self ≡ One value) }
+    {
+        let Value { form } = self;
+        match form {
+            Form::One(value) => Some(value),
+            Form::SetOf(_) | Form::ListOf(_) | Form::Range(_, _) | Form::Fields(_) => None,
+        }
+    }
+
+    /// The integer, where it is one.
+    pub(crate) fn into_integer(self) -> Option<i32>
+        ensures { MatchOption result (integer_in self ≡ None)
+            (λ number. self ≡ One (scalar.Int number)) }
+    {
+        match self.into_scalar() {
+            Some(Scalar::Int(number)) => Some(number),
+            Some(Scalar::Bool(_) | Scalar::Str(_) | Scalar::Model(_) | Scalar::Event(_, _)) => None,
+            None => None,
+        }
+    }
+
+    /// The boolean, where it is one.
+    pub(crate) fn into_truth(self) -> Option<bool>
+        ensures { MatchOption result (truth_in self ≡ None)
+            (λ truth. self ≡ One (scalar.Bool truth)) }
+    {
+        match self.into_scalar() {
+            Some(Scalar::Bool(truth)) => Some(truth),
+            Some(Scalar::Int(_) | Scalar::Str(_) | Scalar::Model(_) | Scalar::Event(_, _)) => None,
+            None => None,
+        }
+    }
+
+    /// The text, where it is one.
+    pub(crate) fn into_text(self) -> Option<Text>
+        ensures { MatchOption result (text_in self ≡ None)
+            (λ text. self ≡ One (scalar.Str text)) }
+    {
+        match self.into_scalar() {
+            Some(Scalar::Str(text)) => Some(text),
+            Some(Scalar::Int(_) | Scalar::Bool(_) | Scalar::Model(_) | Scalar::Event(_, _)) => None,
+            None => None,
+        }
+    }
+}
+
+impl Form {
+    fn copy(&self, alloc: Global) -> Result<Form, NoMemory>
+        ensures { IfOk result (λ form. form ≡ self.now) }
+    {
+        match self {
+            Form::One(value) => Ok(Form::One(value.copy(alloc)?)),
+            Form::SetOf(members) => Ok(Form::SetOf(copies(alloc, members.as_slice())?)),
+            Form::ListOf(items) => Ok(Form::ListOf(copies(alloc, items.as_slice())?)),
+            Form::Range(first, last) => Ok(Form::Range(*first, *last)),
+            Form::Fields(values) => Ok(Form::Fields(copies(alloc, values.as_slice())?)),
+        }
+    }
+}
+
+/// The same values in the same order.
+fn copies(alloc: Global, values: &[Scalar]) -> Result<Items<Scalar>, NoMemory>
+    ensures { IfOk result (λ copied. copied ≡ values.now) }
+{
+    let mut copied = Items::new(alloc);
+    for value in values {
+        copied.push(value.copy(alloc)?)?;
+    }
+    Ok(copied)
+}

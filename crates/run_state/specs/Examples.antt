@@ -1,0 +1,57 @@
+-- Computed examples of parameter texts, replies and ticks.
+
+use Rattle.std.specs.Prelude.{◌≡◌, ℕ, List, [], ◌∷◌, Some, None, pos, negsuc, true, false, codes, map}
+use Rattle.mos_text.specs.declared.fault_kind.FaultKind.TheVariants.{Busy}
+use Rattle.mos_text.specs.declared.scalar.Scalar.TheVariants.{Int, Bool as Truth, Str}
+use Rattle.job_calls.specs.declared.call.Call.TheVariants as call
+use Rattle.job_calls.specs.declared.reply.Reply.TheVariants as reply
+use Rattle.run_state.specs.Stops.{Failed, Spent, Stopped, Asking}
+use Rattle.run_state.specs.State.{Took, Cut, tick}
+use Rattle.run_state.specs.Calls.{ask, inquire, UntilEnd, Drained}
+use Rattle.run_state.specs.Parameters.{Parameter, given_values}
+
+-- an integer, a text and a truth
+abbrev pub three : List Parameter
+three =
+    record { name = codes "N"; default = Int (pos 7) }
+    ∷ record { name = codes "T"; default = Str (codes "none") }
+    ∷ record { name = codes "B"; default = Truth false } ∷ []
+
+-- the last value of a name counts; a text may hold a comma between quotes, and `=` without them
+abbrev pub GivenValues : Type 0
+GivenValues =
+    map (given_values three) ([] ∷ codes " N = -3 , T='a,b',N=04" ∷ codes "T=x=y,B=true" ∷ codes "T=" ∷ [])
+    ≡ Some (Int (pos 7) ∷ Str (codes "none") ∷ Truth false ∷ [])
+    ∷ Some (Int (pos 4) ∷ Str (codes "a,b") ∷ Truth false ∷ [])
+    ∷ Some (Int (pos 7) ∷ Str (codes "x=y") ∷ Truth true ∷ [])
+    ∷ Some (Int (pos 7) ∷ Str [] ∷ Truth false ∷ []) ∷ []
+
+-- blanks alone, no `=`, an unknown name, a value of another type, too large an integer, a quote that is not closed
+abbrev pub RefusedTexts : Type 0
+RefusedTexts =
+    map (given_values three) (codes " " ∷ codes "N" ∷ codes "M=1" ∷ codes "B=1" ∷ codes "N=2147483648" ∷ codes "T='a" ∷ codes "N=1,N=x" ∷ [])
+    ≡ None ∷ None ∷ None ∷ None ∷ None ∷ None ∷ None ∷ []
+
+-- a call takes the reply behind those of the calls before it, a reply may end the run, and without one it is asked
+abbrev pub Replies : Type 0
+Replies =
+    map (λ replies. ask (record { replies = replies; budget = 0 }) call.Wait (record { calls = call.IsEmpty ∷ []; ticks = 3 }))
+    ((reply.Flag true ∷ reply.Unit ∷ []) ∷ (reply.Flag true ∷ reply.Halt ∷ []) ∷ (reply.Flag true ∷ reply.Fault Busy ∷ []) ∷ (reply.Flag true ∷ []) ∷ [])
+    ≡ Took reply.Unit (record { calls = call.IsEmpty ∷ call.Wait ∷ []; ticks = 3 })
+    ∷ Cut Stopped (record { calls = call.IsEmpty ∷ call.Wait ∷ []; ticks = 3 })
+    ∷ Cut (Failed Busy) (record { calls = call.IsEmpty ∷ call.Wait ∷ []; ticks = 3 })
+    ∷ Cut (Asking call.Wait) (record { calls = call.IsEmpty ∷ []; ticks = 3 }) ∷ []
+
+-- a pipe is taken until its end; where it has not ended, the call is asked once more
+abbrev pub Drains : Type 0
+Drains =
+    map (λ replies. inquire (record { replies = replies; budget = 0 }) (UntilEnd (call.PipeTake (codes "p"))) (record { calls = []; ticks = 0 }))
+    ((reply.Bytes (1 ∷ 2 ∷ []) ∷ reply.Bytes (3 ∷ []) ∷ reply.PipeEnd ∷ []) ∷ (reply.Bytes (1 ∷ []) ∷ []) ∷ [])
+    ≡ Took (Drained (1 ∷ 2 ∷ 3 ∷ [])) (record { calls = call.PipeTake (codes "p") ∷ call.PipeTake (codes "p") ∷ call.PipeTake (codes "p") ∷ []; ticks = 0 })
+    ∷ Cut (Asking (call.PipeTake (codes "p"))) (record { calls = call.PipeTake (codes "p") ∷ []; ticks = 0 }) ∷ []
+
+-- the last tick of a budget, and one more
+abbrev pub Ticks : Type 0
+Ticks =
+    map (λ taken. tick (record { replies = []; budget = 2 }) (record { calls = []; ticks = taken })) (1 ∷ 2 ∷ [])
+    ≡ Took tt (record { calls = []; ticks = 2 }) ∷ Cut Spent (record { calls = []; ticks = 2 }) ∷ []

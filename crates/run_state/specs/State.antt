@@ -1,0 +1,122 @@
+-- The state of a run, the same for the meaning of a model and for the machine, and what a run is given
+-- from outside.
+
+use Rattle.std.specs.Prelude.{ℕ, ◌+◌, Bool, true, false, List, [], ◌∷◌, ◌++◌, Option, Some, None, nat_lt, nat_le, length, if◌then◌else◌}
+use Rattle.mos_text.specs.declared.fault_kind.FaultKind.TheVariants.{OutFull}
+use Rattle.job_calls.specs.declared.call.Call.{Call}
+use Rattle.job_calls.specs.declared.reply.Reply.{Reply}
+use Rattle.mos_value.specs.Values.{Value}
+use Rattle.mos_value.specs.Answers.{Result, Gives, Faults, Sticks}
+use Rattle.run_state.specs.Stops.{Stop, Failed, Spent, Stuck, Outcome}
+
+-- what a run is given from outside; it never changes
+pub record World : Type 0 where
+  pub replies : List Reply  -- to its calls, in order
+  pub budget : ℕ  -- of ticks
+
+-- the values that are held, frame by frame, the newest frame first, and what was written
+pub record Memory : Type 0 where
+  pub store : List (List Value)
+  pub output : List ℕ
+
+-- what was had of the world so far
+pub record Counts : Type 0 where
+  pub calls : List Call  -- answered, in order
+  pub ticks : ℕ  -- taken
+
+-- the state of a run
+pub record State : Type 0 where
+  pub memory : Memory
+  pub counts : Counts
+
+-- a run that begins with these values in the model's frame
+abbrev pub beginning : List Value → State
+beginning values = record {
+  memory = record { store = values ∷ []; output = [] };
+  counts = record { calls = []; ticks = 0 };
+}
+
+-- the same with another store, with other counts
+abbrev pub over : List (List Value) → State → State
+over store s = record s { memory = record s.memory { store = store } }
+
+-- with other counts
+abbrev pub counting : Counts → State → State
+counting counts s = record s { counts = counts }
+
+-- what is told of a run that stopped in this state
+abbrev pub outcome_of : Stop → State → Outcome
+outcome_of stop s = record {
+  output = s.memory.output;
+  calls = s.counts.calls;
+  ticks = s.counts.ticks;
+  stop = stop;
+}
+
+-- What is done comes to a result, or stops the run.
+
+-- with the state behind it; a stop may have its line in the source
+pub data Out (A : Type 0) : Type 0 where
+  Gave : (x : A) (s : State) → Out A
+  Halts : (stop : Stop) (line : Option ℕ) (s : State) → Out A
+
+-- one thing, then what is done with its result
+abbrev pub bind : {A B : Type 0} → Out A → (A → State → Out B) → Out B
+bind (Gave x s) go = go x s
+bind (Halts stop line s) go = Halts stop line s
+
+-- a stop that has no line yet has this one
+abbrev pub line_or : Option ℕ → ℕ → ℕ
+line_or None line = line
+line_or (Some inner) line = inner
+
+-- what arises in the piece on this line
+abbrev pub on_line : {A : Type 0} → ℕ → Out A → Out A
+on_line line (Gave x s) = Gave x s
+on_line line (Halts stop inner s) = Halts stop (Some (line_or inner line)) s
+
+-- what is there, or this stop
+abbrev pub or_stop : {A : Type 0} → Stop → Option A → State → Out A
+or_stop stop None s = Halts stop None s
+or_stop stop (Some x) s = Gave x s
+
+-- the answer of an operator
+abbrev pub answered : Result → State → Out Value
+answered (Gives value) s = Gave value s
+answered (Faults kind) s = Halts (Failed kind) None s
+answered Sticks s = Halts Stuck None s
+
+-- What is had of the world.
+
+-- it comes to a result, or stops the run, with the counts behind it
+pub data Told (A : Type 0) : Type 0 where
+  Took : (x : A) (counts : Counts) → Told A
+  Cut : (stop : Stop) (counts : Counts) → Told A
+
+-- what is had of the world, with the state behind it
+abbrev pub had : {A : Type 0} → Told A → State → Out A
+had (Took x counts) s = Gave x (counting counts s)
+had (Cut stop counts) s = Halts stop None (counting counts s)
+
+-- a tick, if one is left
+abbrev pub tick_if : Bool → Counts → Told (Unit {0})
+tick_if true counts = Took tt (record counts { ticks = counts.ticks + 1 })
+tick_if false counts = Cut Spent counts
+
+-- a tick, where one is left
+abbrev pub tick : World → Counts → Told (Unit {0})
+tick w counts = tick_if (nat_lt counts.ticks w.budget) counts
+
+-- What is written.
+
+-- a text goes to the output, which has at most 1,048,576 bytes, or nothing does
+abbrev pub write : List ℕ → State → Out (Unit {0})
+write text s =
+    if nat_le (length s.memory.output + length text) 1048576
+    then Gave tt (record s { memory = record s.memory { output = s.memory.output ++ text } })
+    else Halts (Failed OutFull) None s
+
+-- a newline, where one is wanted
+abbrev pub line_end : Bool → List ℕ
+line_end true = 10 ∷ []
+line_end false = []
