@@ -252,12 +252,19 @@ def pages():
 
 
 def clauses():
-    """The width of each clause, with its place."""
+    """The width of the widest line of each clause, with its place."""
     for crate in crates():
         for path in files(crate, "src", ".rt"):
+            open_braces, width, place = 0, 0, ""
             for number, line in enumerate(path.read_text().splitlines(), 1):
                 if re.match(r"\s*(ensures|requires)\b", line):
-                    yield len(line), f"{path.relative_to(TOP)}:{number}"
+                    open_braces, width, place = 0, 0, f"{path.relative_to(TOP)}:{number}"
+                if place:
+                    width = max(width, len(line))
+                    open_braces += line.count("{") - line.count("}")
+                    if open_braces <= 0:
+                        yield width, place
+                        place = ""
 
 
 def wide_clauses():

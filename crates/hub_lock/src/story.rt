@@ -38,9 +38,12 @@ pub trait Story: Drop {
             × (list self.new ≡ list self.old ++ entry ∷ [])
             × (lane_of entry ≡ lane)
             × answers (list self.old) lane call entry acted) }
-        ensures sound { IfOk result (λ _. sound (list self.new) × (length (list self.new) < 2 ^ 32)) }
-        ensures refused { IfErr result (λ held. (list self.new ≡ list self.old) × refuses (list self.old) lane call held) }
-        ensures not_ready { IfErr result (λ held. (same : Self.Call) → waits held ≡ Some same → same ≡ call) };
+        ensures sound { IfOk result
+            (λ _. sound (list self.new) × (length (list self.new) < 2 ^ 32)) }
+        ensures refused { IfErr result
+            (λ held. (list self.new ≡ list self.old) × refuses (list self.old) lane call held) }
+        ensures not_ready { IfErr result
+            (λ held. (same : Self.Call) → waits held ≡ Some same → same ≡ call) };
 
     /// The number of entries.
     fn entries(&self) -> u32
@@ -49,5 +52,6 @@ pub trait Story: Drop {
 
     /// The refused call, where the refusal means "not ready"; else the refusal.
     fn again(held: Self::Held) -> Result<Self::Call, Self::Held>
-        ensures { MatchResult result (λ call. waits held ≡ Some call) (λ same. (same ≡ held) × (waits held ≡ None)) };
+        ensures { MatchResult result (λ call. waits held ≡ Some call)
+            (λ same. (same ≡ held) × (waits held ≡ None)) };
 }

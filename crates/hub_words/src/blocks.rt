@@ -26,7 +26,8 @@ fn last_write(name: &Text, journal: &[Entry]) -> Option<usize>
 
 /// The bytes that a call writes.
 fn bytes_written(call: &Call) -> Option<&SharedBlob>
-    ensures { MatchOption result (blocks.bytes_written call.now ≡ None) (λ bytes. blocks.bytes_written call.now ≡ Some bytes.now) }
+    ensures { MatchOption result (blocks.bytes_written call.now ≡ None)
+        (λ bytes. blocks.bytes_written call.now ≡ Some bytes.now) }
 {
     match call {
         Call::Write { bytes, .. } => Some(bytes),
@@ -37,7 +38,8 @@ fn bytes_written(call: &Call) -> Option<&SharedBlob>
 /// What the entry at this place wrote.
 fn written_at(place: usize, journal: &[Entry]) -> Option<(u32, &SharedBlob)>
     requires { place < 2 ^ 31 }
-    ensures { MatchOption result (blocks.written_at place journal.now ≡ None) (λ w. IsWritten (blocks.written_at place journal.now) w.0 w.1.now) }
+    ensures { MatchOption result (blocks.written_at place journal.now ≡ None)
+        (λ w. IsWritten (blocks.written_at place journal.now) w.0 w.1.now) }
 {
     match journal.get(place) {
         None => None,
@@ -51,7 +53,8 @@ fn written_at(place: usize, journal: &[Entry]) -> Option<(u32, &SharedBlob)>
 /// What was last written under this name, and the place of the entry that wrote it.
 pub(crate) fn last_written<'a>(name: &Text, journal: &'a [Entry]) -> Option<(u32, &'a SharedBlob)>
     requires { length journal.now < 2 ^ 31 }
-    ensures { MatchOption result (blocks.last_written name.now journal.now ≡ None) (λ w. IsWritten (blocks.last_written name.now journal.now) w.0 w.1.now) }
+    ensures { MatchOption result (blocks.last_written name.now journal.now ≡ None)
+        (λ w. IsWritten (blocks.last_written name.now journal.now) w.0 w.1.now) }
 {
     match last_write(name, journal) {
         None => None,

@@ -140,7 +140,8 @@ fn call_fits(lane: u32, journal: &[Entry], run: Option<u32>, call: &Call) -> boo
 
 /// The lane may make this call, for itself or for the run.
 pub(crate) fn fits(journal: &[Entry], lane: u32, run: Option<u32>, call: &Call) -> bool
-    ensures { result ≡ fitting.fits (opening journal.now) (own_entries lane journal.now) lane run call.now }
+    ensures { result
+        ≡ fitting.fits (opening journal.now) (own_entries lane journal.now) lane run call.now }
 {
     lane < lanes_of(journal) && call_fits(lane, journal, run, call)
 }

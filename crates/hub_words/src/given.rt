@@ -13,7 +13,8 @@ pub(crate) fn last_given<T: Copy, F: Fn(&Entry) -> Option<T>>(
     give: F,
 ) -> Option<T>
     requires { F.IsAlwaysCallable give }
-    ensures { (word : Entry → Option T) → Computes F.Fn give word → result ≡ last_given word journal.now }
+    ensures { (word : Entry → Option T) → Computes F.Fn give word → result
+        ≡ last_given word journal.now }
 {
     let mut last = None;
     for entry in journal {
@@ -25,7 +26,8 @@ pub(crate) fn last_given<T: Copy, F: Fn(&Entry) -> Option<T>>(
 /// The place of the last entry that passes the test.
 pub(crate) fn last_place<F: Fn(&Entry) -> bool>(journal: &[Entry], passes: F) -> Option<usize>
     requires { F.IsAlwaysCallable passes }
-    ensures { (test : Entry → Bool) → Computes F.Fn passes test → result ≡ last_place test journal.now }
+    ensures { (test : Entry → Bool) → Computes F.Fn passes test → result
+        ≡ last_place test journal.now }
 {
     let mut last = None;
     for (i, entry) in journal.iter().enumerate() {

@@ -121,7 +121,8 @@ pub trait Lookups {
     /// What was last written under this name, and the place of the entry that wrote it.
     fn last_written(&self, name: &Text) -> Option<(u32, &SharedBlob)>
         requires { IsSmall (list self.now) }
-        ensures { MatchOption result (blocks.last_written name.now (list self.now) ≡ None) (λ w. IsWritten (blocks.last_written name.now (list self.now)) w.0 w.1.now) };
+        ensures { MatchOption result (blocks.last_written name.now (list self.now) ≡ None)
+            (λ w. IsWritten (blocks.last_written name.now (list self.now)) w.0 w.1.now) };
 
     /// The place of the first event that the run has not taken.
     fn first_event(&self, run: u32) -> Option<u32>

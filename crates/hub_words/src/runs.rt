@@ -66,7 +66,8 @@ pub(crate) fn source_of(k: u32, journal: &[Entry]) -> Option<u32>
 
 /// The parameter text that this entry starts run k with.
 fn params_started(k: u32, entry: &Entry) -> Option<&Text>
-    ensures { option_copied result ≡ option_map (λ start. start.params) (runs.start_of_run k entry.now) }
+    ensures { option_copied result ≡ option_map
+        (λ start. start.params) (runs.start_of_run k entry.now) }
 {
     match (&entry.call, &entry.reply) {
         (Call::Run { params, .. }, Reply::Started { run }) if *run == k => Some(params),
@@ -85,7 +86,8 @@ fn params_opened(call: &Call) -> Option<&Text>
 
 /// The parameter text that run k was last started with.
 fn params_of_start(k: u32, journal: &[Entry]) -> Option<&Text>
-    ensures { option_copied result ≡ runs.last_given (λ e. option_map (λ start. start.params) (runs.start_of_run k e)) journal.now }
+    ensures { option_copied result ≡ runs.last_given (λ e. option_map
+        (λ start. start.params) (runs.start_of_run k e)) journal.now }
 {
     let mut found = None;
     for e in journal {

@@ -37,7 +37,8 @@ pub(crate) fn is_key(word: &Word, kind: TokenKind) -> bool
 
 /// The words before the last one, where that is this token.
 pub(crate) fn before_last(words: &[Word], kind: TokenKind) -> Option<&[Word]>
-    ensures { MatchOption result (AreNo (spec.before kind) words.now) (λ inside. words.now ≡ spec.before kind inside.now) }
+    ensures { MatchOption result (AreNo (spec.before kind) words.now)
+        (λ inside. words.now ≡ spec.before kind inside.now) }
 {
     match last(words) {
         Some((last, inside)) if is_key(last, kind) => Some(inside),
@@ -47,7 +48,8 @@ pub(crate) fn before_last(words: &[Word], kind: TokenKind) -> Option<&[Word]>
 
 /// The words between these two tokens, where they are the first and the last.
 pub(crate) fn enclosed(words: &[Word], opens: TokenKind, closes: TokenKind) -> Option<&[Word]>
-    ensures { MatchOption result (AreNo (spec.within opens closes) words.now) (λ inside. words.now ≡ spec.within opens closes inside.now) }
+    ensures { MatchOption result (AreNo (spec.within opens closes) words.now)
+        (λ inside. words.now ≡ spec.within opens closes inside.now) }
 {
     match first(words) {
         Some((first, rest)) if is_key(first, opens) => before_last(rest, closes),
@@ -57,7 +59,8 @@ pub(crate) fn enclosed(words: &[Word], opens: TokenKind, closes: TokenKind) -> O
 
 /// The name that the word is.
 fn name_of(word: &Word) -> Option<&SourceText>
-    ensures { MatchOption result ((name : List ℕ) → word.now ≡ w.Name name → ⊥) (λ name. word.now ≡ w.Name name.now) }
+    ensures { MatchOption result ((name : List ℕ) → word.now ≡ w.Name name → ⊥)
+        (λ name. word.now ≡ w.Name name.now) }
 {
     match word {
         Word::Name(name) => Some(name),
@@ -67,7 +70,8 @@ fn name_of(word: &Word) -> Option<&SourceText>
 
 /// The first word, where it is a name, and the others.
 pub(crate) fn first_name(words: &[Word]) -> Option<(&SourceText, &[Word])>
-    ensures { MatchOption result (AreNoPair spec.behind_name words.now) (λ p. words.now ≡ spec.behind_name p.0.now p.1.now) }
+    ensures { MatchOption result (AreNoPair spec.behind_name words.now)
+        (λ p. words.now ≡ spec.behind_name p.0.now p.1.now) }
 {
     match first(words) {
         Some((Word::Name(name), rest)) => Some((name, rest)),
@@ -77,7 +81,8 @@ pub(crate) fn first_name(words: &[Word]) -> Option<(&SourceText, &[Word])>
 
 /// The first word, where it is a token, and the others.
 pub(crate) fn first_key(words: &[Word]) -> Option<(TokenKind, &[Word])>
-    ensures { MatchOption result (AreNoPair spec.behind_key words.now) (λ p. words.now ≡ spec.behind_key p.0 p.1.now) }
+    ensures { MatchOption result (AreNoPair spec.behind_key words.now)
+        (λ p. words.now ≡ spec.behind_key p.0 p.1.now) }
 {
     match first(words) {
         Some((Word::Key(kind), rest)) => Some((*kind, rest)),
@@ -87,7 +92,8 @@ pub(crate) fn first_key(words: &[Word]) -> Option<(TokenKind, &[Word])>
 
 /// A part that ends in a field: the words between its brackets, and the field.
 pub(crate) fn before_field(words: &[Word]) -> Option<(&[Word], &SourceText)>
-    ensures { MatchOption result (AreNoPair spec.with_field words.now) (λ p. words.now ≡ spec.with_field p.0.now p.1.now) }
+    ensures { MatchOption result (AreNoPair spec.with_field words.now)
+        (λ p. words.now ≡ spec.with_field p.0.now p.1.now) }
 {
     let (word, before) = last(words)?;
     let field = name_of(word)?;
@@ -102,7 +108,8 @@ pub(crate) fn before_field(words: &[Word]) -> Option<(&[Word], &SourceText)>
 
 /// The heading of a function: the words of its formals, and that of its result.
 pub(crate) fn before_result(words: &[Word]) -> Option<(&[Word], &Word)>
-    ensures { MatchOption result (AreNoPair spec.with_result words.now) (λ p. words.now ≡ spec.with_result p.0.now p.1.now) }
+    ensures { MatchOption result (AreNoPair spec.with_result words.now)
+        (λ p. words.now ≡ spec.with_result p.0.now p.1.now) }
 {
     match last(words) {
         Some((typ, before)) => match before_last(before, TokenKind::Colon) {
@@ -143,7 +150,8 @@ fn plain_words(words: &[Word]) -> usize
 
 /// The first word that may stand in no expression, with the words before and behind it.
 pub(crate) fn parted(words: &[Word]) -> Option<(&[Word], &Word, &[Word])>
-    ensures { MatchOption result (plain.ArePlain words.now) (λ p. spec.ArePartedAt words.now p.0.now p.1.now p.2.now) }
+    ensures { MatchOption result (plain.ArePlain words.now)
+        (λ p. spec.ArePartedAt words.now p.0.now p.1.now p.2.now) }
 {
     let (before, rest) = words.split_at(plain_words(words).min(words.len()));
     match first(rest) {

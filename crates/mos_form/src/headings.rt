@@ -72,7 +72,8 @@ fn procedure_of(
     name: &SourceText,
     words: &[Word],
 ) -> Result<Form, NoMemory>
-    ensures { IfOk result (spec.TellsFormals (λ xs. fixed.heading forward name.now xs None) words.now) }
+    ensures { IfOk result (spec.TellsFormals
+        (λ xs. fixed.heading forward name.now xs None) words.now) }
 {
     let name = name.copy(alloc)?;
     match formals(alloc, words) {
@@ -92,7 +93,8 @@ fn function_of(
     words: &[Word],
     base: BaseType,
 ) -> Result<Form, NoMemory>
-    ensures { IfOk result (spec.TellsFormals (λ xs. fixed.heading forward name.now xs (Some base)) words.now) }
+    ensures { IfOk result (spec.TellsFormals
+        (λ xs. fixed.heading forward name.now xs (Some base)) words.now) }
 {
     let name = name.copy(alloc)?;
     match formals(alloc, words) {
@@ -122,7 +124,8 @@ fn after_name(
     name: &SourceText,
     words: &[Word],
 ) -> Result<Form, NoMemory>
-    ensures { IfOk result (spec.TellsPiece (fixed.lead forward t.Function (w.Name name.now ∷ words.now))) }
+    ensures { IfOk result (spec.TellsPiece (fixed.lead forward t.Function (w.Name name.now
+        ∷ words.now))) }
 {
     match before_result(words) {
         Some((formals, word)) => {

@@ -25,7 +25,8 @@ fn text_step(
     mode: TextMode,
     word: &Word,
 ) -> Result<Option<TextMode>, NoMemory>
-    ensures { IfOk result (λ next. spec.text_step mode found.old.items word.now ≡ spec.with_texts next found.new.items) }
+    ensures { IfOk result (λ next. spec.text_step mode found.old.items word.now
+        ≡ spec.with_texts next found.new.items) }
 {
     match mode {
         TextMode::Want => wanted_text(alloc, found, word),
@@ -38,7 +39,8 @@ fn wanted_text(
     found: &mut Vec<SourceText>,
     word: &Word,
 ) -> Result<Option<TextMode>, NoMemory>
-    ensures { IfOk result (λ next. spec.text_step mode.Want found.old.items word.now ≡ spec.with_texts next found.new.items) }
+    ensures { IfOk result (λ next. spec.text_step mode.Want found.old.items word.now
+        ≡ spec.with_texts next found.new.items) }
 {
     match word {
         Word::Text(text) => {
@@ -60,7 +62,8 @@ fn after_text(word: &Word) -> Option<TextMode>
 
 /// Whether the words are texts with commas between them, which are then put behind those found.
 fn read_texts(alloc: Global, found: &mut Vec<SourceText>, words: &[Word]) -> Result<bool, NoMemory>
-    ensures { IfOk result (λ read. spec.read_texts mode.Want found.old.items words.now ≡ spec.if_read read found.new.items) }
+    ensures { IfOk result (λ read. spec.read_texts mode.Want found.old.items words.now
+        ≡ spec.if_read read found.new.items) }
 {
     let mut mode = TextMode::Want;
     let mut rest = words;
@@ -132,7 +135,8 @@ fn after_label(
     name: SourceText,
     word: &Word,
 ) -> Result<Option<LabelMode>, NoMemory>
-    ensures { IfOk result (λ next. spec.label_step (label_mode.Named name) found.old.items word.now ≡ spec.with_labels next found.new.items) }
+    ensures { IfOk result (λ next. spec.label_step (label_mode.Named name) found.old.items word.now
+        ≡ spec.with_labels next found.new.items) }
 {
     match word {
         Word::Key(TokenKind::Comma) => {
@@ -192,7 +196,8 @@ fn label_step(
     mode: LabelMode,
     word: &Word,
 ) -> Result<Option<LabelMode>, NoMemory>
-    ensures { IfOk result (λ next. spec.label_step mode found.old.items word.now ≡ spec.with_labels next found.new.items) }
+    ensures { IfOk result (λ next. spec.label_step mode found.old.items word.now
+        ≡ spec.with_labels next found.new.items) }
 {
     match mode {
         LabelMode::Want => wanted_name(alloc, word),
@@ -203,7 +208,8 @@ fn label_step(
 }
 
 fn last_label(found: &mut Vec<Label>, mode: LabelMode) -> Result<bool, NoMemory>
-    ensures { IfOk result (λ read. spec.last_label mode found.old.items ≡ spec.if_read read found.new.items) }
+    ensures { IfOk result
+        (λ read. spec.last_label mode found.old.items ≡ spec.if_read read found.new.items) }
 {
     match mode {
         LabelMode::Want | LabelMode::WantText(_) => Ok(false),
@@ -220,7 +226,8 @@ fn last_label(found: &mut Vec<Label>, mode: LabelMode) -> Result<bool, NoMemory>
 
 /// Whether the words are labels with commas between them, which are then put behind those found.
 fn read_labels(alloc: Global, found: &mut Vec<Label>, words: &[Word]) -> Result<bool, NoMemory>
-    ensures { IfOk result (λ read. spec.read_labels label_mode.Want found.old.items words.now ≡ spec.if_read read found.new.items) }
+    ensures { IfOk result (λ read. spec.read_labels label_mode.Want found.old.items words.now
+        ≡ spec.if_read read found.new.items) }
 {
     let mut mode = LabelMode::Want;
     let mut rest = words;

@@ -98,7 +98,8 @@ fn single_word(kind: TokenKind) -> Form
 
 /// The words of the condition behind its keyword.
 fn condition(keyword: ConditionKeyword, rest: &[Word]) -> Option<&[Word]>
-    ensures { MatchOption result (AreNo (fixed.around keyword) rest.now) (λ inside. rest.now ≡ fixed.around keyword inside.now) }
+    ensures { MatchOption result (AreNo (fixed.around keyword) rest.now)
+        (λ inside. rest.now ≡ fixed.around keyword inside.now) }
 {
     match keyword {
         ConditionKeyword::If | ConditionKeyword::Elif => before_last(rest, TokenKind::Then),
@@ -220,7 +221,8 @@ fn set_variable(
     operator: Assignment,
     behind: &[Word],
 ) -> Result<Form, NoMemory>
-    ensures { IfOk result (spec.TellsPiece (w.Name name.now ∷ operator_word operator ∷ behind.now)) }
+    ensures { IfOk result (spec.TellsPiece (w.Name name.now ∷ operator_word operator
+        ∷ behind.now)) }
 {
     let name = name.copy(alloc)?;
     assignment(alloc, Reference::Name(name), operator, behind)
@@ -243,7 +245,8 @@ fn after_field(
     field: &SourceText,
     rest: &[Word],
 ) -> Result<Form, NoMemory>
-    ensures { IfOk result (spec.TellsPiece (w.Name name.now ∷ w.Key t.Dot ∷ w.Name field.now ∷ rest.now)) }
+    ensures { IfOk result (spec.TellsPiece (w.Name name.now ∷ w.Key t.Dot ∷ w.Name field.now
+        ∷ rest.now)) }
 {
     match first(rest) {
         Some((word, value)) => match operator_of(word) {
@@ -262,7 +265,8 @@ fn set_field(
     operator: Assignment,
     value: &[Word],
 ) -> Result<Form, NoMemory>
-    ensures { IfOk result (spec.TellsPiece (w.Name name.now ∷ w.Key t.Dot ∷ w.Name field.now ∷ operator_word operator ∷ value.now)) }
+    ensures { IfOk result (spec.TellsPiece (w.Name name.now ∷ w.Key t.Dot ∷ w.Name field.now
+        ∷ operator_word operator ∷ value.now)) }
 {
     let name = name.copy(alloc)?;
     let field = field.copy(alloc)?;

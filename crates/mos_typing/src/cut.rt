@@ -26,8 +26,10 @@ fn depth_behind(word: &Word, depth: usize) -> usize
 
 /// The words before the first comma outside brackets, and those behind it.
 pub(crate) fn cut_at_comma(words: &[Word]) -> Option<(&[Word], &[Word])>
-    ensures value { MatchOption result (cutting.cut 0 words.now ≡ None) (λ parts. cutting.IsCommaCut words.now parts.0.now parts.1.now) }
-    ensures shorter { MatchOption result (Unit {0}) (λ parts. length parts.1.now < length words.now) }
+    ensures value { MatchOption result (cutting.cut 0 words.now ≡ None)
+        (λ parts. cutting.IsCommaCut words.now parts.0.now parts.1.now) }
+    ensures shorter { MatchOption result (Unit {0})
+        (λ parts. length parts.1.now < length words.now) }
 {
     let mut at: usize = 0;
     let mut depth: usize = 0;
@@ -52,8 +54,10 @@ fn is_colon(word: &Word) -> bool
 
 /// The words before the first colon, and those behind it.
 pub(crate) fn cut_at_colon(words: &[Word]) -> Option<(&[Word], &[Word])>
-    ensures value { MatchOption result (cutting.cut_at_colon words.now ≡ None) (λ parts. cutting.IsColonCut words.now parts.0.now parts.1.now) }
-    ensures shorter { MatchOption result (Unit {0}) (λ parts. length parts.1.now < length words.now) }
+    ensures value { MatchOption result (cutting.cut_at_colon words.now ≡ None)
+        (λ parts. cutting.IsColonCut words.now parts.0.now parts.1.now) }
+    ensures shorter { MatchOption result (Unit {0})
+        (λ parts. length parts.1.now < length words.now) }
 {
     let mut at: usize = 0;
     let mut rest = words;

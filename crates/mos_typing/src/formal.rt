@@ -46,8 +46,10 @@ fn group(alloc: Global, names: &[Word], typ: &[Word]) -> Result<FormalGroup, Exp
 
 /// The names of the first group, its type, and what stands behind the comma behind it.
 fn first_group(words: &[Word]) -> Option<(&[Word], &[Word], &[Word])>
-    ensures value { MatchOption result (cutting.first_group words.now ≡ None) (λ parts. cutting.IsFirstGroup words.now parts.0.now parts.1.now parts.2.now) }
-    ensures shorter { MatchOption result (Unit {0}) (λ parts. length parts.2.now < length words.now) }
+    ensures value { MatchOption result (cutting.first_group words.now ≡ None)
+        (λ parts. cutting.IsFirstGroup words.now parts.0.now parts.1.now parts.2.now) }
+    ensures shorter { MatchOption result (Unit {0})
+        (λ parts. length parts.2.now < length words.now) }
 {
     let Some((names, typed)) = cut_at_colon(words) else {
         return None;

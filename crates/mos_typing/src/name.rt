@@ -13,7 +13,8 @@ use std::alloc::Global;
 
 /// What stands behind a comma.
 fn behind_comma(words: &[Word]) -> Option<&[Word]>
-    ensures { MatchOption result ((more : List WordType) → words.now ≡ w.Key t.Comma ∷ more → ⊥) (λ more. words.now ≡ w.Key t.Comma ∷ more.now) }
+    ensures { MatchOption result ((more : List WordType) → words.now ≡ w.Key t.Comma ∷ more → ⊥)
+        (λ more. words.now ≡ w.Key t.Comma ∷ more.now) }
 {
     match words {
         [Word::Key(TokenKind::Comma), more @ ..] => Some(more),

@@ -10,7 +10,8 @@ use mos_text::{NoMemory, let_go};
 use sqlite_items::Items;
 
 fn pushed<T: Drop>(done: Option<Items<T>>, item: T) -> Result<Option<Items<T>>, NoMemory>
-    ensures { IfOk result (λ next. (q : Result (List T) Fault) → joining.behind next q ≡ joining.behind done (joining.on_ok (joining.first_of item) q)) }
+    ensures { IfOk result (λ next. (q : Result (List T) Fault) → joining.behind next q
+        ≡ joining.behind done (joining.on_ok (joining.first_of item) q)) }
 {
     match done {
         None => {
@@ -29,7 +30,8 @@ pub(crate) fn with<T: Drop>(
     done: Option<Items<T>>,
     read: Result<T, ExprFault>,
 ) -> Result<Option<Items<T>>, ExprFault>
-    ensures next { IfOk result (λ next. (q : Result (List T) Fault) → joining.behind next q ≡ joining.behind done (joining.both joining.first_of read q)) }
+    ensures next { IfOk result (λ next. (q : Result (List T) Fault) → joining.behind next q
+        ≡ joining.behind done (joining.both joining.first_of read q)) }
     ensures nothing { IsErrOf result fault.NoExpr → read ≡ Err fault.NoExpr }
     ensures never { IsErrOf result fault.Deep → ⊥ }
 {

@@ -65,7 +65,8 @@ fn array_type(
     indexes: &[Word],
     cell: &Word,
 ) -> Result<TypeForm, ExprFault>
-    ensures { Says (spelling.IsTypeForm (typing.dynamic_words dynamic ++ shapes.array_of indexes.now cell.now)) result }
+    ensures { Says (spelling.IsTypeForm (typing.dynamic_words dynamic
+        ++ shapes.array_of indexes.now cell.now)) result }
 {
     match base_of_word(alloc, cell)? {
         None => Err(ExprFault::NoExpr),
@@ -85,7 +86,8 @@ fn dynamic_type(alloc: Global, words: &[Word]) -> Result<TypeForm, ExprFault>
 
 /// A type without the word `dynamic`.
 fn static_type(alloc: Global, words: &[Word]) -> Result<TypeForm, ExprFault>
-    ensures { ((rest : List WordType) → words.now ≡ w.Key t.Dynamic ∷ rest → ⊥) → Says (spelling.IsTypeForm words.now) result }
+    ensures { ((rest : List WordType) → words.now
+        ≡ w.Key t.Dynamic ∷ rest → ⊥) → Says (spelling.IsTypeForm words.now) result }
 {
     match array_parts(words) {
         Some((indexes, cell)) => array_type(alloc, false, indexes, cell),

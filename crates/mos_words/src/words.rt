@@ -97,7 +97,8 @@ fn has_unknown(options: &[OptionName], arguments: &[Text]) -> bool
 }
 
 fn has_one_twice(options: &[OptionName], arguments: &[Text]) -> bool
-    ensures { result ≡ list_any (λ option. nat_lt 1 (length (values option arguments.now))) options.now }
+    ensures { result ≡ list_any
+        (λ option. nat_lt 1 (length (values option arguments.now))) options.now }
 {
     options
         .iter()
@@ -105,7 +106,8 @@ fn has_one_twice(options: &[OptionName], arguments: &[Text]) -> bool
 }
 
 fn has_one_wrong(options: &[OptionName], arguments: &[Text]) -> bool
-    ensures { result ≡ list_any (λ option. not (list_all (is_value option) (values option arguments.now))) options.now }
+    ensures { result ≡ list_any
+        (λ option. not (list_all (is_value option) (values option arguments.now))) options.now }
 {
     options
         .iter()

@@ -52,7 +52,8 @@ fn both<R: Threads + Wait + Sync>(
         rt,
         || -> (Seat<Relay>, u32)
             requires { IsSeatOf keep.now first × IsReady first 1 }
-            ensures { IsSeatOf keep.entry.now result.0 × (lane result.0 ≡ lane first) × (seats_made result.0 ≡ seats_made first) }
+            ensures { IsSeatOf keep.entry.now result.0 × (lane result.0
+                ≡ lane first) × (seats_made result.0 ≡ seats_made first) }
         { run(rt, keep, first, 1, 100) },
         || -> (Seat<Relay>, u32)
             requires { IsSeatOf keep.now second × IsReady second 0 }

@@ -55,11 +55,13 @@ fn two_threads<R: Threads + Wait + Sync>(
         rt,
         || -> Seat<Tally>
             requires { IsSeatOf keep.now first }
-            ensures { IsSeatOf keep.entry.now result × (lane result ≡ lane first) × (seats_made result ≡ seats_made first) }
+            ensures { IsSeatOf keep.entry.now result × (lane result
+                ≡ lane first) × (seats_made result ≡ seats_made first) }
         { put_ones(rt, keep, first, 1000) },
         || -> Seat<Tally>
             requires { IsSeatOf keep.now second }
-            ensures { IsSeatOf keep.entry.now result × (lane result ≡ lane second) × (seats_made result ≡ seats_made second) }
+            ensures { IsSeatOf keep.entry.now result × (lane result
+                ≡ lane second) × (seats_made result ≡ seats_made second) }
         { put_ones(rt, keep, second, 1000) },
     )
 }
@@ -81,7 +83,8 @@ fn three_threads<R: Threads + Wait + Sync>(
         rt,
         || -> Seat<Tally>
             requires { IsSeatOf keep.now first }
-            ensures { IsSeatOf keep.entry.now result × (lane result ≡ lane first) × (seats_made result ≡ seats_made first) }
+            ensures { IsSeatOf keep.entry.now result × (lane result
+                ≡ lane first) × (seats_made result ≡ seats_made first) }
         { put_ones(rt, keep, first, 1000) },
         || -> (Seat<Tally>, Seat<Tally>)
             requires { IsSync R.row × IsSeatOf keep.now second × IsSeatOf keep.now third }
@@ -120,9 +123,11 @@ fn split_all<R: Wait>(
 ) -> Result<Vec<Seat<Tally>>, NoMemory>
     requires own { IsSeatOf keep.now first.old × (lane first.old ≡ 0) × (seats_made first.old ≡ 1) }
     requires lanes { (0 < lanes) × (lanes ≤ most_lanes keep.now) }
-    ensures own { IfOk result (λ others. IsSeatOf keep.now first.new × All (λ other. IsSeatOf keep.now other) others.items) }
+    ensures own { IfOk result (λ others. IsSeatOf keep.now first.new × All
+        (λ other. IsSeatOf keep.now other) others.items) }
     ensures lanes { IfOk result (λ others. (lane first.new ≡ 0) × InOrder others.items) }
-    ensures all { IfOk result (λ others. (seats_made first.new ≡ lanes) × (vec_len others + 1 ≡ lanes)) }
+    ensures all { IfOk result
+        (λ others. (seats_made first.new ≡ lanes) × (vec_len others + 1 ≡ lanes)) }
 {
     let mut others = Vec::new(alloc);
     for _ in 1..lanes {

@@ -22,7 +22,8 @@ fn ask<R: Wait>(
     requires lane { IsLane keep.now seat.old }
     requires may { IsTrue (fits (opened_by (first_entry seat.old)) (own seat.old) seat.old.lane run call) }
     ensures kept { IsKept keep.now seat.old seat.new }
-    ensures asked { IfSome result (λ reply. own seat.new ≡ own seat.old ++ entry_of seat.old.lane run call reply ∷ []) }
+    ensures asked { IfSome result
+        (λ reply. own seat.new ≡ own seat.old ++ entry_of seat.old.lane run call reply ∷ []) }
 {
     match keep.act_when_ready(rt, seat, HubCall { run, call }) {
         Ok(acted) => Some(acted.reply),

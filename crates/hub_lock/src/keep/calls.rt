@@ -57,7 +57,8 @@ impl<S: Story> Keep<S> {
         ensures marks { StartsWith (marks seat.new) (marks seat.old) }
         ensures acted { IfOk result (λ a. HasActed S.Story seat.old seat.new call a) }
         ensures held { IfErr result (λ h. HasHeld S.Story seat.old seat.new call h.seen h.held) }
-        ensures not_ready { IfErr result (λ h. (same : S.Call) → S.waits h.held ≡ Some same → same ≡ call) }
+        ensures not_ready { IfErr result
+            (λ h. (same : S.Call) → S.waits h.held ≡ Some same → same ≡ call) }
     {
         let mut story = self.lock.enter(rt, &mut seat.raw);
         match story.step(seat.lane, call) {

@@ -14,7 +14,8 @@ impl<S: Story> Lock<S> {
     pub(crate) fn join(&self, raw: &mut Raw<S>, gone: Raw<S>)
         requires own { raw.old.table_id ≡ self.now.table.shared.table_id }
         requires others { gone.table_id ≡ self.now.table.shared.table_id }
-        requires first { (raw.old.me.0.stage ≡ Idle) × (raw.old.me.1 ≡ []) × (raw.old.me.0.lane ≡ 0) }
+        requires first { (raw.old.me.0.stage ≡ Idle) × (raw.old.me.1 ≡ []) × (raw.old.me.0.lane
+            ≡ 0) }
         requires rests { (gone.me.0.stage ≡ Idle) × (gone.me.1 ≡ []) × (gone.me.0.joined ≡ []) }
         requires next { gone.me.0.lane ≡ length raw.old.me.0.joined + 1 }
         ensures same { IsSameRaw raw.old raw.new }

@@ -91,7 +91,8 @@ impl<S: Story> Lock<S> {
     // Passes the turn, with the value in the slot. From then on the slot is at home.
     fn pass(&self, raw: &mut Raw<S>)
         requires own { raw.old.table_id ≡ self.now.table.shared.table_id }
-        requires slot { (story : S) × HasSlot raw.old (Some story) × (S.list story ≡ raw.old.me.0.seen) }
+        requires slot { (story : S) × HasSlot raw.old (Some story) × (S.list story
+            ≡ raw.old.me.0.seen) }
         ensures same { IsSameRaw raw.old raw.new }
         ensures view { raw.new.me ≡ (after_pass raw.old.me.0, []) }
     {

@@ -43,7 +43,8 @@ pub fn lacks_value(arguments: &[Text]) -> bool
 
 /// The one file, a source, where the file words break no rule.
 pub fn only_source(named: Items<Text>) -> Option<Text>
-    ensures { MatchOption result (breaks_files named ≡ true) (λ source. (breaks_files named ≡ false) × (source ≡ slice_index_or named 0 [])) }
+    ensures { MatchOption result (breaks_files named ≡ true)
+        (λ source. (breaks_files named ≡ false) × (source ≡ slice_index_or named 0 [])) }
 {
     if breaks_files(named.as_slice()) {
         None

@@ -130,7 +130,8 @@ fn is_value(option: OptionName, word: &[u8]) -> bool
 
 /// The number that 1 to 10 decimal digits write; leading zeros are fine.
 fn number(word: &[u8]) -> Option<u64>
-    ensures { MatchOption result (is_number word.now ≡ false) (λ n. (is_number word.now ≡ true) × (n ≡ number_of word.now)) }
+    ensures { MatchOption result (is_number word.now ≡ false)
+        (λ n. (is_number word.now ≡ true) × (n ≡ number_of word.now)) }
 {
     if is_number(word) {
         Some(number_of(word))
