@@ -1,7 +1,7 @@
 -- The rules that the verifier of images asks for, as far as they speak of numbers, tables, addresses and
 -- ticks. The rules on the operand stack join them with the points of an image.
 
-use Rattle.std.specs.Prelude.{◌≡◌, ◌≢◌, ◌≤◌, ◌<◌, ◌^◌, ◌+◌, ℕ, Bool, true, false, List, [], ◌∷◌, Option, Some, None, All, FitsSigned, length, map, take, filter, nat_le, slice_get}
+use Rattle.std.specs.Prelude.{◌≡◌, ◌≢◌, ◌≤◌, ◌<◌, ◌^◌, ◌+◌, ℕ, Bool, true, false, List, Option, Some, None, All, FitsSigned, length, map, take, filter, nat_le, slice_get}
 use Rattle.std.specs.Int.{w32}
 use Rattle.std.specs.Option.{IfSome}
 use Rattle.bim_code.specs.declared.image.Image.{Image}

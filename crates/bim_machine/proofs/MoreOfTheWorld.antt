@@ -1,6 +1,6 @@
 -- More replies and a greater budget change nothing before they are reached.
 
-use Rattle.std.proofs.Common.{◌≡◌, ℕ, ◌+◌, zero, suc, Bool, true, false, List, [], ◌∷◌, ◌++◌, length, Option, Some, None, refl, sym, ap, ◌∙◌, subst, slice_get, nat_lt, nat_le, drop, ◌⊎◌, inl, inr, arith}
+use Rattle.std.proofs.Common.{◌≡◌, ℕ, ◌+◌, zero, suc, Bool, true, false, List, [], ◌∷◌, ◌++◌, length, Option, Some, None, refl, ap, ◌∙◌, subst, slice_get, nat_lt, nat_le, drop, ◌⊎◌, inl, inr, arith}
 use Rattle.std.proofs.lemmas.Bool.Decides.{nat_tests}
 use Rattle.job_calls.specs.declared.call.Call.{Call}
 use Rattle.job_calls.specs.declared.reply.Reply.{Reply}
@@ -8,13 +8,12 @@ use Rattle.bim_code.specs.declared.image.Image.{Image}
 use Rattle.bim_code.specs.declared.instruction.Instruction.{Instruction}
 use Rattle.bim_code.specs.Code.{instruction_at}
 use Rattle.run_state.specs.Stops.{Stop}
-use Rattle.run_state.specs.State.{World, State, Counts, counting, had, tick, tick_if}
-use Rattle.run_state.specs.Calls.{Query, Once, UntilEnd, Answer, Replied, stop_by, with_call, reply_or_stop, replied, as_answer, Piece, Part, Last, NoPiece, piece_in, further, taken, drain, inquire}
+use Rattle.run_state.specs.State.{World, State, Counts, had, tick, tick_if}
+use Rattle.run_state.specs.Calls.{Query, Once, UntilEnd, Answer, stop_by, with_call, reply_or_stop, replied, as_answer, Piece, Part, Last, NoPiece, piece_in, further, taken, drain, inquire}
 use Rattle.bim_machine.specs.Machine.{Machine, At, Over, Work, Here, Site, Act, On, Jumps, Stops, Puts, Prints, Ticks, Asks, Enters, Leaves, on_out, settle}
 use Rattle.bim_machine.specs.Instructions.{act}
 use Rattle.bim_machine.specs.Courses.{site_of, decoded, step, run}
 use Rattle.bim_machine.specs.Laws.{more, Goes}
-use Rattle.bim_machine.proofs.Runs.{run_over}
 
 -- what is found stays found where more is behind it
 get_more : (all rest : List Reply) (n : ℕ) (r : Reply) → slice_get all n ≡ Some r → slice_get (all ++ rest) n ≡ Some r

@@ -8,23 +8,22 @@ use Rattle.job_calls.specs.declared.reply.Reply.{Reply}
 use Rattle.bim_code.specs.declared.image.Image.{Image}
 use Rattle.bim_code.specs.declared.image.Routine.{Routine}
 use Rattle.bim_code.specs.declared.instruction.Instruction.{Instruction}
-use Rattle.bim_code.specs.declared.instruction.Instruction.TheVariants.{Tick, PushInt, PushBool, PushText, LoadGlobal, StoreGlobal, Swap, Add, Subtract, Compare, Jump, JumpIf, JumpNot, Show, Write, Line, End, Fault}
+use Rattle.bim_code.specs.declared.instruction.Instruction.TheVariants.{Tick}
 use Rattle.bim_code.specs.Rows.{width, named_address}
 use Rattle.bim_code.specs.Code.{instruction_at}
 use Rattle.bim_code.specs.Rules.{KeepsTicks}
 use Rattle.mos_value.specs.Values.{Value, Operand}
 use Rattle.mos_text.specs.declared.fault_kind.FaultKind.TheVariants.{OutFull}
 use Rattle.run_state.specs.Stops.{Stop, Failed}
-use Rattle.run_state.specs.State.{World, State, Counts, counting, had, tick, tick_if, Out, Gave, Halts, write}
+use Rattle.run_state.specs.State.{World, State, Counts, counting, had, tick, tick_if, Gave, Halts, write}
 use Rattle.run_state.specs.Calls.{Query, Once, UntilEnd, Answer, stop_by, with_call, reply_or_stop, replied, as_answer, Piece, Part, Last, NoPiece, piece_in, further, taken, drain, inquire}
-use Rattle.run_state.specs.Places.{Argument, most_calls}
-use Rattle.bim_machine.specs.Machine.{Machine, At, Over, Work, Caller, Here, Site, Act, On, Jumps, Stops, Puts, Prints, Ticks, Asks, Enters, Leaves, on_out, put_all, stored, begins, begins_routine, arguments_off, enters, leaves, settle}
+use Rattle.run_state.specs.Places.{Argument}
+use Rattle.bim_machine.specs.Machine.{Machine, At, Over, Work, Caller, Here, Site, Act, On, Jumps, Stops, Puts, Prints, Ticks, Asks, Enters, Leaves, on_out, stored, begins, begins_routine, enters, leaves, settle}
 use Rattle.bim_machine.specs.Instructions.{act}
-use Rattle.bim_machine.specs.Courses.{Progress, site_of, decoded, step, run, start, most_steps, told, course_of, course_from}
-use Rattle.bim_machine.specs.Starts.{Beginning, Refused, Broken, Begins, beginning_of}
+use Rattle.bim_machine.specs.Courses.{Progress, site_of, decoded, step, run, start, most_steps}
 use Rattle.bim_machine.specs.Laws.{IsOver, state_in}
 use Rattle.bim_machine.proofs.Runs.{run_over}
-use Rattle.bim_machine.proofs.AddressPlaces.{place_from, place_next, place_first, place_behind}
+use Rattle.bim_machine.proofs.AddressPlaces.{place_from, place_next, place_behind}
 
 -- what the ticks that are left are worth, two rounds of the code for each
 abbrev worth : ℕ → ℕ → ℕ

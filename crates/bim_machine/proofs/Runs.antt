@@ -1,6 +1,6 @@
 -- Steps one after the other.
 
-use Rattle.std.proofs.Common.{◌≡◌, ◌≤◌, ◌<◌, ℕ, ◌+◌, ◌-◌, zero, suc, refl, sym, ap, ◌∙◌, subst, arith}
+use Rattle.std.proofs.Common.{◌≡◌, ◌≤◌, ℕ, ◌+◌, ◌-◌, zero, suc, refl, sym, ap, ◌∙◌, arith}
 use Rattle.bim_code.specs.declared.image.Image.{Image}
 use Rattle.run_state.specs.Stops.{Stop}
 use Rattle.run_state.specs.State.{World, State}

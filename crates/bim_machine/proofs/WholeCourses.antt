@@ -1,16 +1,15 @@
 -- What holds of whole courses, by what holds of runs.
 
-use Rattle.std.proofs.Common.{◌≡◌, ◌≤◌, ℕ, List, [], length, refl, sym, ap, ◌∙◌, subst, arith}
+use Rattle.std.proofs.Common.{◌≡◌, ◌≤◌, ℕ, List, length, refl, sym, subst, arith}
 use Rattle.job_calls.specs.declared.call.Call.{Call}
-use Rattle.job_calls.specs.declared.reply.Reply.{Reply}
 use Rattle.bim_code.specs.declared.image.Image.{Image}
 use Rattle.bim_code.specs.Rules.{KeepsTicks}
 use Rattle.mos_value.specs.Values.{Value}
-use Rattle.run_state.specs.Stops.{Stop, Asking, Stuck}
+use Rattle.run_state.specs.Stops.{Stop, Asking}
 use Rattle.run_state.specs.State.{World, State, beginning}
-use Rattle.bim_machine.specs.Starts.{Beginning, Refused, Broken, Begins, beginning_of}
+use Rattle.bim_machine.specs.Starts.{Beginning, Refused, Broken, Begins}
 use Rattle.bim_machine.specs.Machine.{Machine, At, Over}
-use Rattle.bim_machine.specs.Courses.{run, start, most_steps, told, course_from, course_of}
+use Rattle.bim_machine.specs.Courses.{run, start, most_steps, told, course_from}
 use Rattle.bim_machine.specs.Laws.{state_in}
 use Rattle.bim_machine.proofs.Growth.{Later, Asked, run_later}
 use Rattle.bim_machine.proofs.Pace.{few_steps}

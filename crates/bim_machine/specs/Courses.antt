@@ -7,7 +7,7 @@ use Rattle.bim_code.specs.declared.instruction.Instruction.{Instruction}
 use Rattle.bim_code.specs.Rows.{width, named_address}
 use Rattle.bim_code.specs.Code.{instruction_at}
 use Rattle.mos_value.specs.Values.{Value}
-use Rattle.run_state.specs.Stops.{Stop, Stuck, Outcome, Course}
+use Rattle.run_state.specs.Stops.{Stuck, Outcome, Course}
 use Rattle.run_state.specs.State.{World, State, beginning, outcome_of}
 use Rattle.run_state.specs.Parameters.{refused}
 use Rattle.bim_machine.specs.Starts.{Beginning, Refused, Broken, Begins, beginning_of}

@@ -9,12 +9,12 @@ use Rattle.bim_code.specs.declared.instruction.Comparison.{Comparison}
 use Rattle.bim_code.specs.declared.instruction.Comparison.TheVariants.{Equal, NotEqual, Less, AtMost, Greater, AtLeast}
 use Rattle.bim_code.specs.declared.instruction.Instruction.{Instruction}
 use Rattle.bim_code.specs.declared.instruction.Instruction.TheVariants.{Tick, PushInt, PushBool, PushText, LoadGlobal, StoreGlobal, Swap, Add, Subtract, Compare, Jump, JumpIf, JumpNot, Show, Write, Line, End, Fault}
-use Rattle.mos_value.specs.Values.{Value, One, Place, Operand, Holds, Points, Walks}
+use Rattle.mos_value.specs.Values.{Value, One, Place, Operand, Holds}
 use Rattle.mos_value.specs.Answers.{Operation, between, sum, difference, compare, show, Result, Gives, Faults, Sticks as NoAnswer, answer, text}
 use Rattle.mos_value.specs.Answers as how
 use Rattle.run_state.specs.State.{line_end}
 use Rattle.run_state.specs.Places.{load}
-use Rattle.bim_machine.specs.Machine.{Work, push, Halt, Exits, Fails, Sticks, Act, On, Jumps, Stops, Puts, Prints, Ticks}
+use Rattle.bim_machine.specs.Machine.{Work, push, Exits, Fails, Sticks, Act, On, Jumps, Stops, Puts, Prints, Ticks}
 
 -- Operands of instructions that stand for one of a few values.
 

@@ -1,7 +1,7 @@
 -- Laws of the machine, of every image: what more replies and a greater budget change, how many steps it
 -- takes, what grows, and when it asks.
 
-use Rattle.std.specs.Prelude.{◌≡◌, ◌≤◌, ◌<◌, ℕ, ◌+◌, ◌*◌, List, ◌++◌, length}
+use Rattle.std.specs.Prelude.{◌≡◌, ◌≤◌, ◌<◌, ℕ, ◌+◌, List, ◌++◌, length}
 use Rattle.job_calls.specs.declared.call.Call.{Call}
 use Rattle.job_calls.specs.declared.reply.Reply.{Reply}
 use Rattle.bim_code.specs.declared.image.Image.{Image}
@@ -10,7 +10,7 @@ use Rattle.mos_value.specs.Values.{Value}
 use Rattle.run_state.specs.Stops.{Stop, Exited, Failed, Spent, Stopped, Asking, Stuck, Lost}
 use Rattle.run_state.specs.State.{World, State}
 use Rattle.bim_machine.specs.Machine.{Machine, At, Over, Work, Here}
-use Rattle.bim_machine.specs.Courses.{Progress, run, step, start, most_steps, course_of}
+use Rattle.bim_machine.specs.Courses.{run, step, start, most_steps, course_of}
 
 -- More of the world.
 

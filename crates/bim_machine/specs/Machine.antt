@@ -1,20 +1,17 @@
 -- The abstract machine. An instruction gives an act, which says what is to be done and changes nothing
 -- by itself; `settle` does it.
 
-use Rattle.std.specs.Prelude.{ℕ, ◌+◌, zero, suc, ℤ, Bool, true, false, List, [], ◌∷◌, ◌++◌, Option, Some, None, map, take, drop, reverse, length, slice_get, nat_lt, if◌then◌else◌, unwrap_or}
+use Rattle.std.specs.Prelude.{ℕ, ℤ, Bool, true, false, List, [], ◌∷◌, ◌++◌, Option, Some, None, map, take, drop, reverse, length, slice_get, nat_lt, if◌then◌else◌}
 use Rattle.mos_text.specs.declared.fault_kind.FaultKind.{FaultKind}
 use Rattle.mos_text.specs.declared.fault_kind.FaultKind.TheVariants.{Depth}
 use Rattle.bim_code.specs.declared.image.Image.{Image}
 use Rattle.bim_code.specs.declared.image.Routine.{Routine}
 use Rattle.bim_code.specs.declared.image.Slot.{Slot}
-use Rattle.bim_code.specs.declared.instruction.Instruction.{Instruction}
-use Rattle.bim_code.specs.Rows.{width, named_address}
-use Rattle.bim_code.specs.Code.{instruction_at}
 use Rattle.mos_value.specs.Values.{Value, Place, Operand, Holds, Points, Walks}
 use Rattle.run_state.specs.Stops.{Stop, Exited, Failed, Stuck}
 use Rattle.run_state.specs.State.{World, State, over, Out, Gave, Halts, had, tick, write}
 use Rattle.run_state.specs.Calls.{Query, Answer, inquire}
-use Rattle.run_state.specs.Places.{put, most_calls, Argument, ByValue, ByPlace, argument_places, entered, left}
+use Rattle.run_state.specs.Places.{put, most_calls, Argument, ByValue, ByPlace, by_values, argument_places, entered, left}
 use Rattle.run_state.specs.Parameters.{and_then}
 use Rattle.bim_machine.specs.Starts.{defaults_in}
 
@@ -108,11 +105,6 @@ arguments_off (slot ∷ slots) (Holds value ∷ stack) sofar =
 arguments_off (slot ∷ slots) (Points place ∷ stack) sofar =
     if slot.by_reference then arguments_off slots stack (ByPlace place ∷ sofar) else None
 arguments_off (slot ∷ slots) (Walks left ∷ stack) sofar = None
-
--- values of its own
-abbrev pub by_values : List Value → List Argument
-by_values [] = []
-by_values (value ∷ values) = ByValue value ∷ by_values values
 
 -- a routine begins with its arguments and with the defaults of its other slots
 abbrev pub begins : Option (List Argument × List Operand) → Option (List Value) → Routine → Work → Site → Here → State → Machine

@@ -1,7 +1,7 @@
 -- How the machine of an image begins: the default of its type in each global slot, and the parameters
 -- in their slots.
 
-use Rattle.std.specs.Prelude.{ℕ, ℤ, pos, false, List, [], ◌∷◌, Option, Some, None, map, slice_get, option_map}
+use Rattle.std.specs.Prelude.{ℕ, pos, false, List, [], ◌∷◌, Option, Some, None, map, slice_get, option_map}
 use Rattle.mos_text.specs.declared.scalar.Scalar.{Scalar}
 use Rattle.mos_text.specs.declared.scalar.Scalar.TheVariants as scalar
 use Rattle.bim_code.specs.declared.image.Image.{Image}

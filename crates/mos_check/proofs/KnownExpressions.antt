@@ -9,7 +9,7 @@ use Rattle.mos_tree.specs.declared.expr.Expr.TheFolds.{map-Expr, fold-roll-Expr,
 use Rattle.mos_tree.specs.declared.expr.Expr.TheViews.{roll-Expr}
 use Rattle.mos_value.specs.Answers.{sum, difference, compare}
 use Rattle.mos_value.specs.Answers as comparison
-use Rattle.mos_meaning.specs.Syntax.{Model, Scope, Own, Expression, number, text, truth, variable, index, apply, range_of, sum_over, invoke, ask_hub, unbuilt}
+use Rattle.mos_meaning.specs.Syntax.{Expression, number, text, truth, variable, index, apply, range_of, sum_over, invoke, ask_hub, unbuilt}
 use Rattle.mos_meaning.specs.Sources.{operator_of, applied, expression, expression_step}
 use Rattle.mos_check.specs.declared.form.Form.{Form}
 use Rattle.mos_check.specs.declared.form.Form.TheVariants as form

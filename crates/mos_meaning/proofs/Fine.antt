@@ -1,16 +1,15 @@
 -- What is done from a sound state on comes to a sound state, or stops for a reason: one lemma for each way
 -- of putting one thing behind another.
 
-use Rattle.std.proofs.Common.{◌≡◌, ◌≤◌, ◌<◌, ℕ, ◌+◌, List, [], ◌∷◌, ◌++◌, length, Option, Some, None, Bool, true, false, refl, sym, ap, subst, nat_lt, nat_le, pos, arith}
+use Rattle.std.proofs.Common.{◌≡◌, ◌≤◌, ℕ, ◌+◌, List, [], ◌∷◌, ◌++◌, length, Option, None, Bool, true, false, refl, nat_lt, nat_le, arith}
 use Rattle.std.specs.Prelude.{All, if◌then◌else◌}
 use Rattle.std.proofs.lemmas.Bool.Decides.{nat_tests}
-use Rattle.mos_text.specs.declared.scalar.Scalar.{Scalar}
 use Rattle.mos_text.specs.declared.scalar.Scalar.TheVariants.{Int, Bool as Truth, Str, Model as ModelOf, Event}
 use Rattle.mos_text.specs.declared.fault_kind.FaultKind.TheVariants.{OutFull}
 use Rattle.mos_names.specs.NameLists.{Name}
 use Rattle.mos_value.specs.Values.{Value, One, SetOf, ListOf, Range, Fields}
 use Rattle.run_state.specs.Stops.{Stop, Exited, Failed, Spent, Stopped, Asking, Stuck, Lost}
-use Rattle.run_state.specs.State.{World, State, Out, Gave, Halts, bind, on_line, counting, had, tick, tick_if, write}
+use Rattle.run_state.specs.State.{World, State, Out, Gave, Halts, bind, on_line, counting, had, tick_if, write}
 use Rattle.mos_meaning.specs.Values.{ticking}
 
 -- a stop that an accepted model can come to

@@ -1,8 +1,8 @@
 -- A model whose every statement works is never stuck and never lost: each variable holds an integer at
 -- all times, and a loop has no more passes than ticks.
 
-use Rattle.std.proofs.Common.{◌≡◌, ◌≢◌, ℕ, zero, suc, ◌+◌, ◌-◌, ◌<◌, ◌≤◌, ℤ, ◌+ℤ◌, ◌-ℤ◌, List, [], ◌∷◌, ◌++◌, Bool, Option, Some, None, refl, sym, ap, subst, ◌∙◌, true, false, length, nat_lt, nat_eq, nat_le, cond, pos, slice_get, slice_set, get_or, option_map, arith}
-use Rattle.std.specs.Prelude.{All, if◌then◌else◌, ◌||◌, replicate}
+use Rattle.std.proofs.Common.{◌≡◌, ℕ, zero, suc, ◌+◌, ◌-◌, ◌<◌, ℤ, ◌+ℤ◌, ◌-ℤ◌, List, [], ◌∷◌, ◌++◌, Bool, Option, Some, None, refl, sym, ap, subst, ◌∙◌, true, false, length, nat_lt, nat_le, cond, pos, slice_get, slice_set, get_or, option_map, arith}
+use Rattle.std.specs.Prelude.{if◌then◌else◌, ◌||◌}
 use Rattle.std.specs.Str.{bytes_eq}
 use Rattle.std.proofs.lemmas.Bool.Decides.{nat_tests}
 use Rattle.std.proofs.lemmas.List.{length-set, length-replicate}
@@ -10,23 +10,23 @@ use Rattle.std.proofs.lemmas.List.Elements.{All-set, All-replicate}
 use Rattle.std.proofs.lemmas.Option.{slice_get-get_or}
 use Rattle.mos_text.specs.declared.fault_kind.FaultKind.TheVariants.{Overflow, TooBig}
 use Rattle.mos_text.specs.declared.scalar.Scalar.{Scalar}
-use Rattle.mos_text.specs.declared.scalar.Scalar.TheVariants.{Int, Bool as Truth, Str, Model as ModelOf, Event}
+use Rattle.mos_text.specs.declared.scalar.Scalar.TheVariants.{Int, Bool as Truth, Str}
 use Rattle.job_calls.specs.declared.reply.Reply.{Reply}
 use Rattle.mos_names.specs.NameLists.{Name, has_name, place_of}
-use Rattle.mos_value.specs.Values.{Value, One, SetOf, ListOf, Range, Fields, Place}
+use Rattle.mos_value.specs.Values.{Value, One, SetOf, ListOf, Range, Fields}
 use Rattle.mos_value.specs.Answers.{Comparison, equal, not_equal, less, at_most, greater, at_least, Operator, between, sum, difference, compare, show, integer, is_integer, answer, compared, printed, Gives, Faults}
 use Rattle.mos_value.specs.Answers as how
-use Rattle.run_state.specs.Stops.{Stop, Stuck, Lost, Exited, Failed}
-use Rattle.run_state.specs.State.{World, State, beginning, over, Out, Gave, Halts, bind, on_line, or_stop, answered, line_end}
-use Rattle.run_state.specs.Places.{load, load_in, put, put_in, put_slot}
+use Rattle.run_state.specs.Stops.{Lost}
+use Rattle.run_state.specs.State.{World, State, Out, Gave, Halts, on_line, or_stop, answered, line_end}
+use Rattle.run_state.specs.Places.{load_in, put_in, put_slot}
 use Rattle.run_state.specs.Parameters.{given_values}
-use Rattle.mos_meaning.specs.Syntax.{Scope, Own, Model, Expression, number, text, truth, variable, index, apply, range_of, sum_over, invoke, ask_hub, unbuilt, Shown, nothing, one_more, Effect, assign, change, write, perform, if_, while_, do_, break_, next_, unbuilt_effect, Branches, else_, elif, Block, no_more, first, Program}
+use Rattle.mos_meaning.specs.Syntax.{Scope, Own, Model, Expression, number, text, truth, variable, index, apply, range_of, sum_over, invoke, ask_hub, unbuilt, Shown, nothing, one_more, Effect, assign, change, write, perform, if_, while_, do_, break_, next_, unbuilt_effect, Branches, else_, elif, Block, no_more, first}
 use Rattle.mos_meaning.specs.Sources.{variables_of, program_of}
 use Rattle.mos_meaning.specs.Values.{Names, Env, Routine, place_in, loaded, on_truth, ticking, value_of}
 use Rattle.mos_meaning.specs.Effects.{Flow, Goes, Breaks, Continues, stored, assigned, changed, on_text, written, after_pass, passes, after_statement, effect_of, branch_of, effects_of}
-use Rattle.mos_meaning.specs.Meaning.{names_of, main_effect, ended, begun, with_given, meaning_of}
-use Rattle.mos_meaning.specs.Working.{IsVariable, IsSum, IsNumeric, IsShown, IsComparison, IsCondition, AreShown, Works, BranchesWork, AllWork, NeverStuck, NeverLost}
-use Rattle.mos_meaning.proofs.Fine.{HasReason, IsInt, Sound, FineIs, Fine, gave, halts, sooner, renewed, then_fine, on_line_fine, tick_fine, write_fine}
+use Rattle.mos_meaning.specs.Meaning.{ended, with_given, meaning_of}
+use Rattle.mos_meaning.specs.Working.{IsVariable, IsSum, IsNumeric, IsShown, IsCondition, AreShown, Works, BranchesWork, AllWork, NeverStuck, NeverLost}
+use Rattle.mos_meaning.proofs.Fine.{HasReason, IsInt, Sound, Fine, gave, halts, sooner, renewed, then_fine, on_line_fine, tick_fine, write_fine}
 
 abbrev outside_names : List Name → Names
 outside_names names = record { own = []; model = names }

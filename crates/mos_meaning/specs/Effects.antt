@@ -1,16 +1,15 @@
 -- The effect of a statement, by the tree: each takes a tick when it begins, and each pass of a loop takes
 -- one. A stop has the line of the piece in which it arose.
 
-use Rattle.std.specs.Prelude.{ℕ, ◌-◌, zero, suc, Bool, true, false, List, [], ◌∷◌, ◌++◌, Option, Some, None, reverse}
+use Rattle.std.specs.Prelude.{ℕ, ◌-◌, zero, suc, Bool, List, [], ◌∷◌, ◌++◌, Option, Some, None, reverse}
 use Rattle.mos_text.specs.declared.scalar.Scalar.TheVariants.{Str}
-use Rattle.mos_names.specs.NameLists.{Name}
 use Rattle.mos_value.specs.Values.{Value, One, Place}
 use Rattle.mos_value.specs.Answers.{Operator, between, show, answer}
-use Rattle.run_state.specs.Stops.{Stop, Stuck, Lost}
+use Rattle.run_state.specs.Stops.{Stuck, Lost}
 use Rattle.run_state.specs.State.{World, State, over, Out, Gave, Halts, bind, on_line, answered, line_end}
 use Rattle.run_state.specs.State as state
 use Rattle.run_state.specs.Places.{put}
-use Rattle.mos_meaning.specs.Syntax.{Scope, Expression, Arguments, Shown, nothing, one_more, Effect, assign, change, write, perform, if_, while_, do_, break_, next_, unbuilt_effect, Branches, else_, elif, Block, no_more, first}
+use Rattle.mos_meaning.specs.Syntax.{Shown, nothing, one_more, Effect, assign, change, write, perform, if_, while_, do_, break_, next_, unbuilt_effect, Branches, else_, elif, Block, no_more, first}
 use Rattle.mos_meaning.specs.Values.{Names, Env, Routine, place_in, loaded, on_truth, ticking, calling, value_of, arguments_of}
 
 -- how statements end that do not stop the run

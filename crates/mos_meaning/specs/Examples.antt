@@ -2,11 +2,11 @@
 
 use Rattle.std.specs.Prelude.{◌≡◌, ℕ, List, [], ◌∷◌, Option, Some, None, pos, true, false, codes}
 use Rattle.mos_text.specs.declared.fault_kind.FaultKind.TheVariants.{Overflow, BadParam}
-use Rattle.mos_text.specs.declared.scalar.Scalar.TheVariants.{Int, Str}
+use Rattle.mos_text.specs.declared.scalar.Scalar.TheVariants.{Int}
 use Rattle.bim_code.specs.declared.image.Image.{Image}
 use Rattle.bim_code.specs.declared.image.ImageType.TheVariants.{Integer, Str as StrType}
 use Rattle.bim_code.specs.declared.image.Default.TheVariants.{Number}
-use Rattle.bim_code.specs.declared.instruction.Instruction.TheVariants.{Tick, PushInt, PushBool, PushText, LoadGlobal, StoreGlobal, Show, Write, Line, End, Fault}
+use Rattle.bim_code.specs.declared.instruction.Instruction.TheVariants.{Tick, PushInt, PushBool, PushText, LoadGlobal, Show, Write, Line, End, Fault}
 use Rattle.job_calls.specs.declared.run_line.RunLine.{RunLine}
 use Rattle.job_calls.specs.HelloJournal.{hello_entries, hello_runs}
 use Rattle.mos_value.specs.Values.{One}

@@ -15,15 +15,15 @@ use Rattle.bim_code.specs.declared.instruction.Instruction.TheVariants.{Tick, Pu
 use Rattle.bim_code.specs.Rows.{named_address}
 use Rattle.mos_value.specs.Values.{Value, One, Place, Operand, Holds, Points, Walks, members_of}
 use Rattle.mos_value.specs.Answers.{sum, compare, not_equal, range}
-use Rattle.run_state.specs.Stops.{Outcome, Stop, Exited, Failed, Spent, Stopped, Asking, Stuck}
+use Rattle.run_state.specs.Stops.{Outcome, Exited, Failed, Spent, Stopped, Asking, Stuck}
 use Rattle.run_state.specs.State.{World, State}
-use Rattle.run_state.specs.Calls.{Query, Once, Answer, Replied, Drained}
+use Rattle.run_state.specs.Calls.{Once, Answer, Replied, Drained}
 use Rattle.run_state.specs.HubFunctions.{HubFunction, isqueueempty, Calling, Makes, Refuses, Unfit, call_of, value_of_reply}
 use Rattle.run_state.specs.Places.{load}
-use Rattle.bim_machine.specs.Machine.{Work, Here, Machine, At, Over, Halt, Fails, Sticks, Act, On, Jumps, Stops, Puts, Asks, Enters, Leaves, Site, push, settle}
+use Rattle.bim_machine.specs.Machine.{Work, Here, Machine, At, Over, Fails, Sticks, Act, On, Jumps, Stops, Puts, Asks, Enters, Leaves, push, settle}
 use Rattle.bim_machine.specs.Instructions.{on_some, on_value, with_stack, values_off, operate, global, act}
-use Rattle.bim_machine.specs.Courses.{Progress, start, told}
-use Rattle.mos_meaning.specs.Syntax.{Own, Model, number, variable, index, apply, range_of, sum_over, ask_hub, Arguments, no_argument, by_value, by_place, Shown, nothing, one_more, Block, no_more, first, assign, change, write, perform, invoke, Body, Program}
+use Rattle.bim_machine.specs.Courses.{start, told}
+use Rattle.mos_meaning.specs.Syntax.{Own, Model, number, variable, index, apply, range_of, sum_over, ask_hub, Arguments, no_argument, by_value, by_place, nothing, one_more, no_more, first, assign, change, write, perform, invoke, Body, Program}
 use Rattle.mos_meaning.specs.Meaning.{meaning_of}
 
 -- The model.

@@ -1,17 +1,17 @@
 -- The meaning of a model: what it writes, which calls it makes, how many ticks it takes and how it
 -- ends, given its parameter text, the replies to its calls and its budget of ticks.
 
-use Rattle.std.specs.Prelude.{ℕ, ◌+◌, zero, suc, pos, List, [], ◌∷◌, ◌++◌, Option, Some, None, map, length, slice_get, nat_eq, if◌then◌else◌}
+use Rattle.std.specs.Prelude.{ℕ, zero, suc, pos, List, [], ◌++◌, Option, Some, None, map, length, slice_get, nat_eq, if◌then◌else◌}
 use Rattle.mos_text.specs.declared.fault_kind.FaultKind.TheVariants.{Depth}
 use Rattle.mos_text.specs.declared.scalar.Scalar.{Scalar}
 use Rattle.job_calls.specs.declared.reply.Reply.{Reply}
 use Rattle.mos_names.specs.NameLists.{Name, place_of}
-use Rattle.mos_value.specs.Values.{Value, Place}
-use Rattle.run_state.specs.Stops.{Stop, Exited, Failed, Stuck, Lost, Outcome}
+use Rattle.mos_value.specs.Values.{Value}
+use Rattle.run_state.specs.Stops.{Exited, Failed, Lost, Outcome}
 use Rattle.run_state.specs.State.{World, State, beginning, over, outcome_of, Out, Gave, Halts, bind}
-use Rattle.run_state.specs.Places.{load, Argument, ByValue, argument_places, entered, left, most_calls}
-use Rattle.run_state.specs.Parameters.{Parameter, and_then, given_values, with_values, refused}
-use Rattle.mos_meaning.specs.Syntax.{Own, Block, Body, Program}
+use Rattle.run_state.specs.Places.{Argument, by_values, argument_places, entered, left, most_calls}
+use Rattle.run_state.specs.Parameters.{Parameter, given_values, with_values, refused}
+use Rattle.mos_meaning.specs.Syntax.{Own, Body, Program}
 use Rattle.mos_meaning.specs.Values.{Names, Env, Routine, place_in, loaded}
 use Rattle.mos_meaning.specs.Effects.{Flow, effects_of}
 
@@ -21,11 +21,6 @@ use Rattle.mos_meaning.specs.Effects.{Flow, effects_of}
 abbrev pub result_of : Names → Env → Option Name → State → Out (Option Value)
 result_of names env None s = Gave None (over (left s.memory.store) s)
 result_of names env (Some n) s = bind (loaded (place_in names env Own n) s) (λ v s1. Gave (Some v) (over (left s1.memory.store) s1))
-
--- values of its own
-abbrev pub by_values : List Value → List Argument
-by_values [] = []
-by_values (value ∷ values) = ByValue value ∷ by_values values
 
 -- its statements, on a frame of its own with the arguments and then the defaults of its other variables
 abbrev pub body_of : World → Routine → Names → Body → List Argument → State → Out (Option Value)

@@ -1,6 +1,6 @@
 -- The model that the tree of a source is, as far as its forms can be run today.
 
-use Rattle.std.specs.Prelude.{ℕ, ℤ, pos, Bool, true, false, List, [], ◌∷◌, Option, Some, None, codes, map, length, replicate, if◌then◌else◌}
+use Rattle.std.specs.Prelude.{ℕ, pos, true, false, List, [], ◌∷◌, Option, Some, None, codes, map, length, replicate, if◌then◌else◌}
 use Rattle.std.specs.Str.{bytes_eq}
 use Rattle.mos_text.specs.declared.scalar.Scalar.TheVariants.{Int}
 use Rattle.mos_tree.specs.declared.expr.Expr.{Expr}
@@ -22,7 +22,7 @@ use Rattle.mos_tree.specs.declared.source.Tree.{Tree}
 use Rattle.mos_names.specs.NameLists.{Name, with_name}
 use Rattle.mos_value.specs.Values.{Value, One}
 use Rattle.mos_value.specs.Answers.{Operator, sum, difference, compare, equal, not_equal, less, at_most, greater, at_least}
-use Rattle.mos_meaning.specs.Syntax.{Scope, Own, Model, Expression, number, text, truth, variable, apply, unbuilt, Shown, nothing, one_more, Effect, assign, change, write, perform, if_, while_, do_, break_, next_, unbuilt_effect, Branches, else_, elif, Block, no_more, first, Program}
+use Rattle.mos_meaning.specs.Syntax.{Model, Expression, number, text, truth, variable, apply, unbuilt, Shown, nothing, one_more, Effect, assign, change, write, perform, if_, while_, do_, break_, next_, unbuilt_effect, Branches, else_, elif, Block, no_more, first, Program}
 
 -- Expressions.
 

@@ -1,18 +1,17 @@
 -- The value of an expression, by the tree. Operands are evaluated from left to right.
 
-use Rattle.std.specs.Prelude.{ℕ, zero, suc, ℤ, pos, Bool, true, false, List, [], ◌∷◌, ◌++◌, Option, Some, None, slice_get, if◌then◌else◌, reverse}
+use Rattle.std.specs.Prelude.{ℕ, pos, true, false, List, [], ◌∷◌, Option, Some, None, slice_get, if◌then◌else◌, reverse}
 use Rattle.std.specs.Str.{bytes_eq}
-use Rattle.mos_text.specs.declared.fault_kind.FaultKind.{FaultKind}
 use Rattle.mos_text.specs.declared.scalar.Scalar.{Scalar}
-use Rattle.mos_text.specs.declared.scalar.Scalar.TheVariants.{Int, Bool as Truth, Str}
+use Rattle.mos_text.specs.declared.scalar.Scalar.TheVariants.{Int, Bool as Truth}
 use Rattle.mos_names.specs.NameLists.{Name, place_of}
 use Rattle.mos_value.specs.Values.{Value, One, Place, members_of}
 use Rattle.mos_value.specs.Answers.{between, sum, range, answer}
 use Rattle.mos_value.specs.Answers as how
-use Rattle.run_state.specs.Stops.{Stop, Failed, Stuck, Lost}
+use Rattle.run_state.specs.Stops.{Failed, Stuck, Lost}
 use Rattle.run_state.specs.State.{World, State, Out, Gave, Halts, bind, or_stop, answered, had, tick}
 use Rattle.run_state.specs.Calls.{ask}
-use Rattle.run_state.specs.HubFunctions.{HubFunction, Calling, Makes, Refuses, Unfit, call_of, value_of_reply}
+use Rattle.run_state.specs.HubFunctions.{Calling, Makes, Refuses, Unfit, call_of, value_of_reply}
 use Rattle.run_state.specs.Places.{load, Argument, ByValue, ByPlace}
 use Rattle.mos_meaning.specs.Syntax.{Scope, Own, Model, Expression, number, text, truth, variable, index, apply, range_of, sum_over, invoke, ask_hub, unbuilt, Arguments, no_argument, by_value, by_place}
 

@@ -1,6 +1,6 @@
 -- Values, the places that hold them, and what stands on the operand stack of the machine.
 
-use Rattle.std.specs.Prelude.{ℕ, ◌+◌, zero, suc, ℤ, pos, negsuc, ◌+ℤ◌, ◌-ℤ◌, List, [], ◌∷◌, Option, Some, None}
+use Rattle.std.specs.Prelude.{ℕ, zero, suc, ℤ, pos, negsuc, ◌+ℤ◌, ◌-ℤ◌, List, [], ◌∷◌, Option, Some, None}
 use Rattle.mos_text.specs.declared.scalar.Scalar.{Scalar}
 use Rattle.mos_text.specs.declared.scalar.Scalar.TheVariants.{Int}
 

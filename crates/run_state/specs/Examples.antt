@@ -1,6 +1,6 @@
 -- Computed examples of parameter texts, replies and ticks.
 
-use Rattle.std.specs.Prelude.{◌≡◌, ℕ, List, [], ◌∷◌, Some, None, pos, negsuc, true, false, codes, map}
+use Rattle.std.specs.Prelude.{◌≡◌, List, [], ◌∷◌, Some, None, pos, true, false, codes, map}
 use Rattle.mos_text.specs.declared.fault_kind.FaultKind.TheVariants.{Busy}
 use Rattle.mos_text.specs.declared.scalar.Scalar.TheVariants.{Int, Bool as Truth, Str}
 use Rattle.job_calls.specs.declared.call.Call.TheVariants as call

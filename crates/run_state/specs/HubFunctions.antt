@@ -1,7 +1,7 @@
 -- Functions of the language that call the hub: which call each makes of its arguments, and the value
 -- that a reply has. The other functions join as rows.
 
-use Rattle.std.specs.Prelude.{ℕ, ℤ, pos, Bool, List, [], ◌∷◌, Option, Some, None, if◌then◌else◌}
+use Rattle.std.specs.Prelude.{pos, List, [], ◌∷◌, Option, Some, None, if◌then◌else◌}
 use Rattle.std.specs.Ordering.{is_lt, int_cmp}
 use Rattle.mos_text.specs.declared.fault_kind.FaultKind.{FaultKind}
 use Rattle.mos_text.specs.declared.fault_kind.FaultKind.TheVariants.{EventClass}

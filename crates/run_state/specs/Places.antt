@@ -1,6 +1,6 @@
 -- The store: values by places, and what a call of a routine does to it.
 
-use Rattle.std.specs.Prelude.{ℕ, ◌+◌, List, [], ◌∷◌, ◌++◌, Option, Some, None, map, length, slice_get, slice_set, nat_eq, nat_lt, if◌then◌else◌, option_map}
+use Rattle.std.specs.Prelude.{ℕ, ◌+◌, List, [], ◌∷◌, Option, Some, None, map, length, slice_get, slice_set, nat_eq, nat_lt, if◌then◌else◌, option_map}
 use Rattle.mos_text.specs.declared.scalar.Scalar.TheVariants.{Int}
 use Rattle.std.specs.Prelude.{pos}
 use Rattle.mos_value.specs.Values.{Value, One, Place}
@@ -40,6 +40,11 @@ most_calls = 1000
 pub data Argument : Type 0 where
   ByValue : (value : Value) → Argument
   ByPlace : (place : Place) → Argument
+
+-- values of a routine's own
+abbrev pub by_values : List Value → List Argument
+by_values [] = []
+by_values (value ∷ values) = ByValue value ∷ by_values values
 
 -- the value with which the slot of an argument begins; an argument by place does not use its slot
 abbrev pub value_in : Argument → Value
