@@ -38,7 +38,10 @@ pub(crate) fn emit_expression(
         Expr::Integer(number) => draft.put(line, Instruction::PushInt(*number)),
         Expr::Truth(truth) => draft.put(line, Instruction::PushBool(*truth as u32)),
         Expr::Text(text) => emit_text(alloc, draft, line, text.text()),
-        Expr::Name(name) => draft.put(line, Instruction::LoadGlobal(names.place(name.text()) as u32)),
+        Expr::Name(name) => draft.put(
+            line,
+            Instruction::LoadGlobal(names.place(name.text()) as u32),
+        ),
         Expr::Binary(operator, left, right) => {
             emit_expression(alloc, draft, names, line, left.get())?;
             emit_expression(alloc, draft, names, line, right.get())?;

@@ -118,8 +118,15 @@ arms-within [] last = let rest = block-within last in omega (arith, rest)
 arms-within (arm ∷ arms) last =
     let sizes : List (Arm ℕ) = map (in_arm size_of_statement) (map (in_arm self) arms) in
     let one : Arm ℕ = in_arm size_of_statement (in_arm self arm) in
-    omega (arith, expression-within arm.condition, block-within arm.body, arms-within arms last,
-    sum-map size_of_arm (one ∷ sizes), sum-map size_of_arm sizes, sum_by-cons size_of_arm one sizes)
+    omega (
+      arith,
+      expression-within arm.condition,
+      block-within arm.body,
+      arms-within arms last,
+      sum-map size_of_arm (one ∷ sizes),
+      sum-map size_of_arm sizes,
+      sum_by-cons size_of_arm one sizes,
+    )
 
 abbrev StatementLayer : Statement-F Statement → Type 0
 StatementLayer z = size_of_effect (effect_step (map-Statement Statement Effect effect z)) ≤ size_step (map-Statement Statement ℕ size_of_statement z)

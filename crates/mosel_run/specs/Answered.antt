@@ -19,12 +19,7 @@ use Rattle.mosel_run.specs.States.{FolderState, Devices}
 
 -- what `run` of this source asks for
 abbrev pub run_request : List ℕ → ℕ → ℕ → Request
-run_request name lanes budget = record {
-  wanted = record { name = name; limit = source_limit } ∷ [];
-  lanes = lanes;
-  budget = budget;
-  params = [];
-}
+run_request name lanes budget = record { wanted = record { name = name; limit = source_limit } ∷ []; lanes = lanes; budget = budget; params = [] }
 
 -- what a command asks for
 abbrev pub request_of : Command → Request
@@ -33,8 +28,7 @@ request_of (Run name lanes budget) = run_request name lanes budget
 -- the answer by the command: words that are none have the usage line
 abbrev pub IsCommandAnswer : (Opening → List Entry → Type 0) → Option Command → FolderState → FolderState → Answer → Type 0
 IsCommandAnswer journals None before after answer = answer ≡ line_answer usage_line Usage
-IsCommandAnswer journals (Some (Run name lanes budget)) before after answer =
-    IsRunAnswer journals (run_request name lanes budget) before after answer
+IsCommandAnswer journals (Some (Run name lanes budget)) before after answer = IsRunAnswer journals (run_request name lanes budget) before after answer
 
 -- the answer by the words
 abbrev pub IsAnswer : (Opening → List Entry → Type 0) → List (List ℕ) → FolderState → FolderState → Answer → Type 0
@@ -46,5 +40,4 @@ pub data Answered (journals : Opening → List Entry → Type 0) (words : List (
   delivered : (status : Status) (answer : Answer) → IsAnswer journals words before.folder after.folder answer
       → Delivered answer before after status → Answered journals words before after status
   -- memory was wanting before anything was written or put
-  no_memory : after.folder.content ≡ before.folder.content → after.sink.bytes ≡ before.sink.bytes
-      → Answered journals words before after NoMemory
+  no_memory : after.folder.content ≡ before.folder.content → after.sink.bytes ≡ before.sink.bytes → Answered journals words before after NoMemory

@@ -34,15 +34,14 @@ pub record WrotePart (answer : Answer) (before after : Devices) : Type 0 where
 -- what the devices have taken of an answer, by the status
 pub data Delivered (answer : Answer) (before after : Devices) : Status → Type 0 where
   -- all was written and put
-  whole : (status : Status) → status ≡ answer.status → WroteAll answer before after
-      → after.folder.content ≡ put_all before.folder.content answer.puts → Delivered answer before after status
+  whole : (status : Status) → status ≡ answer.status → WroteAll answer before after → after.folder.content ≡ put_all before.folder.content answer.puts
+      → Delivered answer before after status
   -- the sink failed, and its count rose
-  unwritten : WrotePart answer before after → Rose before.sink.faults after.sink.faults
-      → Delivered answer before after SinkFault
+  unwritten : WrotePart answer before after → Rose before.sink.faults after.sink.faults → Delivered answer before after SinkFault
   -- the folder failed at this name, and its count rose: the bytes of the name are unknown now
   unput : (name : List ℕ) → WroteAll answer before after
-      → PutsUpTo name before.folder.content answer.puts (λ held. after.folder.content ≡ lose_file held name)
-      → Rose before.folder.faults after.folder.faults → Delivered answer before after (FolderFault name)
+      → PutsUpTo name before.folder.content answer.puts (λ held. after.folder.content ≡ lose_file held name) → Rose before.folder.faults after.folder.faults
+      → Delivered answer before after (FolderFault name)
   -- memory was wanting to write, or to put: of the one name that was to be put then nothing is claimed
   no_memory_to_write : WrotePart answer before after → Delivered answer before after NoMemory
   no_memory_to_put : (name : List ℕ) → WroteAll answer before after

@@ -36,8 +36,7 @@ opening_of asked files = record { lanes = asked.lanes; budget = asked.budget; pa
 
 -- the status of a job whose run 0 ended so
 abbrev pub IsStatusOf : Option End → Status → Type 0
-IsStatusOf (Some (end.Code code)) status =
-    ((code ≡ pos 0) × (status ≡ Done)) ⊎ ((code ≢ pos 0) × (status ≡ MasterFailed))
+IsStatusOf (Some (end.Code code)) status = ((code ≡ pos 0) × (status ≡ Done)) ⊎ ((code ≢ pos 0) × (status ≡ MasterFailed))
 IsStatusOf (Some (end.Fault kind)) status = status ≡ MasterFailed
 IsStatusOf (Some end.Spent) status = status ≡ MasterSpent
 IsStatusOf (Some end.Stopped) status = ⊥

@@ -28,7 +28,4 @@ sink_state bytes faults = record { bytes = bytes; faults = faults }
 
 -- a folder's content and count, then a sink's bytes and count
 abbrev pub states : Option Files → ℕ → Option (List ℕ) → ℕ → Devices
-states content folder_faults bytes sink_faults = record {
-  folder = folder_state content folder_faults;
-  sink = sink_state bytes sink_faults;
-}
+states content folder_faults bytes sink_faults = record { folder = folder_state content folder_faults; sink = sink_state bytes sink_faults }

@@ -44,9 +44,9 @@ returns-clause-means c =
     let works = c.requires.can_compile.works in
     of_small (Means (program_of model)) model c.build.result
     (λ small.
-        let in_size : IsInSize model = record { small = small; size = c.requires.can_compile.not_large } in
-        course_is_meaning c.machine_laws.ensures.over_in_time c.machine_laws.ensures.stays_over model (block-built (variables_of model) model works)
-        (keeps_rules model works in_size).ticks (c.working_models.ensures.never_lost model works))
+    let in_size : IsInSize model = record { small = small; size = c.requires.can_compile.not_large } in
+    course_is_meaning c.machine_laws.ensures.over_in_time c.machine_laws.ensures.stays_over model (block-built (variables_of model) model works)
+    (keeps_rules model works in_size).ticks (c.working_models.ensures.never_lost model works))
     c.build.ensures.built c.build.ensures.small
 
 -- what means a model that is never stuck and never lost is neither
@@ -62,11 +62,11 @@ returns-clause-never_fails c =
     let works = c.requires.can_compile.works in
     of_small NeverFails model c.build.result
     (λ small.
-        let in_size : IsInSize model = record { small = small; size = c.requires.can_compile.not_large } in
-        never_fails model (image_of model)
-        (course_is_meaning c.machine_laws.ensures.over_in_time c.machine_laws.ensures.stays_over model (block-built (variables_of model) model works)
-        (keeps_rules model works in_size).ticks (c.working_models.ensures.never_lost model works))
-        (c.working_models.ensures.never_stuck model works) (c.working_models.ensures.never_lost model works))
+    let in_size : IsInSize model = record { small = small; size = c.requires.can_compile.not_large } in
+    never_fails model (image_of model)
+    (course_is_meaning c.machine_laws.ensures.over_in_time c.machine_laws.ensures.stays_over model (block-built (variables_of model) model works)
+    (keeps_rules model works in_size).ticks (c.working_models.ensures.never_lost model works))
+    (c.working_models.ensures.never_stuck model works) (c.working_models.ensures.never_lost model works))
     c.build.ensures.built c.build.ensures.small
 
 pub returns-clause-rules : goal.returns-clause-rules
