@@ -2,7 +2,8 @@
 """Runs the black-box cases on a built program:  python3 tests/run.py PROGRAM [WORD..]
 
 With WORDs only the cases whose names have one of them are run. README.md beside this file says what a
-case is. The last line is `N passed, M failed`; the exit status is 1 where a case failed, else 0.
+case is. The checks of house.py count as cases. The last line is `N passed, M failed`; the exit status is
+1 where a case failed, else 0.
 """
 import os
 import re
@@ -11,6 +12,8 @@ import subprocess
 import sys
 import tempfile
 from pathlib import Path
+
+import house
 
 TESTS = Path(__file__).resolve().parent
 EXAMPLES = TESTS.parent / "examples"
@@ -122,6 +125,16 @@ def example(path):
     return Case(f"examples/{path.name}", words, report, files=files, after=[f"{path.stem}.bim"])
 
 
+class Check:
+    """A check of the house as a case."""
+
+    def __init__(self, check):
+        self.name, self.check = f"house: {check.__name__}", check
+
+    def faults(self, _program):
+        return list(self.check())
+
+
 def main(words):
     if not words or not os.access(words[0], os.X_OK):
         print(__doc__.splitlines()[0], file=sys.stderr)
@@ -129,6 +142,7 @@ def main(words):
     program, only = str(Path(words[0]).resolve()), words[1:]
     cases = [case for folder in sorted((TESTS / "cases").iterdir()) for case in cases_in(folder)]
     cases += map(example, sorted(EXAMPLES.glob("*.report")))
+    cases += map(Check, house.CHECKS)
     cases = [case for case in cases if not only or any(word in case.name for word in only)]
     failed = 0
     for case in cases:

@@ -1,6 +1,5 @@
 -- Computed examples of the bytes of an image.
 use Rattle.std.specs.Prelude.{◌≡◌, List, [], ◌∷◌, Some, None, pos, negsuc, true, false, map, codes}
-
 use Rattle.bim_code.specs.declared.image.Image.{Image}
 use Rattle.bim_code.specs.declared.image.ImageType.TheVariants.{Integer, Boolean, Str, Model, Event, Range, Set, List as ListOf, Array, Record}
 use Rattle.bim_code.specs.declared.image.Default.TheVariants.{Number, Truth, Constant}

@@ -1,162 +1,105 @@
 -- The code of an expression leaves its value on the stack, or stops as the expression does.
 
-use Rattle.std.proofs.Common.{◌≡◌, Bool, ℕ, ◌+◌, ℤ, List, [], ◌∷◌, ◌++◌, length, Option, Some, None, refl, sym, ap, ◌∙◌, slice_get, subst}
-use Rattle.mos_text.specs.declared.scalar.Scalar.{Scalar}
-use Rattle.mos_text.specs.declared.scalar.Scalar.TheVariants.{Int, Bool as Truth, Str, Model, Event}
-use Rattle.mos_text.specs.declared.fault_kind.FaultKind.TheVariants.{Overflow, TooBig}
+use Rattle.std.proofs.Common.{◌≡◌, Bool, true, false, ℕ, ◌+◌, List, [], ◌∷◌, ◌++◌, length, Option, Some, None, refl, sym, ap, ◌∙◌, slice_get, subst}
+use Rattle.std.specs.Int.{from_bool}
+use Rattle.mos_text.specs.declared.scalar.Scalar.TheVariants.{Int, Bool as Truth}
 use Rattle.bim_code.specs.declared.image.Image.{Image}
-use Rattle.bim_code.specs.declared.instruction.Instruction.{Instruction}
-use Rattle.bim_code.specs.declared.instruction.Instruction.TheVariants.{PushInt, PushBool, PushText, LoadGlobal}
-use Rattle.bim_code.specs.Rows.{width}
+use Rattle.bim_code.specs.declared.instruction.Instruction.TheVariants.{PushInt, PushBool, PushText, LoadGlobal, Add, Subtract, Compare}
 use Rattle.bim_code.specs.Code.{instruction_at}
-use Rattle.mos_meaning.specs.State.{State, Got, Gave, Halts, Stuck}
-use Rattle.mos_meaning.specs.Values.{sum_of, difference_of, compared, limited}
-use Rattle.mos_meaning.specs.Syntax.{Operator, plus, minus, compare, Expression, number, text, truth, name, apply, unbuilt}
-use Rattle.mos_meaning.specs.Effects.{place_of, give, or_fault, or_stuck, combined, told_truth, applied, Routine, value_of}
-use Rattle.mos_meaning.specs.Machine.{Machine, At, Over, Frame, On, pushed, act, target, settle, on_some, on_integers, on_compared, or_fault as act_or_fault}
-use Rattle.bim_compile.specs.Compiled.{texts_in, operator_code, expression_code, expression_end}
+use Rattle.mos_names.specs.NameLists.{Name, place_of}
+use Rattle.mos_value.specs.Values.{Value, One, Place}
+use Rattle.mos_value.specs.Answers.{Operator, between, sum, difference, compare, answer}
+use Rattle.mos_value.specs.Answers as how
+use Rattle.run_state.specs.Stops.{Lost}
+use Rattle.run_state.specs.State.{World, State, over, Out, bind, or_stop, answered}
+use Rattle.run_state.specs.Places.{load}
+use Rattle.bim_machine.specs.Machine.{Machine, At, Work, Here, On, push, settle}
+use Rattle.bim_machine.specs.Instructions.{act, on_some, resulted, global, truth_of_operand, comparison_of}
+use Rattle.bim_machine.specs.Courses.{site_of}
+use Rattle.mos_meaning.specs.Syntax.{Own, Model, Expression, number, text, truth, variable, index, apply, range_of, sum_over, invoke, ask_hub, unbuilt}
+use Rattle.mos_meaning.specs.Values.{Names, Env, Routine, loaded, value_of}
 use Rattle.bim_compile.specs.Built.{IsBuilt}
-use Rattle.bim_compile.proofs.Leads.{Leads, same, chain, then_one}
-use Rattle.bim_compile.proofs.Standing.{HasAt, HasTexts, text_parts}
-use Rattle.bim_compile.proofs.EndLemmas.{expression_after, cut_at}
+use Rattle.bim_compile.specs.Compiled.{at_line, texts_in, operator_code, comparison_code, expression_code, expression_end}
+use Rattle.bim_compile.proofs.Standing.{HasAt, HasTexts, text_parts, cut}
+use Rattle.bim_compile.proofs.EndLemmas.{expression_after}
+use Rattle.bim_compile.proofs.Stores.{Known, Stores, loaded_stores}
+use Rattle.bim_compile.proofs.Lands.{Lands, gave, halts, lost, then_, instruct, answer_lands}
 
--- where the machine lands with a value, or with a stop
-abbrev pub push : ℕ → Frame → Got → Machine
-push address f (Gave value s) = At address (pushed value f) s
-push address f (Halts stop s) = Over stop s
+-- from `at` on the machine computes `g`, whatever it has at hand, and comes to `end`
+abbrev pub Computes : Image → World → Known → Here → (at end : ℕ) → (State → Out Value) → Type 0
+Computes image w k here at end g = (work : Work) (s : State) (store : List (List Value)) → Stores k s.memory.store store
+    → Lands image w k (λ v s1. At end (push v work) here s1) (At at work here (over store s)) (g s)
 
--- from these instructions on the machine computes `g`
-abbrev pub Computes : Image → ℕ → ℕ → (State → Got) → Type 0
-Computes image address end g = (f : Frame) (s : State) → Leads image (At address f s) (push end f (g s))
+pub truth_is : (b : Bool) → truth_of_operand (from_bool b) ≡ Some b
+truth_is true = refl
+truth_is false = refl
 
-pub then_give : (image : Image) (from : Machine) (middle end : ℕ) (inner f : Frame) (g : Got) (go : Scalar → State → Got)
-    → Leads image from (push middle inner g)
-    → ((value : Scalar) (s : State) → Leads image (At middle (pushed value inner) s) (push end f (go value s)))
-    → Leads image from (push end f (give g go))
-then_give image from middle end inner f (Gave value s) go p q =
-    chain image from (At middle (pushed value inner) s) (push end f (go value s)) p (q value s)
-then_give image from middle end inner f (Halts stop s) go p q = p
+comparison_is : (c : how.Comparison) → comparison_of (comparison_code c) ≡ c
+comparison_is how.equal = refl
+comparison_is how.not_equal = refl
+comparison_is how.less = refl
+comparison_is how.at_most = refl
+comparison_is how.greater = refl
+comparison_is how.at_least = refl
 
--- one instruction that gives what an expression gives, over what it takes
-pub one_gives_on : (image : Image) (i : Instruction) (address : ℕ) (from : Frame) (s : State) (end : ℕ) (f : Frame) (g : Got)
-    → instruction_at image.code address ≡ Some i
-    → settle (act image i from s.memory) (address + width i) (target i (address + width i)) s ≡ push end f g
-    → Leads image (At address from s) (push end f g)
-one_gives_on image i address from s end f g h e =
-    then_one image i address from s (push end f g) h (subst (λ (m : Machine). Leads image m (push end f g)) (sym e) (same (push end f g)))
-
--- and where it takes nothing
-pub one_gives : (image : Image) (i : Instruction) (address end : ℕ) (f : Frame) (s : State) (g : Got)
-    → instruction_at image.code address ≡ Some i
-    → settle (act image i f s.memory) (address + width i) (target i (address + width i)) s ≡ push end f g
-    → Leads image (At address f s) (push end f g)
-one_gives image i address end f s g h e = one_gives_on image i address f s end f g h e
+-- the value of a global slot
+pub load_runs : {image : Image} {w : World} {k : Known} {here : Here} (slot at : ℕ) → instruction_at image.code at ≡ Some (LoadGlobal slot)
+    → Computes image w k here at (at + 5) (loaded (Some (global slot)))
+load_runs {image = image} {w = w} {k = k} {here = here} slot at h work s store st = found (load (global slot) s.memory.store) refl
+  where
+    found : (o : Option Value) → load (global slot) s.memory.store ≡ o
+        → Lands image w k (λ v s1. At (at + 5) (push v work) here s1) (At at work here (over store s)) (or_stop Lost o s)
+    found None e = lost
+    found (Some v) e =
+        let there : load (global slot) store ≡ Some v = loaded_stores (global slot) v st e in
+        instruct (LoadGlobal slot) h
+        (subst (λ (o : Option Value). Lands image w k (λ v s1. At (at + 5) (push v work) here s1) (settle image w (on_some o (λ value. On (push value work))) (site_of (LoadGlobal slot) at) here (over store s)) (or_stop Lost (Some v) s)) (sym there)
+        (gave v s store st))
 
 -- an operator on the two values on top
-pub operates : (operator : ℤ → ℤ → Option ℤ) (end named : ℕ) (f : Frame) (x y : Scalar) (s : State)
-    → settle (on_integers operator (pushed y (pushed x f)) s.memory) end named s ≡ push end f (combined operator x y s)
-operates operator end named f (Int a) (Int b) s = result (operator a b)
-  where
-    result : (found : Option ℤ) → settle (act_or_fault Overflow found (λ n. On (record { stack = Int n ∷ f.stack; held = f.held }) s.memory)) end named s ≡ push end f (or_fault Overflow found Int s)
-    result None = refl
-    result (Some n) = refl
-operates operator end named f x (Int b) s = refl
-operates operator end named f (Int a) y s = refl
-operates operator end named f (Truth a) y s = stuck y
-  where
-    stuck : (y : Scalar) → settle (on_integers operator (pushed y (pushed (Truth a) f)) s.memory) end named s ≡ Over Stuck s
-    stuck (Int b) = refl
-    stuck y = refl
-operates operator end named f (Str a) y s = stuck y
-  where
-    stuck : (y : Scalar) → settle (on_integers operator (pushed y (pushed (Str a) f)) s.memory) end named s ≡ Over Stuck s
-    stuck (Int b) = refl
-    stuck y = refl
-operates operator end named f (Model a) y s = stuck y
-  where
-    stuck : (y : Scalar) → settle (on_integers operator (pushed y (pushed (Model a) f)) s.memory) end named s ≡ Over Stuck s
-    stuck (Int b) = refl
-    stuck y = refl
-operates operator end named f (Event a c) y s = stuck y
-  where
-    stuck : (y : Scalar) → settle (on_integers operator (pushed y (pushed (Event a c) f)) s.memory) end named s ≡ Over Stuck s
-    stuck (Int b) = refl
-    stuck y = refl
+pub operates : {image : Image} {w : World} {k : Known} {here : Here} {at : ℕ} {work : Work} (operator : Operator) (x y : Value) (s : State) (store : List (List Value)) → Stores k s.memory.store store
+    → instruction_at image.code at ≡ Some (operator_code operator)
+    → Lands image w k (λ v s1. At (at + 1) (push v work) here s1) (At at (push y (push x work)) here (over store s)) (answered (answer (between operator) (x ∷ y ∷ [])) s)
+operates {at = at} sum x y s store st h = instruct Add h (answer_lands (answer (between sum) (x ∷ y ∷ [])) (site_of Add at) s store st)
+operates {at = at} difference x y s store st h = instruct Subtract h (answer_lands (answer (between difference) (x ∷ y ∷ [])) (site_of Subtract at) s store st)
+operates {image = image} {w = w} {k = k} {here = here} {at = at} {work = work} (compare c) x y s store st h =
+    instruct (Compare (comparison_code c)) h
+    (subst (λ (other : how.Comparison). Lands image w k (λ v s1. At (at + 1) (push v work) here s1) (settle image w (resulted (answer (between (compare other)) (x ∷ y ∷ [])) work) (site_of (Compare (comparison_code c)) at) here (over store s)) (answered (answer (between (compare c)) (x ∷ y ∷ [])) s)) (sym (comparison_is c))
+    (answer_lands (answer (between (compare c)) (x ∷ y ∷ [])) (site_of (Compare (comparison_code c)) at) s store st))
 
--- what stands in a place of the store, and a text
-loads : (end named : ℕ) (f : Frame) (found : Option Scalar) (s : State)
-    → settle (on_some found (λ value. On (pushed value f) s.memory)) end named s ≡ push end f (or_stuck found s)
-loads end named f None s = refl
-loads end named f (Some value) s = refl
+-- two operands and an operator
+pub apply_runs : {image : Image} {w : World} {k : Known} {here : Here} {at middle last : ℕ} (operator : Operator) (f g : State → Out Value)
+    → Computes image w k here at middle f → Computes image w k here middle last g → instruction_at image.code last ≡ Some (operator_code operator)
+    → Computes image w k here at (last + 1) (λ s. bind (f s) (λ x s1. bind (g s1) (λ y s2. answered (answer (between operator) (x ∷ y ∷ [])) s2)))
+apply_runs operator f g rf rg h work s store st =
+    then_ _ _ (rf work s store st) (λ x s1 store1 st1.
+    then_ _ _ (rg (push x work) s1 store1 st1) (λ y s2 store2 st2. operates operator x y s2 store2 st2 h))
 
-texted : (end named : ℕ) (f : Frame) (found : Option (List ℕ)) (s : State)
-    → settle (act_or_fault TooBig found (λ t. On (pushed (Str t) f) s.memory)) end named s ≡ push end f (or_fault TooBig found Str s)
-texted end named f None s = refl
-texted end named f (Some t) s = refl
-
-truths : (end named : ℕ) (f : Frame) (found : Option Bool) (s : State)
-    → settle (on_compared found f s.memory) end named s ≡ push end f (told_truth found s)
-truths end named f None s = refl
-truths end named f (Some b) s = refl
-
--- the operators
-applies : (image : Image) (operator : Operator) (last : ℕ) (f : Frame) (x y : Scalar) (s : State)
-    → settle (act image (operator_code operator) (pushed y (pushed x f)) s.memory) (last + width (operator_code operator)) (target (operator_code operator) (last + width (operator_code operator))) s
-    ≡ push (last + 1) f (applied operator x y s)
-applies image plus last f x y s = operates sum_of (last + 1) (last + 1) f x y s
-applies image minus last f x y s = operates difference_of (last + 1) (last + 1) f x y s
-applies image (compare how) last f x y s = truths (last + 1) (last + 1) f (compared how x y) s
-
--- the two operands one after the other, then the operator
-two_run : (image : Image) (i : Instruction) (last end : ℕ) (combine : Scalar → Scalar → State → Got)
-    → ((f : Frame) (x y : Scalar) (s : State) → settle (act image i (pushed y (pushed x f)) s.memory) (last + width i) (target i (last + width i)) s ≡ push end f (combine x y s))
-    → (address middle : ℕ) (g h : State → Got)
-    → Computes image address middle g → Computes image middle last h
-    → instruction_at image.code last ≡ Some i
-    → Computes image address end (λ s. give (g s) (λ x s1. give (h s1) (λ y s2. combine x y s2)))
-two_run image i last end combine is address middle g h p q there f s =
-    then_give image (At address f s) middle end f f (g s) _ (p f s) (λ x s1.
-    then_give image (At middle (pushed x f) s1) last end (pushed x f) f (h s1) _ (q (pushed x f) s1) (λ y s2.
-    one_gives_on image i last (pushed y (pushed x f)) s2 end f (combine x y s2) there (is f x y s2)))
-
--- both operands stand where their code is, and the operator behind them
-record Two (image : Image) (names : List (List ℕ)) (k address : ℕ) (a b : Expression) (i : Instruction) : Type 0 where
-  left : HasAt image.code address (expression_code names k a)
-  right : HasAt image.code (expression_end address a) (expression_code names (k + length (texts_in a)) b)
-  operator : instruction_at image.code (expression_end (expression_end address a) b) ≡ Some i
-  left_texts : HasTexts image.constants k (texts_in a)
-  right_texts : HasTexts image.constants (k + length (texts_in a)) (texts_in b)
-
-two : (image : Image) (names : List (List ℕ)) (k address : ℕ) (a b : Expression) (i : Instruction)
-    → HasAt image.code address (expression_code names k a ++ (expression_code names (k + length (texts_in a)) b ++ i ∷ []))
-    → HasTexts image.constants k (texts_in a ++ texts_in b) → Two image names k address a b i
-two image names k address a b i h t =
-    let l : ℕ = k + length (texts_in a) in
-    let cuts = cut_at image.code address (expression_end address a) (expression_code names k a) (expression_code names l b ++ i ∷ []) (expression_after names k address a) h in
-    let ends = cut_at image.code (expression_end address a) (expression_end (expression_end address a) b) (expression_code names l b) (i ∷ []) (expression_after names l (expression_end address a) b) cuts.1 in
-    let texts = text_parts image.constants k (texts_in a) (texts_in b) t in
-    record { left = cuts.0; right = ends.0; operator = ends.1.0; left_texts = texts.0; right_texts = texts.1 }
-
-pub expression_runs : (call : Routine) (image : Image) (names : List (List ℕ)) (e : Expression) (k address : ℕ)
-    → IsBuilt e → HasAt image.code address (expression_code names k e) → HasTexts image.constants k (texts_in e)
-    → Computes image address (expression_end address e) (value_of call names e)
-expression_runs call image names (number n) k address built h t f s =
-    one_gives image (PushInt n) address (address + 5) f s (Gave (Int n) s) h.0 refl
-expression_runs call image names (truth b) k address built h t f s =
-    one_gives image (PushBool b) address (address + 5) f s (Gave (Truth b) s) h.0 refl
-expression_runs call image names (text t) k address built h held f s =
-    one_gives image (PushText k) address (address + 5) f s (or_fault TooBig (limited t) Str s) h.0
-    (ap (λ found. settle (on_some found (λ text. act_or_fault TooBig (limited text) (λ t. On (pushed (Str t) f) s.memory))) (address + 5) (address + 5) s) held.0
-    ∙ texted (address + 5) (address + 5) f (limited t) s)
-expression_runs call image names (name n) k address built h t f s =
-    one_gives image (LoadGlobal (place_of n names)) address (address + 5) f s _ h.0
-    (loads (address + 5) (address + 5) f (slice_get s.memory.store (place_of n names)) s)
-expression_runs call image names (apply operator a b) k address built h t f s =
-    let w = two image names k address a b (operator_code operator) h t in
-    let l : ℕ = k + length (texts_in a) in
-    let last : ℕ = expression_end (expression_end address a) b in
-    two_run image (operator_code operator) last (last + 1) (applied operator) (applies image operator last) address (expression_end address a)
-    (value_of call names a) (value_of call names b)
-    (expression_runs call image names a k address built.0 w.left w.left_texts)
-    (expression_runs call image names b l (expression_end address a) built.1 w.right w.right_texts) w.operator f s
-expression_runs call image names unbuilt k address built h t f s = absurd built
+pub expression_runs : {image : Image} {w : World} {k : Known} {here : Here} (call : Routine) (names : Names) (env : Env) (e : Expression) (line c at : ℕ)
+    → IsBuilt e → HasAt image.code at (expression_code names.model line c e) → HasTexts image.constants c (texts_in e)
+    → Computes image w k here at (expression_end at e) (value_of w call names e env)
+expression_runs call names env (number n) line c at built h t work s store st = instruct (PushInt n) h.0 (gave (One (Int n)) s store st)
+expression_runs {image = image} {w = w} {k = k} {here = here} call names env (text bytes) line c at built h t work s store st =
+    instruct (PushText c) h.0
+    (subst (λ (o : Option (List ℕ)). Lands image w k (λ v s1. At (at + 5) (push v work) here s1) (settle image w (on_some o (λ found. resulted (how.text found) work)) (site_of (PushText c) at) here (over store s)) (answered (how.text bytes) s)) (sym t.0)
+    (answer_lands (how.text bytes) (site_of (PushText c) at) s store st))
+expression_runs {image = image} {w = w} {k = k} {here = here} call names env (truth b) line c at built h t work s store st =
+    instruct (PushBool (from_bool b)) h.0
+    (subst (λ (o : Option Bool). Lands image w k (λ v s1. At (at + 5) (push v work) here s1) (settle image w (on_some o (λ found. On (push (One (Truth found)) work))) (site_of (PushBool (from_bool b)) at) here (over store s)) (value_of w call names (truth b) env s)) (sym (truth_is b))
+    (gave (One (Truth b)) s store st))
+expression_runs call names env (variable Model n) line c at built h t work s store st = load_runs (place_of n names.model) at h.0 work s store st
+expression_runs call names env (variable Own n) line c at built h t work s store st = absurd built
+expression_runs {image = image} call names env (apply operator a b) line c at built h t work s store st =
+    let l : ℕ = c + length (texts_in a) in
+    let middle : ℕ = expression_end at a in
+    let last : ℕ = expression_end middle b in
+    let cuts = cut image.code at middle (expression_code names.model line c a) (expression_code names.model line l b ++ at_line line (operator_code operator) ∷ []) (expression_after names.model line c at a) h in
+    let ends = cut image.code middle last (expression_code names.model line l b) (at_line line (operator_code operator) ∷ []) (expression_after names.model line l middle b) cuts.1 in
+    let texts = text_parts image.constants c (texts_in a) (texts_in b) t in
+    apply_runs operator _ _ (expression_runs call names env a line c at built.0 cuts.0 texts.0) (expression_runs call names env b line l middle built.1 ends.0 texts.1) ends.1.0 work s store st
+expression_runs call names env (index n) line c at built h t work s store st = absurd built
+expression_runs call names env (range_of a b) line c at built h t work s store st = absurd built
+expression_runs call names env (sum_over i set condition body) line c at built h t work s store st = absurd built
+expression_runs call names env (invoke routine all) line c at built h t work s store st = absurd built
+expression_runs call names env (ask_hub function all) line c at built h t work s store st = absurd built
+expression_runs call names env unbuilt line c at built h t work s store st = absurd built

@@ -1,18 +1,24 @@
 -- Bounds on what is made of a model, by its size.
 
-use Rattle.std.proofs.Common.{◌≡◌, ◌≤◌, ◌<◌, ℕ, ◌+◌, ◌*◌, ◌^◌, zero, suc, pos, Bool, true, false, List, [], ◌∷◌, ◌++◌, length, length-append, get_or, arith}
+use Rattle.std.proofs.Common.{◌≡◌, ◌≤◌, ◌<◌, ℕ, ◌+◌, ◌*◌, ◌^◌, zero, suc, pos, Bool, true, false, List, [], ◌∷◌, ◌++◌, length, map, refl, length-append, get_or, arith}
 use Rattle.std.specs.Prelude.{if◌then◌else◌, All}
-use Rattle.std.proofs.lemmas.List.{length-replicate}
-use Rattle.std.proofs.lemmas.List.Elements.{All-nil}
+use Rattle.std.proofs.lemmas.List.{length-replicate, length-map}
+use Rattle.std.proofs.lemmas.List.Elements.{All-nil, All-cons, All-append}
+use Rattle.bim_compile.specs.InSize.{IsSmall, AreSmall, IsSmallEffect, AreSmallBranches, IsSmallBlock}
 use Rattle.bim_code.specs.declared.image.ImageType.{ImageType}
 use Rattle.bim_code.specs.declared.instruction.Instruction.{Instruction}
-use Rattle.bim_code.specs.declared.instruction.Instruction.TheVariants.{PushInt, End}
+use Rattle.bim_code.specs.declared.instruction.Instruction.TheVariants.{PushInt, PushBool, LoadGlobal, StoreGlobal, Swap, Jump, JumpIf, JumpNot, Show, Write, Line, End}
+use Rattle.std.specs.Int.{from_bool}
 use Rattle.bim_code.specs.declared.image.ImageType.TheVariants.{Integer}
 use Rattle.bim_code.specs.Code.{code_size}
 use Rattle.bim_code.specs.Rows.{width}
 use Rattle.bim_code.specs.Limits.{FitsFields, TypeFits}
-use Rattle.mos_meaning.specs.Syntax.{Expression, number, text, truth, name, apply, unbuilt, Arguments, nothing, one_more, Effect, assign, change, write, choose, loop, group, leave, skip, unbuilt_effect, Branches, otherwise, branch, Block, done, first, has_name, with_name, names_after, names_in_branches, names_from, variables_of}
-use Rattle.bim_compile.specs.Compiled.{texts_in, texts_in_all, texts_in_effect, texts_in_branches, texts_in_block, expression_end, arguments_end, effect_end, branches_end, block_code, block_end, types_of, image_of}
+use Rattle.mos_names.specs.NameLists.{Name, has_name, with_name, place_of}
+use Rattle.mos_value.specs.Answers.{Operator, sum, difference, compare}
+use Rattle.mos_meaning.specs.Syntax.{Expression, number, text, truth, variable, index, apply, range_of, sum_over, invoke, ask_hub, unbuilt, Shown, nothing, one_more, Effect, assign, change, write, perform, if_, while_, do_, break_, next_, unbuilt_effect, Branches, else_, elif, Block, no_more, first}
+use Rattle.mos_meaning.specs.Sources.{names_after, names_in_branches, names_from, variables_of}
+use Rattle.bim_compile.specs.declared.draft.Labelled.{Labelled}
+use Rattle.bim_compile.specs.Compiled.{at_line, instructions, labelled_of, expression_code, arguments_code, effect_code, branches_code, operator_code, texts_in, texts_in_all, texts_in_effect, texts_in_branches, texts_in_block, expression_end, arguments_end, effect_end, branches_end, block_code, block_end, types_of, image_of}
 use Rattle.bim_compile.proofs.Standing.{after, after-append}
 use Rattle.bim_compile.proofs.EndLemmas.{block_after}
 use Rattle.bim_compile.specs.Sizes.{size_of, size_of_all, size_of_effect, size_of_branches, size_of_block}
@@ -21,29 +27,35 @@ pub texts_few : (e : Expression) → length (texts_in e) ≤ size_of e
 texts_few (number n) = omega arith
 texts_few (text t) = omega arith
 texts_few (truth b) = omega arith
-texts_few (name n) = omega arith
+texts_few (variable scope n) = omega arith
 texts_few (apply operator a b) = omega (arith, length-append (texts_in a) (texts_in b), texts_few a, texts_few b)
+texts_few (index n) = omega arith
+texts_few (range_of a b) = omega arith
+texts_few (sum_over i set condition body) = omega arith
+texts_few (invoke routine all) = omega arith
+texts_few (ask_hub function all) = omega arith
 texts_few unbuilt = omega arith
 
-texts_few_all : (all : Arguments) → length (texts_in_all all) ≤ size_of_all all
+texts_few_all : (all : Shown) → length (texts_in_all all) ≤ size_of_all all
 texts_few_all nothing = omega arith
 texts_few_all (one_more e es) = omega (arith, length-append (texts_in e) (texts_in_all es), texts_few e, texts_few_all es)
 
 mutual
   texts_few_effect : (e : Effect) → length (texts_in_effect e) ≤ size_of_effect e
-  texts_few_effect (assign n e) = omega (arith, texts_few e)
-  texts_few_effect (change how n e) = omega (arith, texts_few e)
-  texts_few_effect (write newline all) = omega (arith, texts_few_all all)
-  texts_few_effect (choose all) = omega (arith, texts_few_branches all)
-  texts_few_effect (loop e body) = omega (arith, length-append (texts_in_effect body) (texts_in e), texts_few e, texts_few_effect body)
-  texts_few_effect (group all) = omega (arith, texts_few_block all)
-  texts_few_effect leave = omega arith
-  texts_few_effect skip = omega arith
+  texts_few_effect (assign line scope n e) = omega (arith, texts_few e)
+  texts_few_effect (change line operator scope n e) = omega (arith, texts_few e)
+  texts_few_effect (write line newline all) = omega (arith, texts_few_all all)
+  texts_few_effect (if_ line all) = omega (arith, texts_few_branches all)
+  texts_few_effect (while_ line e body) = omega (arith, length-append (texts_in_effect body) (texts_in e), texts_few e, texts_few_effect body)
+  texts_few_effect (do_ all) = omega (arith, texts_few_block all)
+  texts_few_effect (break_ line) = omega arith
+  texts_few_effect (next_ line) = omega arith
   texts_few_effect unbuilt_effect = omega arith
+  texts_few_effect (perform line routine all) = omega arith
 
   texts_few_branches : (all : Branches) → length (texts_in_branches all) ≤ size_of_branches all
-  texts_few_branches (otherwise all) = texts_few_block all
-  texts_few_branches (branch e all rest) =
+  texts_few_branches (else_ all) = texts_few_block all
+  texts_few_branches (elif line e all rest) =
       omega (
         arith,
         length-append (texts_in e) (texts_in_block all ++ texts_in_branches rest),
@@ -54,11 +66,11 @@ mutual
       )
 
   pub texts_few_block : (all : Block) → length (texts_in_block all) ≤ size_of_block all
-  texts_few_block done = omega arith
+  texts_few_block no_more = omega arith
   texts_few_block (first e rest) =
       omega (arith, length-append (texts_in_effect e) (texts_in_block rest), texts_few_effect e, texts_few_block rest)
 
-one_name : (names : List (List ℕ)) (n : List ℕ) → length (with_name names n) ≤ length names + 1
+one_name : (names : List Name) (n : Name) → length (with_name names n) ≤ length names + 1
 one_name names n = chosen (has_name n names)
   where
     chosen : (b : Bool) → length (if b then names else names ++ n ∷ []) ≤ length names + 1
@@ -67,67 +79,79 @@ one_name names n = chosen (has_name n names)
 
 mutual
   names_few_effect : (names : List (List ℕ)) (e : Effect) → length (names_after names e) ≤ length names + size_of_effect e
-  names_few_effect names (assign n e) = omega (arith, one_name names n)
-  names_few_effect names (change how n e) = omega arith
-  names_few_effect names (write newline all) = omega arith
-  names_few_effect names (choose all) = omega (arith, names_few_branches names all)
-  names_few_effect names (loop e body) = omega (arith, names_few_effect names body)
-  names_few_effect names (group all) = omega (arith, names_few names all)
-  names_few_effect names leave = omega arith
-  names_few_effect names skip = omega arith
+  names_few_effect names (assign line scope n e) = omega (arith, one_name names n)
+  names_few_effect names (change line operator scope n e) = omega arith
+  names_few_effect names (write line newline all) = omega arith
+  names_few_effect names (if_ line all) = omega (arith, names_few_branches names all)
+  names_few_effect names (while_ line e body) = omega (arith, names_few_effect names body)
+  names_few_effect names (do_ all) = omega (arith, names_few names all)
+  names_few_effect names (break_ line) = omega arith
+  names_few_effect names (next_ line) = omega arith
   names_few_effect names unbuilt_effect = omega arith
+  names_few_effect names (perform line routine all) = omega arith
 
   names_few_branches : (names : List (List ℕ)) (all : Branches) → length (names_in_branches names all) ≤ length names + size_of_branches all
-  names_few_branches names (otherwise all) = names_few names all
-  names_few_branches names (branch e all rest) = omega (arith, names_few names all, names_few_branches (names_from names all) rest)
+  names_few_branches names (else_ all) = names_few names all
+  names_few_branches names (elif line e all rest) = omega (arith, names_few names all, names_few_branches (names_from names all) rest)
 
   names_few : (names : List (List ℕ)) (all : Block) → length (names_from names all) ≤ length names + size_of_block all
-  names_few names done = omega arith
+  names_few names no_more = omega arith
   names_few names (first e rest) = omega (arith, names_few_effect names e, names_few (names_after names e) rest)
 
 pub variables_few : (all : Block) → length (variables_of all) ≤ size_of_block all
 variables_few all = let h = names_few [] all in omega (arith, h)
 
 -- what ends behind its code is as long as its code
-size_after : (at : ℕ) (is : List Instruction) → after at is ≡ at + code_size is
+size_after : (at : ℕ) (is : List Labelled) → after at is ≡ at + code_size (instructions is)
 size_after at [] = omega arith
-size_after at (i ∷ is) = let h = size_after (at + width i) is in omega (arith, h)
+size_after at (i ∷ is) = let h = size_after (at + width i.instruction) is in omega (arith, h)
 
 expression_within : (at : ℕ) (e : Expression) → expression_end at e ≤ at + 5 * size_of e
 expression_within at (number n) = omega arith
 expression_within at (text t) = omega arith
 expression_within at (truth b) = omega arith
-expression_within at (name n) = omega arith
+expression_within at (variable scope n) = omega arith
 expression_within at (apply operator a b) = omega (arith, expression_within at a, expression_within (expression_end at a) b)
+expression_within at (index n) = omega arith
+expression_within at (range_of a b) = omega arith
+expression_within at (sum_over i set condition body) = omega arith
+expression_within at (invoke routine all) = omega arith
+expression_within at (ask_hub function all) = omega arith
 expression_within at unbuilt = omega arith
 
 some_size : (e : Expression) → 1 ≤ size_of e
 some_size (number n) = omega arith
 some_size (text t) = omega arith
 some_size (truth b) = omega arith
-some_size (name n) = omega arith
+some_size (variable scope n) = omega arith
 some_size (apply operator a b) = omega arith
+some_size (index n) = omega arith
+some_size (range_of a b) = omega arith
+some_size (sum_over i set condition body) = omega arith
+some_size (invoke routine all) = omega arith
+some_size (ask_hub function all) = omega arith
 some_size unbuilt = omega arith
 
-arguments_within : (at : ℕ) (all : Arguments) → arguments_end at all ≤ at + 7 * size_of_all all
+arguments_within : (at : ℕ) (all : Shown) → arguments_end at all ≤ at + 7 * size_of_all all
 arguments_within at nothing = omega arith
 arguments_within at (one_more e es) = omega (arith, expression_within at e, some_size e, arguments_within (expression_end at e + 1 + 1) es)
 
 mutual
   effect_within : (at : ℕ) (e : Effect) → effect_end at e ≤ at + 13 * size_of_effect e
-  effect_within at (assign n e) = omega (arith, expression_within (at + 1) e)
-  effect_within at (change how n e) = omega (arith, expression_within (at + 1) e)
-  effect_within at (write newline all) = omega (arith, arguments_within (at + 1) all)
-  effect_within at (choose all) = omega (arith, branches_within (at + 1) all)
-  effect_within at (loop e body) = omega (arith, effect_within (at + 1 + 5 + 1) body, expression_within (effect_end (at + 1 + 5 + 1) body) e)
-  effect_within at (group all) = omega (arith, block_within at all)
-  effect_within at leave = omega arith
-  effect_within at skip = omega arith
+  effect_within at (assign line scope n e) = omega (arith, expression_within (at + 1) e)
+  effect_within at (change line operator scope n e) = omega (arith, expression_within (at + 1) e)
+  effect_within at (write line newline all) = omega (arith, arguments_within (at + 1) all)
+  effect_within at (if_ line all) = omega (arith, branches_within (at + 1) all)
+  effect_within at (while_ line e body) = omega (arith, effect_within (at + 1 + 5 + 1) body, expression_within (effect_end (at + 1 + 5 + 1) body) e)
+  effect_within at (do_ all) = omega (arith, block_within at all)
+  effect_within at (break_ line) = omega arith
+  effect_within at (next_ line) = omega arith
   effect_within at unbuilt_effect = omega arith
+  effect_within at (perform line routine all) = omega arith
 
   branches_within : (at : ℕ) (all : Branches) → branches_end at all ≤ at + 13 * size_of_branches all
-  branches_within at (otherwise all) = block_within at all
-  branches_within at (branch e all rest) =
+  branches_within at (else_ all) = block_within at all
+  branches_within at (elif line e all rest) =
       omega (
         arith,
         expression_within at e,
@@ -136,7 +160,7 @@ mutual
       )
 
   pub block_within : (at : ℕ) (all : Block) → block_end at all ≤ at + 13 * size_of_block all
-  block_within at done = omega arith
+  block_within at no_more = omega arith
   block_within at (first e rest) = omega (arith, effect_within at e, block_within (effect_end at e) rest)
 
 -- the code of a model ends where the model's end is said to be
@@ -144,10 +168,11 @@ pub code_within : (model : Block) → code_size (image_of model).code ≤ 13 * s
 code_within model =
     let end : ℕ = block_end 0 model in
     let body = block_code (variables_of model) 0 0 end end model in
-    let whole = after-append 0 body (PushInt (pos 0) ∷ End ∷ []) in
+    let last : List Labelled = at_line 0 (PushInt (pos 0)) ∷ at_line 0 End ∷ [] in
+    let whole = after-append 0 body last in
     let inner = block_after (variables_of model) 0 0 end end model in
-    let size = size_after 0 (image_of model).code in
-    let behind = size_after (after 0 body) (PushInt (pos 0) ∷ End ∷ []) in
+    let size = size_after 0 (labelled_of model) in
+    let behind = size_after (after 0 body) last in
     let within = block_within 0 model in
     omega (arith, whole, inner, size, behind, within)
 
@@ -179,3 +204,157 @@ fits_fields model small short = record {
   stacks = All-nil _;
   code = omega (arith, code_within model);
 }
+
+-- How many instructions a form has.
+
+operator_length : (line : ℕ) (operator : Operator) → length (at_line line (operator_code operator) ∷ []) ≡ 1
+operator_length line operator = refl
+
+expression_length : (names : List Name) (line k : ℕ) (e : Expression) → length (expression_code names line k e) ≤ size_of e
+expression_length names line k (number n) = omega arith
+expression_length names line k (text t) = omega arith
+expression_length names line k (truth b) = omega arith
+expression_length names line k (variable scope n) = omega arith
+expression_length names line k (apply operator a b) =
+    let l : ℕ = k + length (texts_in a) in
+    omega (
+      arith,
+      length-append (expression_code names line k a) (expression_code names line l b ++ at_line line (operator_code operator) ∷ []),
+      length-append (expression_code names line l b) (at_line line (operator_code operator) ∷ []),
+      expression_length names line k a,
+      expression_length names line l b,
+    )
+expression_length names line k (index n) = omega arith
+expression_length names line k (range_of a b) = omega arith
+expression_length names line k (sum_over i set condition body) = omega arith
+expression_length names line k (invoke routine all) = omega arith
+expression_length names line k (ask_hub function all) = omega arith
+expression_length names line k unbuilt = omega arith
+
+arguments_length : (names : List Name) (line k : ℕ) (all : Shown) → length (arguments_code names line k all) ≤ 3 * size_of_all all
+arguments_length names line k nothing = omega arith
+arguments_length names line k (one_more e es) =
+    let l : ℕ = k + length (texts_in e) in
+    omega (
+      arith,
+      length-append (expression_code names line k e) (at_line line Show ∷ at_line line Write ∷ arguments_code names line l es),
+      expression_length names line k e,
+      some_size e,
+      arguments_length names line l es,
+    )
+
+mutual
+  effect_length : (names : List Name) (k at out next : ℕ) (e : Effect) → length (effect_code names k at out next e) ≤ 5 * size_of_effect e
+  effect_length names k at out next (assign line scope n e) =
+      omega (
+        arith,
+        length-append (expression_code names line k e) (at_line line (StoreGlobal (place_of n names)) ∷ []),
+        expression_length names line k e,
+      )
+  effect_length names k at out next (change line operator scope n e) =
+      omega (
+        arith,
+        length-append (expression_code names line k e) (at_line line (LoadGlobal (place_of n names)) ∷ at_line line Swap ∷ at_line line (operator_code operator) ∷ at_line line (StoreGlobal (place_of n names)) ∷ []),
+        expression_length names line k e,
+      )
+  effect_length names k at out next (write line newline all) =
+      omega (
+        arith,
+        length-append (arguments_code names line k all) (at_line line (PushBool (from_bool newline)) ∷ at_line line Line ∷ []),
+        arguments_length names line k all,
+      )
+  effect_length names k at out next (if_ line all) = omega (arith, branches_length names k (at + 1) (branches_end (at + 1) all) out next all)
+  effect_length names k at out next (while_ line e body) =
+      let pass : ℕ = at + 1 + 5 in
+      let test : ℕ = effect_end (pass + 1) body in
+      let l : ℕ = k + length (texts_in_effect body) in
+      omega (
+        arith,
+        length-append (effect_code names k (pass + 1) (expression_end test e + 5) test body) (expression_code names line l e ++ at_line line (JumpIf pass) ∷ []),
+        length-append (expression_code names line l e) (at_line line (JumpIf pass) ∷ []),
+        effect_length names k (pass + 1) (expression_end test e + 5) test body,
+        expression_length names line l e,
+      )
+  effect_length names k at out next (do_ all) = omega (arith, block_length names k at out next all)
+  effect_length names k at out next (break_ line) = omega arith
+  effect_length names k at out next (next_ line) = omega arith
+  effect_length names k at out next (perform line routine all) = omega arith
+  effect_length names k at out next unbuilt_effect = omega arith
+
+  branches_length : (names : List Name) (k at end out next : ℕ) (all : Branches) → length (branches_code names k at end out next all) ≤ 5 * size_of_branches all
+  branches_length names k at end out next (else_ all) = block_length names k at out next all
+  branches_length names k at end out next (elif line e all rest) =
+      let body : ℕ = expression_end at e + 5 in
+      let other : ℕ = block_end body all + 5 in
+      let l : ℕ = k + length (texts_in e) in
+      let m : ℕ = l + length (texts_in_block all) in
+      let others = at_line line (Jump end) ∷ branches_code names m other end out next rest in
+      omega (
+        arith,
+        length-append (expression_code names line k e) (at_line line (JumpNot other) ∷ (block_code names l body out next all ++ others)),
+        length-append (block_code names l body out next all) others,
+        expression_length names line k e,
+        block_length names l body out next all,
+        branches_length names m other end out next rest,
+      )
+
+  block_length : (names : List Name) (k at out next : ℕ) (all : Block) → length (block_code names k at out next all) ≤ 5 * size_of_block all
+  block_length names k at out next no_more = omega arith
+  block_length names k at out next (first e rest) =
+      let l : ℕ = k + length (texts_in_effect e) in
+      omega (
+        arith,
+        length-append (effect_code names k at out next e) (block_code names l (effect_end at e) out next rest),
+        effect_length names k at out next e,
+        block_length names l (effect_end at e) out next rest,
+      )
+
+-- the instructions of a model's image
+pub few_instructions : (model : Block) → length (image_of model).code ≤ 5 * size_of_block model + 2
+few_instructions model =
+    let end : ℕ = block_end 0 model in
+    let body = block_code (variables_of model) 0 0 end end model in
+    let last : List Labelled = at_line 0 (PushInt (pos 0)) ∷ at_line 0 End ∷ [] in
+    let same : length (instructions (body ++ last)) ≡ length (body ++ last) = length-map (body ++ last) (λ (l : Labelled). l.instruction) in
+    omega (arith, same, length-append body last, block_length (variables_of model) 0 0 end end model)
+
+-- the texts of a small model are short
+texts_short : (e : Expression) → IsSmall e → All (λ t. length t < 2 ^ 32) (texts_in e)
+texts_short (text t) h = All-cons (λ u. length u < 2 ^ 32) t [] h (All-nil _)
+texts_short (apply operator a b) h = All-append (λ u. length u < 2 ^ 32) (texts_in a) (texts_in b) (texts_short a h.0) (texts_short b h.1)
+texts_short (number n) h = All-nil _
+texts_short (truth b) h = All-nil _
+texts_short (variable scope n) h = All-nil _
+texts_short (index n) h = All-nil _
+texts_short (range_of a b) h = All-nil _
+texts_short (sum_over i set condition body) h = All-nil _
+texts_short (invoke routine all) h = All-nil _
+texts_short (ask_hub function all) h = All-nil _
+texts_short unbuilt h = All-nil _
+
+texts_short_all : (all : Shown) → AreSmall all → All (λ t. length t < 2 ^ 32) (texts_in_all all)
+texts_short_all nothing h = All-nil _
+texts_short_all (one_more e es) h = All-append (λ u. length u < 2 ^ 32) (texts_in e) (texts_in_all es) (texts_short e h.0) (texts_short_all es h.1)
+
+mutual
+  texts_short_effect : (e : Effect) → IsSmallEffect e → All (λ t. length t < 2 ^ 32) (texts_in_effect e)
+  texts_short_effect (assign line scope n e) h = texts_short e h
+  texts_short_effect (change line operator scope n e) h = texts_short e h
+  texts_short_effect (write line newline all) h = texts_short_all all h
+  texts_short_effect (if_ line all) h = texts_short_branches all h
+  texts_short_effect (while_ line e body) h = All-append (λ u. length u < 2 ^ 32) (texts_in_effect body) (texts_in e) (texts_short_effect body h.1) (texts_short e h.0)
+  texts_short_effect (do_ all) h = texts_short_block all h
+  texts_short_effect (perform line routine all) h = All-nil _
+  texts_short_effect (break_ line) h = All-nil _
+  texts_short_effect (next_ line) h = All-nil _
+  texts_short_effect unbuilt_effect h = All-nil _
+
+  texts_short_branches : (all : Branches) → AreSmallBranches all → All (λ t. length t < 2 ^ 32) (texts_in_branches all)
+  texts_short_branches (else_ all) h = texts_short_block all h
+  texts_short_branches (elif line e all rest) h =
+      All-append (λ u. length u < 2 ^ 32) (texts_in e) (texts_in_block all ++ texts_in_branches rest) (texts_short e h.0)
+      (All-append (λ u. length u < 2 ^ 32) (texts_in_block all) (texts_in_branches rest) (texts_short_block all h.1) (texts_short_branches rest h.2))
+
+  pub texts_short_block : (all : Block) → IsSmallBlock all → All (λ t. length t < 2 ^ 32) (texts_in_block all)
+  texts_short_block no_more h = All-nil _
+  texts_short_block (first e rest) h = All-append (λ u. length u < 2 ^ 32) (texts_in_effect e) (texts_in_block rest) (texts_short_effect e h.0) (texts_short_block rest h.1)

@@ -1,56 +1,64 @@
 -- Code and constants that stand in an image from a place on.
 
-use Rattle.std.proofs.Common.{◌≡◌, ◌≤◌, ℕ, ◌+◌, suc, List, [], ◌∷◌, ◌++◌, length, Some, refl, sym, append_assoc, nat_eq, slice_get, false, arith, subst, eq-eqb, ne_eqb, length-append}
+use Rattle.std.proofs.Common.{◌≡◌, ◌≤◌, ℕ, ◌+◌, suc, List, [], ◌∷◌, ◌++◌, length, map, Some, refl, sym, ap, append_assoc, nat_eq, slice_get, false, arith, subst, eq-eqb, ne_eqb, length-append}
+use Rattle.std.proofs.lemmas.List.{map-append}
 use Rattle.bim_code.specs.declared.instruction.Instruction.{Instruction}
 use Rattle.bim_code.specs.Rows.{width}
 use Rattle.bim_code.specs.Code.{instruction_at, instruction_from}
+use Rattle.bim_compile.specs.declared.draft.Labelled.{Labelled}
+use Rattle.bim_compile.specs.Compiled.{instructions}
 
 -- the instructions stand one behind the other from an address on
-abbrev pub HasAt : List Instruction → ℕ → List Instruction → Type 0
+abbrev pub HasAt : List Instruction → ℕ → List Labelled → Type 0
 HasAt code address [] = Unit {0}
-HasAt code address (i ∷ is) = (instruction_at code address ≡ Some i) × HasAt code (address + width i) is
+HasAt code address (l ∷ ls) = (instruction_at code address ≡ Some l.instruction) × HasAt code (address + width l.instruction) ls
 
 -- the address behind them
-abbrev pub after : ℕ → List Instruction → ℕ
+abbrev pub after : ℕ → List Labelled → ℕ
 after address [] = address
-after address (i ∷ is) = after (address + width i) is
+after address (l ∷ ls) = after (address + width l.instruction) ls
 
-pub after-append : (address : ℕ) (is js : List Instruction) → after address (is ++ js) ≡ after (after address is) js
+pub after-append : (address : ℕ) (is js : List Labelled) → after address (is ++ js) ≡ after (after address is) js
 after-append address [] js = refl
-after-append address (i ∷ is) js = after-append (address + width i) is js
+after-append address (i ∷ is) js = after-append (address + width i.instruction) is js
 
-pub parts : (code : List Instruction) (address : ℕ) (is js : List Instruction)
+parts : (code : List Instruction) (address : ℕ) (is js : List Labelled)
     → HasAt code address (is ++ js) → HasAt code address is × HasAt code (after address is) js
 parts code address [] js h = (tt, h)
 parts code address (i ∷ is) js h =
-    let rest = parts code (address + width i) is js h.1 in ((h.0, rest.0), rest.1)
+    let rest = parts code (address + width i.instruction) is js h.1 in ((h.0, rest.0), rest.1)
 
-above : (address : ℕ) (is : List Instruction) → address ≤ after address is
+-- code that stands there is a form and what follows it, behind the form's end
+pub cut : (code : List Instruction) (at end : ℕ) (is js : List Labelled) → after at is ≡ end → HasAt code at (is ++ js)
+    → HasAt code at is × HasAt code end js
+cut code at end is js p h = let both = parts code at is js h in (both.0, subst (λ x. HasAt code x js) p both.1)
+
+above : (address : ℕ) (is : List Labelled) → address ≤ after address is
 above address [] = omega arith
-above address (i ∷ is) = let h : address + width i ≤ after (address + width i) is = above (address + width i) is in omega arith
+above address (i ∷ is) = let h : address + width i.instruction ≤ after (address + width i.instruction) is = above (address + width i.instruction) is in omega arith
 
 -- what stands behind some instructions is found there
-pub found : (at : ℕ) (is : List Instruction) (i : Instruction) (js : List Instruction)
-    → instruction_from at (is ++ i ∷ js) (after at is) ≡ Some i
+found : (at : ℕ) (is : List Labelled) (i : Labelled) (js : List Labelled)
+    → instruction_from at (instructions (is ++ i ∷ js)) (after at is) ≡ Some i.instruction
 found at [] i js = rw (eq-eqb at at refl) refl
 found at (j ∷ is) i js =
-    let apart : nat_eq at (after (at + width j) is) ≡ false =
-    ne_eqb at (after (at + width j) is) (λ e. let h = above (at + width j) is in absurd (omega (arith, e, h))) in
-    rw apart (found (at + width j) is i js)
+    let apart : nat_eq at (after (at + width j.instruction) is) ≡ false =
+    ne_eqb at (after (at + width j.instruction) is) (λ e. let h = above (at + width j.instruction) is in absurd (omega (arith, e, h))) in
+    rw apart (found (at + width j.instruction) is i js)
 
-behind : (is js : List Instruction) → HasAt (is ++ js) (after 0 is) js
+behind : (is js : List Labelled) → HasAt (instructions (is ++ js)) (after 0 is) js
 behind is [] = tt
 behind is (j ∷ js) =
     let e : (is ++ j ∷ []) ++ js ≡ is ++ j ∷ js = append_assoc is (j ∷ []) js in
-    let rest : HasAt (is ++ j ∷ js) (after 0 (is ++ j ∷ [])) js =
-    subst (λ (code : List Instruction). HasAt code (after 0 (is ++ j ∷ [])) js) e (behind (is ++ j ∷ []) js) in (
+    let rest : HasAt (instructions (is ++ j ∷ js)) (after 0 (is ++ j ∷ [])) js =
+    subst (λ (all : List Labelled). HasAt (instructions all) (after 0 (is ++ j ∷ [])) js) e (behind (is ++ j ∷ []) js) in (
       found 0 is j js,
-      subst (λ (address : ℕ). HasAt (is ++ j ∷ js) address js) (after-append 0 is (j ∷ [])) rest,
+      subst (λ (address : ℕ). HasAt (instructions (is ++ j ∷ js)) address js) (after-append 0 is (j ∷ [])) rest,
     )
 
 -- the whole code stands from address 0 on
-pub whole : (code : List Instruction) → HasAt code 0 code
-whole code = behind [] code
+pub whole : (labelled : List Labelled) → HasAt (instructions labelled) 0 labelled
+whole labelled = behind [] labelled
 
 -- the constants stand one behind the other from a place on
 abbrev pub HasTexts : List (List ℕ) → ℕ → List (List ℕ) → Type 0

@@ -1,14 +1,25 @@
--- The image of a model: what code each form becomes. Instructions stand one behind the other; the
--- constants are the model's texts, in the order in which their code stands.
+-- As the compiler goes about it: what code each form becomes. Instructions stand one behind the other,
+-- each with the line of its piece; the constants are the model's texts, in the order in which their code
+-- stands.
 
-use Rattle.std.specs.Prelude.{ℕ, ◌+◌, pos, List, [], ◌∷◌, ◌++◌, length, replicate}
+use Rattle.std.specs.Prelude.{ℕ, ◌+◌, pos, List, [], ◌∷◌, ◌++◌, length, map, replicate}
+use Rattle.std.specs.Int.{from_bool}
 use Rattle.bim_code.specs.declared.image.Image.{Image}
 use Rattle.bim_code.specs.declared.image.ImageType.{ImageType}
 use Rattle.bim_code.specs.declared.image.ImageType.TheVariants.{Integer}
+use Rattle.bim_code.specs.declared.instruction.Comparison.{Comparison}
+use Rattle.bim_code.specs.declared.instruction.Comparison.TheVariants.{Equal, NotEqual, Less, AtMost, Greater, AtLeast}
 use Rattle.bim_code.specs.declared.instruction.Instruction.{Instruction}
 use Rattle.bim_code.specs.declared.instruction.Instruction.TheVariants.{Tick, PushInt, PushBool, PushText, LoadGlobal, StoreGlobal, Swap, Add, Subtract, Compare, Jump, JumpIf, JumpNot, Show, Write, Line, End}
-use Rattle.mos_meaning.specs.Syntax.{Operator, plus, minus, compare, Expression, number, text, truth, name, apply, unbuilt, Arguments, nothing, one_more, Change, increase, decrease, Effect, assign, change, write, choose, loop, group, leave, skip, unbuilt_effect, Branches, otherwise, branch, Block, done, first, variables_of}
-use Rattle.mos_meaning.specs.Effects.{place_of}
+use Rattle.mos_names.specs.NameLists.{Name, place_of}
+use Rattle.mos_value.specs.Answers as how
+use Rattle.mos_meaning.specs.Syntax.{Expression, number, text, truth, variable, index, apply, range_of, sum_over, invoke, ask_hub, unbuilt, Shown, nothing, one_more, Effect, assign, change, write, perform, if_, while_, do_, break_, next_, unbuilt_effect, Branches, else_, elif, Block, no_more, first}
+use Rattle.mos_meaning.specs.Sources.{variables_of}
+use Rattle.bim_compile.specs.declared.draft.Labelled.{Labelled}
+
+-- an instruction of the piece on this line
+abbrev pub at_line : ℕ → Instruction → Labelled
+at_line line i = record { line = line; instruction = i }
 
 -- the texts of a form, in their order
 abbrev pub texts_in : Expression → List (List ℕ)
@@ -16,129 +27,153 @@ texts_in (text t) = t ∷ []
 texts_in (apply operator a b) = texts_in a ++ texts_in b
 texts_in _ = []
 
-abbrev pub texts_in_all : Arguments → List (List ℕ)
+abbrev pub texts_in_all : Shown → List (List ℕ)
 texts_in_all nothing = []
 texts_in_all (one_more e es) = texts_in e ++ texts_in_all es
 
 abbrev mutual
   pub texts_in_effect : Effect → List (List ℕ)
-  texts_in_effect (assign n e) = texts_in e
-  texts_in_effect (change how n e) = texts_in e
-  texts_in_effect (write newline all) = texts_in_all all
-  texts_in_effect (choose all) = texts_in_branches all
-  texts_in_effect (loop e body) = texts_in_effect body ++ texts_in e
-  texts_in_effect (group all) = texts_in_block all
-  texts_in_effect leave = []
-  texts_in_effect skip = []
+  texts_in_effect (assign line scope n e) = texts_in e
+  texts_in_effect (change line operator scope n e) = texts_in e
+  texts_in_effect (write line newline all) = texts_in_all all
+  texts_in_effect (if_ line all) = texts_in_branches all
+  texts_in_effect (while_ line e body) = texts_in_effect body ++ texts_in e
+  texts_in_effect (do_ all) = texts_in_block all
+  texts_in_effect (perform line routine all) = []
+  texts_in_effect (break_ line) = []
+  texts_in_effect (next_ line) = []
   texts_in_effect unbuilt_effect = []
 
   pub texts_in_branches : Branches → List (List ℕ)
-  texts_in_branches (otherwise all) = texts_in_block all
-  texts_in_branches (branch e all rest) = texts_in e ++ (texts_in_block all ++ texts_in_branches rest)
+  texts_in_branches (else_ all) = texts_in_block all
+  texts_in_branches (elif line e all rest) = texts_in e ++ (texts_in_block all ++ texts_in_branches rest)
 
   pub texts_in_block : Block → List (List ℕ)
-  texts_in_block done = []
+  texts_in_block no_more = []
   texts_in_block (first e rest) = texts_in_effect e ++ texts_in_block rest
 
-abbrev pub operator_code : Operator → Instruction
-operator_code plus = Add
-operator_code minus = Subtract
-operator_code (compare how) = Compare how
+abbrev pub comparison_code : how.Comparison → Comparison
+comparison_code how.equal = Equal
+comparison_code how.not_equal = NotEqual
+comparison_code how.less = Less
+comparison_code how.at_most = AtMost
+comparison_code how.greater = Greater
+comparison_code how.at_least = AtLeast
+
+abbrev pub operator_code : how.Operator → Instruction
+operator_code how.sum = Add
+operator_code how.difference = Subtract
+operator_code (how.compare comparison) = Compare (comparison_code comparison)
 
 -- the code of a form, where `k` constants stand before those of the form; it leaves the value of an
 -- expression on the stack
-abbrev pub expression_code : List (List ℕ) → ℕ → Expression → List Instruction
-expression_code names k (number n) = PushInt n ∷ []
-expression_code names k (text t) = PushText k ∷ []
-expression_code names k (truth b) = PushBool b ∷ []
-expression_code names k (name n) = LoadGlobal (place_of n names) ∷ []
-expression_code names k (apply operator a b) =
-    expression_code names k a ++ (expression_code names (k + length (texts_in a)) b ++ operator_code operator ∷ [])
-expression_code names k unbuilt = []
+abbrev pub expression_code : List Name → (line k : ℕ) → Expression → List Labelled
+expression_code names line k (number n) = at_line line (PushInt n) ∷ []
+expression_code names line k (text t) = at_line line (PushText k) ∷ []
+expression_code names line k (truth b) = at_line line (PushBool (from_bool b)) ∷ []
+expression_code names line k (variable scope n) = at_line line (LoadGlobal (place_of n names)) ∷ []
+expression_code names line k (apply operator a b) =
+    expression_code names line k a ++ (expression_code names line (k + length (texts_in a)) b ++ at_line line (operator_code operator) ∷ [])
+expression_code names line k _ = []
 
 -- each argument is evaluated, printed and held
-abbrev pub arguments_code : List (List ℕ) → ℕ → Arguments → List Instruction
-arguments_code names k nothing = []
-arguments_code names k (one_more e es) =
-    expression_code names k e ++ (Show ∷ Write ∷ arguments_code names (k + length (texts_in e)) es)
+abbrev pub arguments_code : List Name → (line k : ℕ) → Shown → List Labelled
+arguments_code names line k nothing = []
+arguments_code names line k (one_more e es) =
+    expression_code names line k e
+    ++ (at_line line Show ∷ at_line line Write ∷ arguments_code names line (k + length (texts_in e)) es)
 
 -- the address behind the code of a form that begins at `at`
 
 abbrev pub expression_end : ℕ → Expression → ℕ
+expression_end at (number n) = at + 5
+expression_end at (text t) = at + 5
+expression_end at (truth b) = at + 5
+expression_end at (variable scope n) = at + 5
 expression_end at (apply operator a b) = expression_end (expression_end at a) b + 1
-expression_end at unbuilt = at
-expression_end at _ = at + 5
+expression_end at _ = at
 
-abbrev pub arguments_end : ℕ → Arguments → ℕ
+abbrev pub arguments_end : ℕ → Shown → ℕ
 arguments_end at nothing = at
 arguments_end at (one_more e es) = arguments_end (expression_end at e + 1 + 1) es
 
 abbrev mutual
   pub effect_end : ℕ → Effect → ℕ
-  effect_end at (assign n e) = expression_end (at + 1) e + 5
-  effect_end at (change how n e) = expression_end (at + 1) e + 5 + 1 + 1 + 5
-  effect_end at (write newline all) = arguments_end (at + 1) all + 5 + 1
-  effect_end at (choose all) = branches_end (at + 1) all
-  effect_end at (loop e body) = expression_end (effect_end (at + 1 + 5 + 1) body) e + 5
-  effect_end at (group all) = block_end at all
-  effect_end at leave = at + 1 + 5
-  effect_end at skip = at + 1 + 5
+  effect_end at (assign line scope n e) = expression_end (at + 1) e + 5
+  effect_end at (change line operator scope n e) = expression_end (at + 1) e + 5 + 1 + 1 + 5
+  effect_end at (write line newline all) = arguments_end (at + 1) all + 5 + 1
+  effect_end at (if_ line all) = branches_end (at + 1) all
+  effect_end at (while_ line e body) = expression_end (effect_end (at + 1 + 5 + 1) body) e + 5
+  effect_end at (do_ all) = block_end at all
+  effect_end at (break_ line) = at + 1 + 5
+  effect_end at (next_ line) = at + 1 + 5
+  effect_end at (perform line routine all) = at
   effect_end at unbuilt_effect = at
 
   pub branches_end : ℕ → Branches → ℕ
-  branches_end at (otherwise all) = block_end at all
-  branches_end at (branch e all rest) = branches_end (block_end (expression_end at e + 5) all + 5) rest
+  branches_end at (else_ all) = block_end at all
+  branches_end at (elif line e all rest) = branches_end (block_end (expression_end at e + 5) all + 5) rest
 
   pub block_end : ℕ → Block → ℕ
-  block_end at done = at
+  block_end at no_more = at
   block_end at (first e rest) = block_end (effect_end at e) rest
-
-abbrev pub change_code : Change → Instruction
-change_code increase = Add
-change_code decrease = Subtract
 
 -- the code of a statement that begins at `at`: `out` and `next` are where `break` and `next` lead. A loop
 -- tests behind its body, and each pass begins with the tick to which the test jumps back.
 abbrev mutual
-  pub effect_code : List (List ℕ) → ℕ → (at out next : ℕ) → Effect → List Instruction
-  effect_code names k at out next (assign n e) = Tick ∷ (expression_code names k e ++ StoreGlobal (place_of n names) ∷ [])
-  effect_code names k at out next (change how n e) =
-      Tick ∷ (expression_code names k e ++ LoadGlobal (place_of n names) ∷ Swap ∷ change_code how ∷ StoreGlobal (place_of n names) ∷ [])
-  effect_code names k at out next (write newline all) = Tick ∷ (arguments_code names k all ++ PushBool newline ∷ Line ∷ [])
-  effect_code names k at out next (choose all) = Tick ∷ branches_code names k (at + 1) (branches_end (at + 1) all) out next all
-  effect_code names k at out next (loop e body) =
+  pub effect_code : List Name → ℕ → (at out next : ℕ) → Effect → List Labelled
+  effect_code names k at out next (assign line scope n e) =
+      at_line line Tick ∷ (expression_code names line k e ++ at_line line (StoreGlobal (place_of n names)) ∷ [])
+  effect_code names k at out next (change line operator scope n e) =
+      at_line line Tick
+      ∷ (expression_code names line k e
+      ++ at_line line (LoadGlobal (place_of n names)) ∷ at_line line Swap ∷ at_line line (operator_code operator) ∷ at_line line (StoreGlobal (place_of n names)) ∷ [])
+  effect_code names k at out next (write line newline all) =
+      at_line line Tick ∷ (arguments_code names line k all ++ at_line line (PushBool (from_bool newline)) ∷ at_line line Line ∷ [])
+  effect_code names k at out next (if_ line all) =
+      at_line line Tick ∷ branches_code names k (at + 1) (branches_end (at + 1) all) out next all
+  effect_code names k at out next (while_ line e body) =
       let pass : ℕ = at + 1 + 5 in
       let test : ℕ = effect_end (pass + 1) body in
-      Tick ∷ Jump test ∷ Tick
+      at_line line Tick ∷ at_line line (Jump test) ∷ at_line line Tick
       ∷ (effect_code names k (pass + 1) (expression_end test e + 5) test body
-      ++ (expression_code names (k + length (texts_in_effect body)) e ++ JumpIf pass ∷ []))
-  effect_code names k at out next (group all) = block_code names k at out next all
-  effect_code names k at out next leave = Tick ∷ Jump out ∷ []
-  effect_code names k at out next skip = Tick ∷ Jump next ∷ []
+      ++ (expression_code names line (k + length (texts_in_effect body)) e ++ at_line line (JumpIf pass) ∷ []))
+  effect_code names k at out next (do_ all) = block_code names k at out next all
+  effect_code names k at out next (break_ line) = at_line line Tick ∷ at_line line (Jump out) ∷ []
+  effect_code names k at out next (next_ line) = at_line line Tick ∷ at_line line (Jump next) ∷ []
+  effect_code names k at out next (perform line routine all) = []
   effect_code names k at out next unbuilt_effect = []
 
   -- `end` is the address behind the whole `if`
-  pub branches_code : List (List ℕ) → ℕ → (at end out next : ℕ) → Branches → List Instruction
-  branches_code names k at end out next (otherwise all) = block_code names k at out next all
-  branches_code names k at end out next (branch e all rest) =
+  pub branches_code : List Name → ℕ → (at end out next : ℕ) → Branches → List Labelled
+  branches_code names k at end out next (else_ all) = block_code names k at out next all
+  branches_code names k at end out next (elif line e all rest) =
       let body : ℕ = expression_end at e + 5 in
       let other : ℕ = block_end body all + 5 in
       let l : ℕ = k + length (texts_in e) in
-      expression_code names k e
-      ++ JumpNot other ∷ (block_code names l body out next all
-      ++ Jump end ∷ branches_code names (l + length (texts_in_block all)) other end out next rest)
+      expression_code names line k e
+      ++ at_line line (JumpNot other) ∷ (block_code names l body out next all
+      ++ at_line line (Jump end) ∷ branches_code names (l + length (texts_in_block all)) other end out next rest)
 
-  pub block_code : List (List ℕ) → ℕ → (at out next : ℕ) → Block → List Instruction
-  block_code names k at out next done = []
+  pub block_code : List Name → ℕ → (at out next : ℕ) → Block → List Labelled
+  block_code names k at out next no_more = []
   block_code names k at out next (first e rest) =
       effect_code names k at out next e ++ block_code names (k + length (texts_in_effect e)) (effect_end at e) out next rest
 
 -- a variable is an integer; without variables no type is needed
-abbrev pub types_of : List (List ℕ) → List ImageType
+abbrev pub types_of : List Name → List ImageType
 types_of [] = []
 types_of (n ∷ names) = Integer ∷ []
 
 -- the end of the text ends the run with code 0
+abbrev pub labelled_of : Block → List Labelled
+labelled_of model =
+    block_code (variables_of model) 0 0 (block_end 0 model) (block_end 0 model) model ++ (at_line 0 (PushInt (pos 0)) ∷ at_line 0 End ∷ [])
+
+-- instructions without their lines
+abbrev pub instructions : List Labelled → List Instruction
+instructions labelled = map (λ (l : Labelled). l.instruction) labelled
+
 abbrev pub image_of : Block → Image
 image_of model = record {
   constants = texts_in_block model;
@@ -147,5 +182,5 @@ image_of model = record {
   globals = replicate (length (variables_of model)) 0;
   routines = [];
   points = [];
-  code = block_code (variables_of model) 0 0 (block_end 0 model) (block_end 0 model) model ++ (PushInt (pos 0) ∷ End ∷ []);
+  code = instructions (labelled_of model);
 }

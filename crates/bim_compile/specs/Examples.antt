@@ -3,9 +3,9 @@
 use Rattle.std.specs.Prelude.{◌≡◌, [], ◌∷◌, pos, true, false, codes}
 use Rattle.bim_code.specs.declared.instruction.Comparison.TheVariants.{Greater, AtLeast}
 use Rattle.bim_code.specs.declared.instruction.Instruction.TheVariants.{Tick, PushInt, PushBool, PushText, LoadGlobal, StoreGlobal, Swap, Add, Subtract, Compare, Jump, JumpIf, JumpNot, Show, Write, Line, End}
-use Rattle.mos_meaning.specs.State.{Exited, Spent}
-use Rattle.mos_meaning.specs.Machine.{course_of}
-use Rattle.mos_meaning.specs.Examples.{hello, hello_image, down, endless, last_way, until_two, told}
+use Rattle.run_state.specs.Stops.{Exited, Spent}
+use Rattle.bim_machine.specs.Courses.{course_of}
+use Rattle.mos_meaning.specs.Examples.{hello, hello_image, down, endless, last_way, until_two, outcome}
 use Rattle.bim_compile.specs.Compiled.{image_of}
 
 -- the model that writes hello
@@ -26,10 +26,10 @@ DownCode = (image_of down).code ≡
 abbrev pub LastWayCode : Type 0
 LastWayCode = (image_of last_way).code ≡
     Tick ∷ PushInt (pos 1) ∷ PushInt (pos 2) ∷ Compare Greater ∷ JumpNot 36
-    ∷ Tick ∷ PushText 0 ∷ Show ∷ Write ∷ PushBool false ∷ Line ∷ Jump 79
-    ∷ PushBool false ∷ JumpNot 65
-    ∷ Tick ∷ PushText 1 ∷ Show ∷ Write ∷ PushBool false ∷ Line ∷ Jump 79
-    ∷ Tick ∷ PushText 2 ∷ Show ∷ Write ∷ PushBool false ∷ Line
+    ∷ Tick ∷ PushText 0 ∷ Show ∷ Write ∷ PushBool 0 ∷ Line ∷ Jump 79
+    ∷ PushBool 0 ∷ JumpNot 65
+    ∷ Tick ∷ PushText 1 ∷ Show ∷ Write ∷ PushBool 0 ∷ Line ∷ Jump 79
+    ∷ Tick ∷ PushText 2 ∷ Show ∷ Write ∷ PushBool 0 ∷ Line
     ∷ PushInt (pos 0) ∷ End ∷ []
 
 -- x:=0, while(true) do x+=1 if(x>=2) then break end-if end-do, writeln(x): the `break` leads behind the test
@@ -40,22 +40,22 @@ UntilTwoCode = (image_of until_two).code ≡
     ∷ Tick ∷ Tick ∷ PushInt (pos 1) ∷ LoadGlobal 0 ∷ Swap ∷ Add ∷ StoreGlobal 0
     ∷ Tick ∷ LoadGlobal 0 ∷ PushInt (pos 2) ∷ Compare AtLeast ∷ JumpNot 64
     ∷ Tick ∷ Jump 74 ∷ Jump 64
-    ∷ PushBool true ∷ JumpIf 17
-    ∷ Tick ∷ LoadGlobal 0 ∷ Show ∷ Write ∷ PushBool true ∷ Line
+    ∷ PushBool 1 ∷ JumpIf 17
+    ∷ Tick ∷ LoadGlobal 0 ∷ Show ∷ Write ∷ PushBool 1 ∷ Line
     ∷ PushInt (pos 0) ∷ End ∷ []
 
 abbrev pub LastWayCourse : Type 0
-LastWayCourse = course_of (image_of last_way) [] [] 10000000 ≡ record { outcome = told (codes "c") 2 (Exited (pos 0)); steps = 15 }
+LastWayCourse = course_of (image_of last_way) [] [] 10000000 ≡ record { outcome = outcome (codes "c") 2 (Exited (pos 0)); steps = 15 }
 
 abbrev pub DownCourse : Type 0
-DownCourse = course_of (image_of down) [] [] 10000000 ≡ record { outcome = told [] 8 (Exited (pos 0)); steps = 44 }
+DownCourse = course_of (image_of down) [] [] 10000000 ≡ record { outcome = outcome [] 8 (Exited (pos 0)); steps = 44 }
 
 abbrev pub DownSpent : Type 0
-DownSpent = course_of (image_of down) [] [] 7 ≡ record { outcome = told [] 7 Spent; steps = 33 }
+DownSpent = course_of (image_of down) [] [] 7 ≡ record { outcome = outcome [] 7 Spent; steps = 33 }
 
 -- write("a") and while(true) next
 abbrev pub EndlessSpent : Type 0
-EndlessSpent = course_of (image_of endless) [] [] 10 ≡ record { outcome = told (codes "a") 10 Spent; steps = 31 }
+EndlessSpent = course_of (image_of endless) [] [] 10 ≡ record { outcome = outcome (codes "a") 10 Spent; steps = 31 }
 
 abbrev pub UntilTwoCourse : Type 0
-UntilTwoCourse = course_of (image_of until_two) [] [] 10000000 ≡ record { outcome = told (codes "2\n") 10 (Exited (pos 0)); steps = 43 }
+UntilTwoCourse = course_of (image_of until_two) [] [] 10000000 ≡ record { outcome = outcome (codes "2\n") 10 (Exited (pos 0)); steps = 43 }

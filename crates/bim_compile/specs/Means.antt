@@ -1,17 +1,27 @@
 -- An image means a model: it does what the model means, for all parameter texts, replies and budgets.
 
-use Rattle.std.specs.Prelude.{◌≡◌, ◌≢◌, ℕ, List}
+use Rattle.std.specs.Prelude.{◌≡◌, ◌≢◌, ◌<◌, ◌^◌, ℕ, List}
 use Rattle.job_calls.specs.declared.reply.Reply.{Reply}
 use Rattle.bim_code.specs.declared.image.Image.{Image}
-use Rattle.mos_meaning.specs.State.{Stuck}
-use Rattle.mos_meaning.specs.Syntax.{Block}
+use Rattle.run_state.specs.Stops.{Stuck, Lost}
+use Rattle.bim_machine.specs.Courses.{course_of}
+use Rattle.mos_tree.specs.declared.source.Tree.{Tree}
+use Rattle.mos_meaning.specs.Syntax.{Program}
+use Rattle.mos_meaning.specs.Sources.{statements_of, variables_of}
 use Rattle.mos_meaning.specs.Meaning.{meaning_of}
-use Rattle.mos_meaning.specs.Machine.{course_of}
+use Rattle.mos_meaning.specs.Working.{AllWork}
+use Rattle.bim_compile.specs.Sizes.{size_of_block}
 
-abbrev pub Means : Block → Image → Type 0
-Means model image = (params : List ℕ) (replies : List Reply) (budget : ℕ)
-    → (course_of image params replies budget).outcome ≡ meaning_of model params replies budget
+abbrev pub Means : Program → Image → Type 0
+Means program image = (text : List ℕ) (replies : List Reply) (budget : ℕ)
+    → (course_of image text replies budget).outcome ≡ meaning_of program text replies budget
 
--- no run of the model is stuck
-abbrev pub NeverStuck : Block → Type 0
-NeverStuck model = (params : List ℕ) (replies : List Reply) (budget : ℕ) → (meaning_of model params replies budget).stop ≢ Stuck
+-- no course of the image is stuck, and none is lost
+pub record NeverFails (image : Image) : Type 0 where
+  pub stuck : (text : List ℕ) (replies : List Reply) (budget : ℕ) → (course_of image text replies budget).outcome.stop ≢ Stuck
+  pub lost : (text : List ℕ) (replies : List Reply) (budget : ℕ) → (course_of image text replies budget).outcome.stop ≢ Lost
+
+-- the source can be compiled: each statement works, and the model is not large
+pub record CanCompile (tree : Tree) : Type 0 where
+  pub works : AllWork (variables_of (statements_of tree)) (statements_of tree)
+  pub not_large : size_of_block (statements_of tree) < 2 ^ 24

@@ -1,57 +1,56 @@
 //! The whole image: the code of the statements, the end, and the tables.
-ghost use Rattle.std.specs.Prelude.{◌≡◌, ◌∷◌, [], ℕ, ◌<◌, ◌≤◌, ◌+◌, ◌*◌, ◌^◌, All, IfOk, length, replicate};
+ghost use Rattle.std.specs.Prelude.{◌≡◌, ◌∷◌, [], ℕ, ◌<◌, ◌≤◌, ◌+◌, ◌*◌, ◌^◌, IfOk, OnOk, length, replicate};
 ghost use Rattle.bim_code.specs.Code.{code_size};
 ghost use Rattle.bim_code.specs.Limits.{FitsFields};
-ghost use Rattle.mos_meaning.specs.MachineLaws.{KeepsTicks};
-ghost use Rattle.mos_meaning.specs.Syntax.{statements_of, variables_of};
+ghost use Rattle.bim_code.specs.Rules.{KeepsRules};
+ghost use Rattle.mos_meaning.specs.Sources.{model_of, statements_of, variables_of};
 ghost use Rattle.bim_compile.specs.Built.{IsBuiltBlock};
-ghost use Rattle.bim_compile.specs.Compiled.{image_of, types_of, texts_in_block};
-ghost use Rattle.bim_compile.specs.Means.{Means, NeverStuck};
-ghost use Rattle.bim_compile.specs.Plain.{IsPlain};
+ghost use Rattle.bim_compile.specs.Compiled.{image_of, types_of, instructions};
+ghost use Rattle.bim_compile.specs.InSize.{IsSmallBlock};
+ghost use Rattle.bim_compile.specs.Means.{Means, NeverFails, CanCompile};
 ghost use Rattle.bim_compile.specs.Sizes.{size_of_block};
-ghost use Rattle.bim_compile.specs.Working.{AllWork};
 
-use crate::draft::{Draft, Exits};
+use crate::draft::{Draft, Exits, Labelled};
 use crate::ends::end_of_tops;
 use crate::names::note_tops;
 use crate::statements::emit_tops;
 use bim_code::{Image, ImageType, Instruction};
-use mos_meaning::machine_laws;
+use bim_machine::machine_laws;
+use mos_meaning::working_models;
 use mos_names::Names;
 use mos_text::NoMemory;
 use mos_tree::Tree;
 use sqlite_items::Items;
 use std::alloc::Global;
 
-/// The image of a model whose every form is built.
+/// The image of a model. Which code it has is the compiler's choice.
 pub fn compile(alloc: Global, tree: &Tree) -> Result<Image, NoMemory>
-    requires works { AllWork (variables_of (statements_of tree.now)) (statements_of tree.now) }
-    requires small { size_of_block (statements_of tree.now) < 2 ^ 24 }
-    requires short { All (λ text. length text < 2 ^ 32) (texts_in_block (statements_of tree.now)) }
-    ensures image { IfOk result (λ image. image ≡ image_of (statements_of tree.now)) }
+    requires can_compile { CanCompile tree.now }
 
-    // The machine does with it what the model means.
-    ensures means { IfOk result (Means (statements_of tree.now)) }
+    // The machine does with it what the model means, and is never stuck or lost.
+    ensures means { IfOk result (Means (model_of tree.now)) }
+    ensures never_fails { IfOk result NeverFails }
 
-    // It is never stuck, and each loop takes ticks.
-    ensures never_stuck { NeverStuck (statements_of tree.now) }
-    ensures keeps_ticks { IfOk result KeepsTicks }
+    // It keeps the verifier's rules on tables, addresses and ticks.
+    ensures rules { IfOk result KeepsRules }
 
-    // Its file can hold it, and holds just it.
+    // Its file can hold it.
     ensures fields { IfOk result FitsFields }
-    ensures plain { IfOk result IsPlain }
 
-    // It has at most 13 bytes of code for each node and statement, and 6 for the end.
+    // It has few instructions for each node and statement of the model: 5, and 2 for the end.
+    ensures few { IfOk result (λ image. length image.code ≤ 5 * size_of_block (statements_of tree.now) + 2) }
     ensures size { IfOk result (λ image. code_size image.code ≤ 13 * size_of_block (statements_of tree.now) + 6) }
 {
     machine_laws();
+    working_models();
     build(alloc, tree)
 }
 
 fn build(alloc: Global, tree: &Tree) -> Result<Image, NoMemory>
     requires built { IsBuiltBlock (statements_of tree.now) }
     requires small { size_of_block (statements_of tree.now) < 2 ^ 24 }
-    ensures { IfOk result (λ image. image ≡ image_of (statements_of tree.now)) }
+    ensures built { IfOk result (λ image. image ≡ image_of (statements_of tree.now)) }
+    ensures small { OnOk result (IsSmallBlock (statements_of tree.now)) }
 {
     let tops = tree.tops.as_slice();
     let mut names = Names::new(alloc);
@@ -63,15 +62,16 @@ fn build(alloc: Global, tree: &Tree) -> Result<Image, NoMemory>
         next: end,
     };
     emit_tops(alloc, &mut draft, &names, exits, tops)?;
-    draft.put(Instruction::PushInt(0))?;
-    draft.put(Instruction::End)?;
+    draft.put(0, Instruction::PushInt(0))?;
+    draft.put(0, Instruction::End)?;
     let types = types(alloc, &names)?;
     let globals = globals(alloc, names.len())?;
     let Draft {
         constants,
-        code,
+        code: labelled,
         ..
     } = draft;
+    let code = without_lines(alloc, labelled.as_slice())?;
     Ok(Image {
         constants,
         types,
@@ -81,6 +81,17 @@ fn build(alloc: Global, tree: &Tree) -> Result<Image, NoMemory>
         points: Items::new(alloc),
         code,
     })
+}
+
+/// The instructions of labelled code.
+fn without_lines(alloc: Global, labelled: &[Labelled]) -> Result<Items<Instruction>, NoMemory>
+    ensures { IfOk result (λ code. code ≡ instructions labelled.now) }
+{
+    let mut code = Items::new(alloc);
+    for one in labelled {
+        code.push(one.instruction)?;
+    }
+    Ok(code)
 }
 
 /// The types that the variables need: the integer, where there is one.

@@ -1,17 +1,25 @@
 //! What was made of a model so far.
 ghost use Rattle.std.specs.Prelude.{◌≡◌, ◌++◌, ◌∷◌, [], ◌<◌, ◌+◌, ◌^◌, OnOk};
 ghost use Rattle.bim_code.specs.Rows.{width};
+ghost use Rattle.bim_compile.specs.Compiled.{at_line};
 
 use bim_code::Instruction;
 use mos_text::{NoMemory, Text};
 use sqlite_items::Items;
 use std::alloc::Global;
 
+/// An instruction with the line of its piece; 0 where it is of none.
+#[derive(Clone, Copy, Debug, Drop)]
+pub(crate) struct Labelled {
+    pub line: u32,
+    pub instruction: Instruction,
+}
+
 /// The constants and the code so far.
 #[derive(Debug, Drop)]
 pub(crate) struct Draft {
     pub constants: Items<Text>,
-    pub code: Items<Instruction>,
+    pub code: Items<Labelled>,
     /// The address behind the code.
     pub at: u32,
 }
@@ -36,15 +44,15 @@ impl Draft {
         }
     }
 
-    /// Puts an instruction behind the code.
-    pub(crate) fn put(&mut self, instruction: Instruction) -> Result<(), NoMemory>
+    /// Puts an instruction of the piece on this line behind the code.
+    pub(crate) fn put(&mut self, line: u32, instruction: Instruction) -> Result<(), NoMemory>
         requires { self.old.at + 5 < 2 ^ 32 }
-        ensures code { OnOk result (self.new.code ≡ self.old.code ++ instruction ∷ []) }
+        ensures code { OnOk result (self.new.code ≡ self.old.code ++ at_line line instruction ∷ []) }
         ensures constants { OnOk result (self.new.constants ≡ self.old.constants) }
         ensures at { OnOk result (self.new.at ≡ self.old.at + width instruction) }
     {
         let width = instruction.width();
-        self.code.push(instruction)?;
+        self.code.push(Labelled { line, instruction })?;
         self.at += width;
         Ok(())
     }

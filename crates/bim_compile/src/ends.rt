@@ -1,21 +1,28 @@
 //! Where the code of a form ends that begins at an address.
 ghost use Rattle.std.specs.Prelude.{◌≡◌, ◌≤◌, ◌<◌, ◌+◌, ◌*◌, ◌^◌, map};
-ghost use Rattle.mos_meaning.specs.Syntax.{expression, arguments, effect, top_effect, block, block_of};
+ghost use Rattle.mos_meaning.specs.Syntax as meant;
+ghost use Rattle.mos_meaning.specs.Sources.{expression, shown, effect, top_effect, block, block_of};
 ghost use Rattle.bim_compile.specs.Built.{IsBuilt, AreBuilt, IsBuiltEffect, IsBuiltBlock};
 ghost use Rattle.bim_compile.specs.Compiled.{expression_end, arguments_end, effect_end, block_end};
+ghost use Rattle.bim_compile.specs.InSize.{IsSmall, AreSmall, IsSmallEffect, IsSmallBlock};
 ghost use Rattle.bim_compile.specs.Sizes.{size_of, size_of_all, size_of_effect, size_of_block};
 
+use mos_text::SourceText;
 use mos_tree::{Assignment, Expr, Reference, Statement, Top};
 
 /// The address behind the code of an expression.
+#[tactic(auto, using(crate::proofs::SmallForms::applied_small))]
 pub(crate) fn end_of_expression(at: u32, written: &Expr) -> u32
     requires built { IsBuilt (expression written.now) }
     requires room { at + 5 * size_of (expression written.now) < 2 ^ 32 }
     ensures end { result ≡ expression_end at (expression written.now) }
     ensures within { result ≤ at + 5 * size_of (expression written.now) }
+    ensures small { IsSmall (expression written.now) }
 {
     match written {
-        Expr::Integer(_) | Expr::Text(_) | Expr::Truth(_) | Expr::Name(_) => at + 5,
+        Expr::Integer(number) => end_of_number(at, *number),
+        Expr::Text(text) => end_of_text(at, text),
+        Expr::Truth(_) | Expr::Name(_) => at + 5,
         Expr::Binary(_, left, right) => {
             let middle = end_of_expression(at, left.get());
             end_of_expression(middle, right.get()) + 1
@@ -24,11 +31,32 @@ pub(crate) fn end_of_expression(at: u32, written: &Expr) -> u32
     }
 }
 
+/// A literal has 32 bits.
+fn end_of_number(at: u32, number: i32) -> u32
+    requires { at + 5 < 2 ^ 32 }
+    ensures end { result ≡ at + 5 }
+    ensures small { IsSmall (meant.number number) }
+{
+    let _number = number;
+    at + 5
+}
+
+/// A text of a source is not long.
+fn end_of_text(at: u32, text: &SourceText) -> u32
+    requires { at + 5 < 2 ^ 32 }
+    ensures end { result ≡ at + 5 }
+    ensures small { IsSmall (meant.text text.now) }
+{
+    let _bytes = text.as_bytes();
+    at + 5
+}
+
 fn end_of_arguments(at: u32, all: &[Expr]) -> u32
-    requires built { AreBuilt (arguments (map expression all.now)) }
-    requires room { at + 7 * size_of_all (arguments (map expression all.now)) < 2 ^ 32 }
-    ensures end { result ≡ arguments_end at (arguments (map expression all.now)) }
-    ensures within { result ≤ at + 7 * size_of_all (arguments (map expression all.now)) }
+    requires built { AreBuilt (shown (map expression all.now)) }
+    requires room { at + 7 * size_of_all (shown (map expression all.now)) < 2 ^ 32 }
+    ensures end { result ≡ arguments_end at (shown (map expression all.now)) }
+    ensures within { result ≤ at + 7 * size_of_all (shown (map expression all.now)) }
+    ensures small { AreSmall (shown (map expression all.now)) }
 {
     let mut end = at;
     for written in all {
@@ -38,12 +66,14 @@ fn end_of_arguments(at: u32, all: &[Expr]) -> u32
 }
 
 /// The address behind the code of a statement.
+#[tactic(auto, using(crate::proofs::SmallForms::procedure_small))]
 #[cycle(ends)]
 pub(crate) fn end_of_statement(at: u32, statement: &Statement) -> u32
     requires built { IsBuiltEffect (effect statement.now) }
     requires room { at + 13 * size_of_effect (effect statement.now) < 2 ^ 32 }
     ensures end { result ≡ effect_end at (effect statement.now) }
     ensures within { result ≤ at + 13 * size_of_effect (effect statement.now) }
+    ensures small { IsSmallEffect (effect statement.now) }
 {
     match statement {
         Statement::Assign {
@@ -91,6 +121,7 @@ pub(crate) fn end_of_block(at: u32, all: &[Statement]) -> u32
     requires room { at + 13 * size_of_block (block_of all.now) < 2 ^ 32 }
     ensures end { result ≡ block_end at (block_of all.now) }
     ensures within { result ≤ at + 13 * size_of_block (block_of all.now) }
+    ensures small { IsSmallBlock (block_of all.now) }
 {
     let mut end = at;
     for statement in all {
@@ -105,6 +136,7 @@ pub(crate) fn end_of_tops(at: u32, tops: &[Top]) -> u32
     requires room { at + 13 * size_of_block (block (map top_effect tops.now)) < 2 ^ 32 }
     ensures end { result ≡ block_end at (block (map top_effect tops.now)) }
     ensures within { result ≤ at + 13 * size_of_block (block (map top_effect tops.now)) }
+    ensures small { IsSmallBlock (block (map top_effect tops.now)) }
 {
     let mut end = at;
     for top in tops {
@@ -118,6 +150,7 @@ fn end_of_top(at: u32, top: &Top) -> u32
     requires room { at + 13 * size_of_effect (top_effect top.now) < 2 ^ 32 }
     ensures end { result ≡ effect_end at (top_effect top.now) }
     ensures within { result ≤ at + 13 * size_of_effect (top_effect top.now) }
+    ensures small { IsSmallEffect (top_effect top.now) }
 {
     match top {
         Top::Statement(statement) => end_of_statement(at, statement),

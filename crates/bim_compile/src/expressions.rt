@@ -1,8 +1,9 @@
 //! The code of expressions.
 ghost use Rattle.std.specs.Prelude.{◌≡◌, ◌++◌, ◌∷◌, [], ◌<◌, ◌≤◌, ◌+◌, ◌*◌, ◌^◌, OnOk, MatchOption, Some, None, length};
-ghost use Rattle.mos_meaning.specs.Syntax.{expression, operator_of, Operator};
+ghost use Rattle.mos_value.specs.Answers.{Operator};
+ghost use Rattle.mos_meaning.specs.Sources.{expression, operator_of};
 ghost use Rattle.bim_compile.specs.Built.{IsBuilt};
-ghost use Rattle.bim_compile.specs.Compiled.{expression_code, expression_end, operator_code, texts_in};
+ghost use Rattle.bim_compile.specs.Compiled.{at_line, expression_code, expression_end, operator_code, texts_in};
 ghost use Rattle.bim_compile.specs.Sizes.{size_of};
 
 use crate::draft::Draft;
@@ -17,27 +18,28 @@ pub(crate) fn emit_expression(
     alloc: Global,
     draft: &mut Draft,
     names: &Names<'_>,
+    line: u32,
     written: &Expr,
 ) -> Result<(), NoMemory>
     requires built { IsBuilt (expression written.now) }
     requires few_names { length names.now < 2 ^ 31 }
     requires few { length draft.old.constants + length (texts_in (expression written.now)) < 2 ^ 32 }
     requires room { draft.old.at + 5 * size_of (expression written.now) + 5 < 2 ^ 32 }
-    ensures code { OnOk result (draft.new.code ≡ draft.old.code ++ expression_code names.now (length draft.old.constants) (expression written.now)) }
+    ensures code { OnOk result (draft.new.code ≡ draft.old.code ++ expression_code names.now line (length draft.old.constants) (expression written.now)) }
     ensures constants { OnOk result (draft.new.constants ≡ draft.old.constants ++ texts_in (expression written.now)) }
     ensures at { OnOk result (draft.new.at ≡ expression_end draft.old.at (expression written.now)) }
     ensures within { OnOk result (draft.new.at ≤ draft.old.at + 5 * size_of (expression written.now)) }
 {
     match written {
-        Expr::Integer(number) => draft.put(Instruction::PushInt(*number)),
-        Expr::Truth(truth) => draft.put(Instruction::PushBool(*truth)),
-        Expr::Text(text) => emit_text(alloc, draft, text),
-        Expr::Name(name) => draft.put(Instruction::LoadGlobal(names.place(name) as u32)),
+        Expr::Integer(number) => draft.put(line, Instruction::PushInt(*number)),
+        Expr::Truth(truth) => draft.put(line, Instruction::PushBool(*truth as u32)),
+        Expr::Text(text) => emit_text(alloc, draft, line, text.text()),
+        Expr::Name(name) => draft.put(line, Instruction::LoadGlobal(names.place(name.text()) as u32)),
         Expr::Binary(operator, left, right) => {
-            emit_expression(alloc, draft, names, left.get())?;
-            emit_expression(alloc, draft, names, right.get())?;
+            emit_expression(alloc, draft, names, line, left.get())?;
+            emit_expression(alloc, draft, names, line, right.get())?;
             match instruction_of(*operator) {
-                Some(instruction) => draft.put(instruction),
+                Some(instruction) => draft.put(line, instruction),
                 None => unreachable!(),
             }
         }
@@ -61,15 +63,15 @@ fn instruction_of(operator: BinaryOperator) -> Option<Instruction>
     }
 }
 
-fn emit_text(alloc: Global, draft: &mut Draft, text: &Text) -> Result<(), NoMemory>
+fn emit_text(alloc: Global, draft: &mut Draft, line: u32, text: &Text) -> Result<(), NoMemory>
     requires few { length draft.old.constants + 1 < 2 ^ 32 }
     requires room { draft.old.at + 5 < 2 ^ 32 }
-    ensures code { OnOk result (draft.new.code ≡ draft.old.code ++ Instruction.PushText (length draft.old.constants) ∷ []) }
+    ensures code { OnOk result (draft.new.code ≡ draft.old.code ++ at_line line (Instruction.PushText (length draft.old.constants)) ∷ []) }
     ensures constants { OnOk result (draft.new.constants ≡ draft.old.constants ++ text.now ∷ []) }
     ensures at { OnOk result (draft.new.at ≡ draft.old.at + 5) }
 {
     let constant = draft.constants.len() as u32;
-    draft.put(Instruction::PushText(constant))?;
+    draft.put(line, Instruction::PushText(constant))?;
     draft.constants.push(text.copy(alloc)?)?;
     Ok(())
 }

@@ -1,6 +1,6 @@
 //! The variables of a model, by their names.
 ghost use Rattle.std.specs.Prelude.{◌≡◌, [], OnOk, map};
-ghost use Rattle.mos_meaning.specs.Syntax.{block, block_of, top_effect, names_after, names_from, effect};
+ghost use Rattle.mos_meaning.specs.Sources.{block, block_of, top_effect, names_after, names_from, effect};
 
 use mos_names::Names;
 use mos_text::NoMemory;
@@ -35,7 +35,7 @@ fn note_statement<'a>(names: &mut Names<'a>, statement: &'a Statement) -> Result
             target: Reference::Name(name),
             operator: Assignment::Set,
             ..
-        } => names.note(name),
+        } => names.note(name.text()),
         Statement::If {
             arms,
             otherwise,

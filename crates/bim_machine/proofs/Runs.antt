@@ -1,12 +1,12 @@
 -- Steps one after the other.
 
-use Rattle.std.proofs.Common.{◌≡◌, ◌≤◌, ℕ, ◌+◌, ◌-◌, zero, suc, refl, sym, ap, ◌∙◌, arith}
+use Rattle.std.proofs.Common.{◌≡◌, ◌≤◌, ◌<◌, ℕ, ◌+◌, ◌-◌, zero, suc, refl, sym, ap, ◌∙◌, subst, arith}
 use Rattle.bim_code.specs.declared.image.Image.{Image}
 use Rattle.run_state.specs.Stops.{Stop}
 use Rattle.run_state.specs.State.{World, State}
 use Rattle.bim_machine.specs.Machine.{Machine, At, Over, Work, Here}
 use Rattle.bim_machine.specs.Courses.{Progress, run, step}
-use Rattle.bim_machine.specs.Laws.{IsOver}
+use Rattle.bim_machine.specs.Laws.{IsOver, StoodBefore}
 
 -- one that is over stays
 pub run_over : (image : Image) (w : World) (n steps : ℕ) (stop : Stop) (address : ℕ) (s : State)
@@ -46,3 +46,39 @@ stays_over image w n many steps m over less =
     ∙ ap (run image w (many - n) (run image w n steps m).steps) over.by
     ∙ run_over image w (many - n) (run image w n steps m).steps over.stop over.address over.state
     ∙ ap (λ (a : Machine). record { steps = (run image w n steps m).steps; machine = a }) (sym over.by)
+
+pub last_step : (image : Image) (w : World) (n steps address : ℕ) (work : Work) (here : Here) (s : State) (stop : Stop) (at : ℕ) (t : State)
+    → (run image w n steps (At address work here s)).machine ≡ Over stop at t → StoodBefore image w n steps (At address work here s) stop at t
+last_step image w zero steps address work here s stop at t e = cc
+last_step image w (suc n) steps address work here s stop at t e = once (step image w address work here s) refl e (last_step image w n (steps + 1))
+  where
+    once : (m : Machine) → step image w address work here s ≡ m → (run image w n (steps + 1) m).machine ≡ Over stop at t
+        → ((a : ℕ) (v : Work) (h : Here) (u : State) (other : Stop) (b : ℕ) (x : State) → (run image w n (steps + 1) (At a v h u)).machine ≡ Over other b x
+        → StoodBefore image w n (steps + 1) (At a v h u) other b x)
+        → StoodBefore image w (suc n) steps (At address work here s) stop at t
+    once (Over other b x) is over later =
+        let ended : Over other b x ≡ Over stop at t = sym (ap (λ (p : Progress). p.machine) (run_over image w n (steps + 1) other b x)) ∙ over in record {
+          taken = 0;
+          address = address;
+          work = work;
+          here = here;
+          state = s;
+          few = omega arith;
+          before = ap (λ k. record { steps = k; machine = At address work here s }) (omega arith);
+          last = is ∙ ended;
+        }
+    once (At a v h u) is over later =
+        let rest = later a v h u stop at t over in
+        let few = rest.few in
+        let count : (steps + 1) + rest.taken ≡ steps + suc rest.taken = omega arith in record {
+          taken = suc rest.taken;
+          address = rest.address;
+          work = rest.work;
+          here = rest.here;
+          state = rest.state;
+          few = omega (arith, few);
+          before =
+              ap (run image w rest.taken (steps + 1)) is ∙ rest.before
+              ∙ ap (λ k. record { steps = k; machine = At rest.address rest.work rest.here rest.state }) count;
+          last = rest.last;
+        }

@@ -1,7 +1,7 @@
 -- Laws of the machine, of every image: what more replies and a greater budget change, how many steps it
 -- takes, what grows, and when it asks.
 
-use Rattle.std.specs.Prelude.{◌≡◌, ◌≢◌, ◌≤◌, ℕ, ◌+◌, ◌*◌, List, ◌++◌, length}
+use Rattle.std.specs.Prelude.{◌≡◌, ◌≤◌, ◌<◌, ℕ, ◌+◌, ◌*◌, List, ◌++◌, length}
 use Rattle.job_calls.specs.declared.call.Call.{Call}
 use Rattle.job_calls.specs.declared.reply.Reply.{Reply}
 use Rattle.bim_code.specs.declared.image.Image.{Image}
@@ -76,6 +76,22 @@ StepByStep = (image : Image) (w : World) (n steps address : ℕ) (work : Work) (
 abbrev pub StaysOver : Type 0
 StaysOver = (image : Image) (w : World) (n many steps : ℕ) (m : Machine)
     → IsOver (run image w n steps m).machine → n ≤ many → run image w many steps m ≡ run image w n steps m
+
+-- a machine that came to an end stood at the instruction where it ended, one step before
+pub record StoodBefore (image : Image) (w : World) (n steps : ℕ) (m : Machine) (stop : Stop) (at : ℕ) (s : State) : Type 0 where
+  pub taken : ℕ
+  pub address : ℕ
+  pub work : Work
+  pub here : Here
+  pub state : State
+  pub few : taken < n
+  pub before : run image w taken steps m ≡ record { steps = steps + taken; machine = At address work here state }
+  pub last : step image w address work here state ≡ Over stop at s
+
+-- so with one reply more, or with more ticks, it goes on from there
+abbrev pub LastStep : Type 0
+LastStep = (image : Image) (w : World) (n steps address : ℕ) (work : Work) (here : Here) (s : State) (stop : Stop) (at : ℕ) (t : State)
+    → (run image w n steps (At address work here s)).machine ≡ Over stop at t → StoodBefore image w n steps (At address work here s) stop at t
 
 -- What grows.
 

@@ -3,12 +3,25 @@ use Rattle.std.proofs.Common.{◌≡◌, ◌≢◌, ◌≤◌, ℕ, Bool, true, 
 use Rattle.std.specs.Prelude.{All}
 use Rattle.std.specs.List.{list_any}
 use Rattle.std.specs.Str.{bytes_eq}
-use Rattle.std.proofs.lemmas.List.Elements.{All-weaker}
+use Rattle.std.proofs.lemmas.List.Elements.{All-nil, All-cons, All-weaker}
 use Rattle.std.proofs.lemmas.List.Folds.{list_any_none}
 use Rattle.std.proofs.lemmas.Slice.Eq.{bytes_eq-Decides}
 use Rattle.job_calls.specs.declared.entry.Listed.{Listed}
 use Rattle.job_calls.specs.Legal.{HaveDistinctNames}
-use Rattle.job_calls.proofs.Naming.{all_apart}
+
+pub false_is_not_true : false ≡ true → ⊥
+false_is_not_true e = cc
+
+neither : (a b : Bool) → (a || b) ≡ false → (a ≡ false) × (b ≡ false)
+neither true b h = absurd (false_is_not_true (sym h))
+neither false b h = (refl, h)
+
+-- no file has this name
+all_apart : (name : List ℕ) (files : List Listed) → list_any (λ file. bytes_eq file.name name) files ≡ false → All (λ file. file.name ≢ name) files
+all_apart name [] e = All-nil _
+all_apart name (x ∷ xs) e =
+    let both = neither (bytes_eq x.name name) (list_any (λ file. bytes_eq file.name name) xs) e in
+    All-cons (λ (file : Listed). file.name ≢ name) x xs (λ same. false_is_not_true (sym both.0 ∙ (bytes_eq-Decides x.name name).1 same)) (all_apart name xs both.1)
 
 distinct_by : (files : List Listed) (file : Listed) → 1 ≤ length files → file ≡ get_or files 0 file
     → list_any (λ other. bytes_eq other.name file.name) (drop 1 files) ≡ false → HaveDistinctNames (drop 1 files) → HaveDistinctNames files

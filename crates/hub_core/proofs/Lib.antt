@@ -1,5 +1,3 @@
-pub mod Unclaimed
-pub mod Scans
-pub mod Prefixes
 pub mod Pushed
+pub mod Wanting
 pub mod Distinct

@@ -1,2 +1,4 @@
 pub mod Room
+pub mod Rows
 pub mod Hubs
+pub mod Stories

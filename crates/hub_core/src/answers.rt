@@ -1,26 +1,20 @@
-//! The hub's answer to a call: one function for each row of the table, and the rules before it.
-ghost use Rattle.std.specs.Prelude.{◌≡◌, ℕ, ◌<◌, ◌+◌, ◌^◌, not, length, None, is_some, nat_lt, unwrap_or, option_map, IfOk, IsOk, IsTrue};
+//! The hub's answer to a call: one function for each row of the table, and the rules before it. What
+//! they ask of the journal they look up.
+ghost use Rattle.std.specs.Prelude.{◌≡◌, ℕ, ◌+◌, not, None, is_some, nat_lt, IfOk, IsOk, IsTrue};
 ghost use Rattle.job_calls.specs.Answers as answers;
-ghost use Rattle.job_calls.specs.Blocks as blocks;
-ghost use Rattle.job_calls.specs.Models.{compiled_from, compiled_to};
-ghost use Rattle.job_calls.specs.Files.{files_of, file_at, data_of};
+ghost use Rattle.job_calls.specs.Models as models;
+ghost use Rattle.job_calls.specs.Events as events;
 ghost use Rattle.job_calls.specs.declared.call.Call.TheVariants.{PipeOpen};
 ghost use Rattle.job_calls.specs.declared.reply.Answer.TheVariants.{Ready};
 ghost use Rattle.job_calls.specs.declared.reply.Reply.TheVariants.{Flag, Found};
+ghost use Rattle.job_calls.specs.Files.{data_of};
+ghost use Rattle.job_calls.specs.Pipes.{session};
+ghost use Rattle.hub_words.specs.Small.{IsSmall};
 ghost use Rattle.hub_core.specs.Room.{takes_no_memory};
+ghost use Rattle.hub_core.specs.Rows.{answer_with_run, answer_to_read};
 
-use crate::blocks::{last_write, written};
-use crate::events::{event_at, first_event, queue_length};
-use crate::jobs::{has_quit, is_claimed, is_finished, run_count, unclaimed};
-use crate::models::{
-    current_run, exit_of, is_asked, is_live_run, is_loaded, live_count, loaded_count, parent_of,
-    status_of,
-};
-use crate::runs::{params_of, source_of};
-use crate::weights::is_full;
-use crate::words::{if_so, later, same};
-use crate::{files, pipes};
-use job_calls::{Answer, Call, Entry, Reply, Way};
+use hub_words::{Lookups, exit_code};
+use job_calls::{Answer, Call, End, Reply, Way};
 use mos_text::{Blob, FaultKind, NoMemory, Place, SharedBlob, Text};
 use std::alloc::Global;
 
@@ -30,272 +24,299 @@ fn fault(kind: FaultKind) -> Answer
     Answer::Ready(Reply::Fault(kind))
 }
 
-fn accepted() -> Answer
-    ensures { result ≡ answers.accepted }
+fn acknowledge() -> Answer
+    ensures { result ≡ answers.acknowledge }
 {
     Answer::Ready(Reply::Unit)
 }
 
 /// The lane is given run k.
-fn claimed(alloc: Global, journal: &[Entry], k: u32) -> Result<Reply, NoMemory>
-    ensures { IfOk result (λ reply. reply ≡ answers.claimed journal.now k) }
+fn give_run<J: Lookups>(alloc: Global, journal: &J, k: u32) -> Result<Answer, NoMemory>
+    ensures { IfOk result (λ answer. answer ≡ answer_with_run k (J.list journal.now)) }
 {
-    let source = source_of(k, journal).unwrap_or(0);
-    let params = match params_of(k, journal) {
-        None => Text::from_string(String::new(alloc)),
-        Some(params) => params.copy(alloc)?,
+    let Some(source) = journal.source_of(k) else {
+        return Ok(Answer::NotYet);
     };
-    Ok(Reply::Claimed {
-        run: k,
-        source,
-        params,
-    })
+    match journal.params_of(k) {
+        None => Ok(Answer::NotYet),
+        Some(params) => Ok(Answer::Ready(Reply::Claimed {
+            run: k,
+            source,
+            params: params.copy(alloc)?,
+        })),
+    }
 }
 
-fn next_run(alloc: Global, journal: &[Entry], run: Option<u32>) -> Result<Answer, NoMemory>
-    ensures { IfOk result (λ answer. answer ≡ answers.next_run journal.now run) }
+/// The lane is given the run; without one it is told whether the job is done.
+fn next_run<J: Lookups>(alloc: Global, journal: &J, run: Option<u32>) -> Result<Answer, NoMemory>
+    ensures { IfOk result (λ answer. answer ≡ answers.next_run (J.list journal.now) run) }
 {
-    Ok(match run {
-        Some(k) => Answer::Ready(claimed(alloc, journal, k)?),
+    match run {
+        Some(k) => give_run(alloc, journal, k),
         None => {
-            if is_finished(0, journal) {
-                Answer::Ready(Reply::Done)
+            if journal.is_finished(0) {
+                Ok(Answer::Ready(Reply::Done))
             } else {
-                Answer::NotYet
+                Ok(Answer::NotYet)
             }
         }
-    })
+    }
 }
 
-fn claim_answer(alloc: Global, journal: &[Entry], lane: u32) -> Result<Answer, NoMemory>
-    requires { length journal.now < 2 ^ 31 }
-    ensures { IfOk result (λ answer. answer ≡ answers.claim_answer journal.now lane) }
+fn claim_answer<J: Lookups>(alloc: Global, journal: &J, lane: u32) -> Result<Answer, NoMemory>
+    requires { IsSmall (J.list journal.now) }
+    ensures { IfOk result (λ answer. answer ≡ answers.claim_answer (J.list journal.now) lane) }
 {
-    if !is_claimed(0, journal) && lane != 0 {
+    if !journal.is_claimed(0) && lane != 0 {
         return Ok(Answer::NotYet);
     }
-    next_run(alloc, journal, unclaimed(journal))
+    next_run(alloc, journal, journal.unclaimed())
 }
 
-/// The place, in the list of files, of the source that the entry compiled to the file.
-fn source_made(file: &Text, journal: &[Entry], entry: &Entry) -> Option<u32>
-    requires { length (files_of journal.now) < 2 ^ 31 }
-    ensures { result ≡ option_map (λ src. unwrap_or (file_at src journal.now) 0) (compiled_to file.now entry.now.call entry.now.reply) }
+fn load_answer<J: Lookups>(journal: &J, file: &Text) -> Answer
+    requires { IsSmall (J.list journal.now) }
+    ensures { result ≡ answers.load_answer (J.list journal.now) (models.image_source file.now (J.list journal.now)) }
 {
-    match (&entry.call, &entry.reply) {
-        (Call::Compile { src, dst }, Reply::Code(code)) => {
-            let place = files::file_at(src, journal).unwrap_or(0);
-            if_so(*code == 0 && same(dst, file), place)
-        }
-        _ => None,
-    }
-}
-
-/// The place of the source that was last compiled to the file.
-fn source_compiled(file: &Text, journal: &[Entry]) -> Option<u32>
-    requires { length (files_of journal.now) < 2 ^ 31 }
-    ensures { result ≡ option_map (λ src. unwrap_or (file_at src journal.now) 0) (compiled_from file.now journal.now) }
-{
-    journal.iter().fold(None, |source, e| {
-        later(source, source_made(file, journal, e))
-    })
-}
-
-fn load_answer(journal: &[Entry], file: &Text) -> Answer
-    requires few { length journal.now < 2 ^ 31 }
-    requires files { length (files_of journal.now) < 2 ^ 31 }
-    ensures { result ≡ answers.load_answer journal.now (compiled_from file.now journal.now) }
-{
-    match source_compiled(file, journal) {
+    match journal.image_source(file) {
         None => fault(FaultKind::NoImage),
         Some(source) => Answer::Ready(Reply::Loaded {
-            model: 1 + loaded_count(journal),
+            model: 1 + journal.loaded_count(),
             source,
         }),
     }
 }
 
-fn run_answer(journal: &[Entry], model: u32) -> Answer
-    requires { length journal.now < 2 ^ 31 }
-    ensures { result ≡ answers.run_answer journal.now model }
+/// There is such a run, and it is live.
+fn is_live_run<J: Lookups>(run: Option<u32>, journal: &J) -> bool
+    requires { IsSmall (J.list journal.now) }
+    ensures { result ≡ models.is_live_run run (J.list journal.now) }
 {
-    if !is_loaded(model, journal) {
+    match run {
+        None => false,
+        Some(k) => journal.is_live(k),
+    }
+}
+
+fn run_answer<J: Lookups>(journal: &J, model: u32) -> Answer
+    requires { IsSmall (J.list journal.now) }
+    ensures { result ≡ answers.run_answer (J.list journal.now) model }
+{
+    if !journal.is_loaded(model) {
         return fault(FaultKind::NotLoaded);
     }
-    if is_live_run(current_run(model, journal), journal) {
+    if is_live_run(journal.current_run(model), journal) {
         return fault(FaultKind::Busy);
     }
-    let run = run_count(journal);
+    let run = journal.run_count();
     if run >= 4096 {
         return fault(FaultKind::TooManyRuns);
     }
-    if live_count(journal) >= files::lanes_of(journal) as usize {
+    if journal.live_count() >= journal.lanes() as usize {
         return fault(FaultKind::NoLane);
     }
     Answer::Ready(Reply::Started { run })
 }
 
-fn wait_answer(journal: &[Entry], run: u32) -> Answer
-    requires { length journal.now < 2 ^ 31 }
-    ensures { result ≡ answers.wait_answer (answers.first_event run journal.now) }
+fn wait_answer<J: Lookups>(journal: &J, run: u32) -> Answer
+    requires { IsSmall (J.list journal.now) }
+    ensures { result ≡ answers.wait_answer (events.first_event run (J.list journal.now)) }
 {
-    match first_event(run, journal) {
+    match journal.first_event(run) {
         None => Answer::NotYet,
-        Some(_) => accepted(),
+        Some(_) => acknowledge(),
     }
 }
 
-fn take_answer(journal: &[Entry], run: u32) -> Answer
-    requires { length journal.now < 2 ^ 31 }
-    ensures { result ≡ answers.take_answer journal.now (answers.first_event run journal.now) }
+fn take_answer<J: Lookups>(journal: &J, run: u32) -> Answer
+    requires { IsSmall (J.list journal.now) }
+    ensures { result ≡ answers.take_answer (events.front run (J.list journal.now)) }
 {
-    match first_event(run, journal) {
+    match journal.front(run) {
         None => Answer::Ready(Reply::Nothing),
-        Some(place) => {
-            let (class, value) = event_at(place, journal);
-            Answer::Ready(Reply::Took {
-                place: Place(place),
-                class,
-                value,
-            })
-        }
+        Some(event) => Answer::Ready(Reply::Took {
+            place: Place(event.place),
+            class: event.class,
+            value: event.value,
+        }),
     }
 }
 
-fn peek_answer(journal: &[Entry], run: u32) -> Answer
-    requires { length journal.now < 2 ^ 31 }
-    ensures { result ≡ answers.peek_answer journal.now (answers.first_event run journal.now) }
+fn peek_answer<J: Lookups>(journal: &J, run: u32) -> Answer
+    requires { IsSmall (J.list journal.now) }
+    ensures { result ≡ answers.peek_answer (events.front run (J.list journal.now)) }
 {
-    match first_event(run, journal) {
+    match journal.front(run) {
         None => Answer::Ready(Reply::Nothing),
-        Some(place) => {
-            let (class, value) = event_at(place, journal);
-            Answer::Ready(Reply::Seen {
-                place: Place(place),
-                class,
-                value,
-            })
-        }
+        Some(event) => Answer::Ready(Reply::Seen {
+            place: Place(event.place),
+            class: event.class,
+            value: event.value,
+        }),
     }
 }
 
-fn is_empty_answer(journal: &[Entry], run: u32) -> Answer
-    requires { length journal.now < 2 ^ 31 }
-    ensures { result ≡ Ready (Flag (not (is_some (answers.first_event run journal.now)))) }
+fn is_empty_answer<J: Lookups>(journal: &J, run: u32) -> Answer
+    requires { IsSmall (J.list journal.now) }
+    ensures { result ≡ Ready (Flag (not (is_some (events.first_event run (J.list journal.now))))) }
 {
-    Answer::Ready(Reply::Flag(first_event(run, journal).is_none()))
+    Answer::Ready(Reply::Flag(journal.first_event(run).is_none()))
 }
 
 /// The run that an event is sent to.
-fn target(journal: &[Entry], run: u32, to: Option<u32>) -> Option<u32>
-    ensures { result ≡ answers.target journal.now run to }
+fn target<J: Lookups>(journal: &J, run: u32, to: Option<u32>) -> Option<u32>
+    ensures { result ≡ answers.target (J.list journal.now) run to }
 {
     match to {
-        None => parent_of(run, journal),
-        Some(model) => current_run(model, journal),
+        None => journal.parent_of(run),
+        Some(model) => journal.current_run(model),
     }
 }
 
-fn send_answer(journal: &[Entry], to: Option<u32>) -> Answer
-    requires { length journal.now < 2 ^ 31 }
-    ensures { result ≡ answers.send_answer journal.now to }
+fn send_answer<J: Lookups>(journal: &J, to: Option<u32>) -> Answer
+    requires { IsSmall (J.list journal.now) }
+    ensures { result ≡ answers.send_answer (J.list journal.now) to }
 {
-    if !is_live_run(to, journal) {
+    let Some(run) = to else {
+        return Answer::Ready(Reply::Lost);
+    };
+    if !journal.is_live(run) {
         return Answer::Ready(Reply::Lost);
     }
-    let run = to.unwrap_or(0);
-    if queue_length(run, journal) > 65_535 {
+    if journal.queue_length(run) > 65_535 {
         return fault(FaultKind::QueueFull);
     }
     Answer::Ready(Reply::Queued { run })
 }
 
-fn unload_answer(journal: &[Entry], model: u32) -> Answer
-    requires { length journal.now < 2 ^ 31 }
-    ensures { result ≡ answers.unload_answer journal.now model }
+fn end_status(end: End) -> i32
+    ensures { result ≡ models.end_status end }
 {
-    if is_live_run(current_run(model, journal), journal) {
-        return fault(FaultKind::Busy);
+    match end {
+        End::Code(_) => 3,
+        End::Fault(_) => 4,
+        End::Spent => 5,
+        End::Stopped => 6,
+        End::NoMemory => 7,
     }
-    accepted()
 }
 
-/// What was written at a place.
-fn written_answer(alloc: Global, journal: &[Entry], place: usize) -> Result<Answer, NoMemory>
-    requires { place < 2 ^ 31 }
-    ensures { IfOk result (λ answer. answer ≡ Ready (Found (record { 0 = place }) (blocks.written_at place journal.now))) }
+fn run_status<J: Lookups>(journal: &J, k: u32) -> i32
+    ensures { result ≡ models.run_status k (J.list journal.now) }
 {
-    let shared = match journal.get(place) {
-        None => None,
-        Some(entry) => written(&entry.call),
-    };
-    let bytes = match shared {
-        None => SharedBlob::new(alloc, Blob::from_vec(Vec::new(alloc)))?,
-        Some(bytes) => bytes.share()?,
-    };
+    match journal.finish_of(k) {
+        None => 2,
+        Some(end) => end_status(end),
+    }
+}
+
+fn status_of<J: Lookups>(journal: &J, model: u32) -> i32
+    ensures { result ≡ models.status_of model (J.list journal.now) }
+{
+    if !journal.is_loaded(model) {
+        return 0;
+    }
+    match journal.current_run(model) {
+        None => 1,
+        Some(k) => run_status(journal, k),
+    }
+}
+
+/// The exit code of the model's current run.
+fn exit_of<J: Lookups>(journal: &J, model: u32) -> i32
+    ensures { result ≡ models.exit_of model (J.list journal.now) }
+{
+    match journal.current_run(model) {
+        None => 0,
+        Some(k) => match journal.finish_of(k) {
+            None => 0,
+            Some(end) => exit_code(end),
+        },
+    }
+}
+
+fn unload_answer<J: Lookups>(journal: &J, model: u32) -> Answer
+    requires { IsSmall (J.list journal.now) }
+    ensures { result ≡ answers.unload_answer (J.list journal.now) model }
+{
+    if is_live_run(journal.current_run(model), journal) {
+        return fault(FaultKind::Busy);
+    }
+    acknowledge()
+}
+
+/// What was read, from the entry at this place; place 0 for a listed file.
+fn found(place: u32, bytes: &SharedBlob) -> Result<Answer, NoMemory>
+    ensures { IfOk result (λ answer. answer ≡ Ready (Found (record { 0 = place }) bytes.now)) }
+{
     Ok(Answer::Ready(Reply::Found {
-        place: Place(place as u32),
-        bytes,
+        place: Place(place),
+        bytes: bytes.share()?,
     }))
 }
 
 /// What was listed under the name.
-fn data_answer(journal: &[Entry], name: &Text) -> Result<Answer, NoMemory>
-    ensures { IfOk result (λ answer. answer ≡ answers.read_answer journal.now None (data_of name.now journal.now)) }
+fn data_answer<J: Lookups>(journal: &J, name: &Text) -> Result<Answer, NoMemory>
+    ensures { IfOk result (λ answer. answer ≡ answers.read_answer None (data_of name.now (J.list journal.now))) }
 {
-    match files::data_of(name, journal) {
+    match journal.data_of(name) {
         None => Ok(fault(FaultKind::NoFile)),
-        Some(file) => Ok(Answer::Ready(Reply::Found {
-            place: Place(0),
-            bytes: file.bytes.share()?,
-        })),
+        Some(bytes) => found(0, bytes),
     }
 }
 
-fn read_answer(alloc: Global, journal: &[Entry], name: &Text) -> Result<Answer, NoMemory>
-    requires { length journal.now < 2 ^ 31 }
-    ensures { IfOk result (λ answer. answer ≡ answers.read_answer journal.now (blocks.last_write name.now journal.now) (data_of name.now journal.now)) }
+fn read_answer<J: Lookups>(journal: &J, name: &Text) -> Result<Answer, NoMemory>
+    requires { IsSmall (J.list journal.now) }
+    ensures { IfOk result (λ answer. answer ≡ answer_to_read name.now (J.list journal.now)) }
 {
-    match last_write(name, journal) {
-        Some(place) => written_answer(alloc, journal, place),
+    match journal.last_written(name) {
+        Some((place, bytes)) => found(place, bytes),
         None => data_answer(journal, name),
     }
 }
 
-fn reader_answer(journal: &[Entry], name: &Text) -> Answer
-    requires { length journal.now < 2 ^ 31 }
-    ensures { result ≡ answers.reader_answer journal.now name.now }
+fn reader_answer<J: Lookups>(journal: &J, name: &Text) -> Answer
+    requires { IsSmall (J.list journal.now) }
+    ensures { result ≡ answers.reader_answer (J.list journal.now) name.now }
 {
-    if pipes::holder(Way::Reads, name, journal).is_some() {
+    if journal.holder(Way::Reads, name).is_some() {
         return fault(FaultKind::PipeBusy);
     }
     Answer::Ready(Reply::Session {
-        place: Place(journal.len() as u32),
+        place: Place(journal.count() as u32),
     })
 }
 
-fn writer_answer(journal: &[Entry], name: &Text) -> Answer
-    requires { length journal.now < 2 ^ 31 }
-    ensures { result ≡ answers.writer_answer journal.now name.now }
+fn join_answer<J: Lookups>(journal: &J, name: &Text) -> Answer
+    requires { IsSmall (J.list journal.now) }
+    ensures { result ≡ answers.join_answer (session name.now (J.list journal.now)) }
 {
-    if pipes::holder(Way::Writes, name, journal).is_some() {
+    match journal.session(name) {
+        None => Answer::NotYet,
+        Some(place) => Answer::Ready(Reply::Session {
+            place: Place(place),
+        }),
+    }
+}
+
+fn writer_answer<J: Lookups>(journal: &J, name: &Text) -> Answer
+    requires { IsSmall (J.list journal.now) }
+    ensures { result ≡ answers.writer_answer (J.list journal.now) name.now }
+{
+    if journal.holder(Way::Writes, name).is_some() {
         return fault(FaultKind::PipeBusy);
     }
-    if pipes::holder(Way::Reads, name, journal).is_none() {
+    if journal.holder(Way::Reads, name).is_none() {
         return Answer::NotYet;
     }
-    if pipes::had_writer(name, journal) {
+    if journal.had_writer(name) {
         return Answer::NotYet;
     }
-    let place = pipes::session(name, journal).unwrap_or(0);
-    Answer::Ready(Reply::Session {
-        place: Place(place as u32),
-    })
+    join_answer(journal, name)
 }
 
-fn open_answer(journal: &[Entry], name: &Text, way: Way) -> Answer
-    requires { length journal.now < 2 ^ 31 }
-    ensures { (run : ℕ) → result ≡ answers.table_answer journal.now run (PipeOpen name.now way) }
+fn open_answer<J: Lookups>(journal: &J, name: &Text, way: Way) -> Answer
+    requires { IsSmall (J.list journal.now) }
+    ensures { (run : ℕ) → result ≡ answers.table_answer (J.list journal.now) run (PipeOpen name.now way) }
 {
     match way {
         Way::Reads => reader_answer(journal, name),
@@ -303,20 +324,20 @@ fn open_answer(journal: &[Entry], name: &Text, way: Way) -> Answer
     }
 }
 
-fn put_answer(
+fn put_answer<J: Lookups>(
     alloc: Global,
-    journal: &[Entry],
+    journal: &J,
     name: &Text,
     bytes: &Blob,
 ) -> Result<Answer, NoMemory>
-    ensures { IfOk result (λ answer. answer ≡ answers.put_answer journal.now name.now bytes.now) }
+    ensures { IfOk result (λ answer. answer ≡ answers.put_answer (J.list journal.now) name.now bytes.now) }
 {
-    if !pipes::is_joined(name, journal) {
+    if !journal.is_joined(name) {
         return Ok(fault(FaultKind::Broken));
     }
-    let untaken = pipes::untaken(alloc, name, journal)?;
+    let untaken = journal.untaken(alloc, name)?;
     if has_room(untaken.len(), bytes.as_bytes().len()) {
-        return Ok(accepted());
+        return Ok(acknowledge());
     }
     Ok(Answer::NotYet)
 }
@@ -328,28 +349,32 @@ fn has_room(untaken: usize, more: usize) -> bool
     untaken <= 4096 && more <= 4096 - untaken
 }
 
-fn pipe_answer(alloc: Global, journal: &[Entry], name: &Text) -> Result<Answer, NoMemory>
-    ensures { IfOk result (λ answer. answer ≡ answers.pipe_answer journal.now name.now) }
+fn pipe_answer<J: Lookups>(alloc: Global, journal: &J, name: &Text) -> Result<Answer, NoMemory>
+    ensures { IfOk result (λ answer. answer ≡ answers.pipe_answer (J.list journal.now) name.now) }
 {
-    let untaken = pipes::untaken(alloc, name, journal)?;
+    let untaken = journal.untaken(alloc, name)?;
     if untaken.len() > 0 {
         return Ok(Answer::Ready(Reply::Bytes(Blob::from_vec(untaken))));
     }
-    if pipes::is_ended(name, journal) {
+    if journal.is_ended(name) {
         return Ok(Answer::Ready(Reply::PipeEnd));
     }
     Ok(Answer::NotYet)
 }
 
 /// What a run is answered that goes on, while the journal has room.
-fn table_answer(alloc: Global, journal: &[Entry], run: u32, call: &Call) -> Result<Answer, NoMemory>
-    requires few { length journal.now < 2 ^ 31 }
-    requires files { length (files_of journal.now) < 2 ^ 31 }
-    ensures answer { IfOk result (λ answer. answer ≡ answers.table_answer journal.now run call.now) }
+fn table_answer<J: Lookups>(
+    alloc: Global,
+    journal: &J,
+    run: u32,
+    call: &Call,
+) -> Result<Answer, NoMemory>
+    requires { IsSmall (J.list journal.now) }
+    ensures answer { IfOk result (λ answer. answer ≡ answers.table_answer (J.list journal.now) run call.now) }
     ensures room { IsTrue (takes_no_memory call.now) → IsOk result }
 {
     match call {
-        Call::Compile { src, .. } => Ok(Answer::Ready(Reply::Code(files::code_of(src, journal)))),
+        Call::Compile { src, .. } => Ok(Answer::Ready(Reply::Code(journal.code_of(src)))),
         Call::Load { file } => Ok(load_answer(journal, file)),
         Call::Run { model, .. } => Ok(run_answer(journal, *model)),
         Call::Wait => Ok(wait_answer(journal, run)),
@@ -358,64 +383,65 @@ fn table_answer(alloc: Global, journal: &[Entry], run: u32, call: &Call) -> Resu
         Call::Peek => Ok(peek_answer(journal, run)),
         Call::IsEmpty => Ok(is_empty_answer(journal, run)),
         Call::Send { to, .. } => Ok(send_answer(journal, target(journal, run, *to))),
-        Call::Status { model } => Ok(Answer::Ready(Reply::Number(status_of(*model, journal)))),
-        Call::ExitCode { model } => Ok(Answer::Ready(Reply::Number(exit_of(*model, journal)))),
-        Call::Stop { .. } => Ok(accepted()),
+        Call::Status { model } => Ok(Answer::Ready(Reply::Number(status_of(journal, *model)))),
+        Call::ExitCode { model } => Ok(Answer::Ready(Reply::Number(exit_of(journal, *model)))),
+        Call::Stop { .. } => Ok(acknowledge()),
         Call::Unload { model } => Ok(unload_answer(journal, *model)),
-        Call::Read { name } => read_answer(alloc, journal, name),
-        Call::Write { .. } => Ok(accepted()),
+        Call::Read { name } => read_answer(journal, name),
+        Call::Write { .. } => Ok(acknowledge()),
         Call::PipeOpen { name, way } => Ok(open_answer(journal, name, *way)),
         Call::PipePut { name, bytes } => put_answer(alloc, journal, name, bytes),
         Call::PipeTake { name } => pipe_answer(alloc, journal, name),
-        Call::PipeClose { .. } => Ok(accepted()),
-        _ => Ok(Answer::NotYet),
+        Call::PipeClose { .. } => Ok(acknowledge()),
+        Call::Open { .. } => Ok(Answer::NotYet),
+        Call::Claim => Ok(Answer::NotYet),
+        Call::Quit => Ok(Answer::NotYet),
+        Call::Finish(_) => Ok(Answer::NotYet),
     }
 }
 
 /// What is answered to a call of a run.
-fn answer_to_run(
+fn answer_to_run<J: Lookups>(
     alloc: Global,
-    journal: &[Entry],
+    journal: &J,
     run: Option<u32>,
     call: &Call,
 ) -> Result<Answer, NoMemory>
-    requires few { length journal.now < 2 ^ 31 }
-    requires files { length (files_of journal.now) < 2 ^ 31 }
-    ensures answer { IfOk result (λ answer. answer ≡ answers.answer_to_run journal.now run call.now) }
+    requires { IsSmall (J.list journal.now) }
+    ensures answer { IfOk result (λ answer. answer ≡ answers.answer_to_run (J.list journal.now) run call.now) }
     ensures room { IsTrue (takes_no_memory call.now) → IsOk result }
 {
     let Some(run) = run else {
         return Ok(Answer::NotYet);
     };
-    if is_asked(run, journal) {
+    if journal.is_asked(run) {
         return Ok(Answer::Ready(Reply::Halt));
     }
-    if is_full(journal, call) {
+    if journal.is_full(call) {
         return Ok(fault(FaultKind::HubFull));
     }
     table_answer(alloc, journal, run, call)
 }
 
 /// The hub's answer to a call.
-pub(crate) fn answer_of(
+pub(crate) fn answer_of<J: Lookups>(
     alloc: Global,
-    journal: &[Entry],
+    journal: &J,
     lane: u32,
     run: Option<u32>,
     call: &Call,
 ) -> Result<Answer, NoMemory>
-    requires few { length journal.now < 2 ^ 31 }
-    requires files { length (files_of journal.now) < 2 ^ 31 }
-    ensures answer { IfOk result (λ answer. answer ≡ answers.answer_of journal.now lane run call.now) }
+    requires { IsSmall (J.list journal.now) }
+    ensures answer { IfOk result (λ answer. answer ≡ answers.answer_of (J.list journal.now) lane run call.now) }
     ensures room { IsTrue (takes_no_memory call.now) → IsOk result }
 {
-    if has_quit(journal) {
+    if journal.has_quit() {
         return Ok(Answer::Shut);
     }
     match call {
         Call::Open { .. } => Ok(Answer::Ready(Reply::Opened)),
-        Call::Quit => Ok(accepted()),
-        Call::Finish(_) => Ok(accepted()),
+        Call::Quit => Ok(acknowledge()),
+        Call::Finish(_) => Ok(acknowledge()),
         Call::Claim => claim_answer(alloc, journal, lane),
         _ => answer_to_run(alloc, journal, run, call),
     }

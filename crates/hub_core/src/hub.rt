@@ -1,8 +1,12 @@
 //! The hub itself: a journal that grows by one entry for each call that is answered.
+ghost use Rattle.std.specs.Prelude.{IfOk};
+ghost use Rattle.job_calls.specs.Replies.{InRange};
+
 use crate::answers::answer_of;
-use crate::fitting::fits;
 use crate::held::{Acted, Held};
+use hub_words::Lookups;
 use job_calls::{Answer, Call, Entry, Listed, Reply};
+use job_laws::laws;
 use mos_text::{NoMemory, Place, Text};
 use sqlite_items::Items;
 use std::alloc::Global;
@@ -29,19 +33,16 @@ impl Model for Hub {
 }
 
 impl Hub {
-    ghost use Rattle.std.specs.Prelude.{◌≡◌, ℕ, ◌<◌, ◌≤◌, ◌+◌, [], ◌∷◌, length, None, IfOk, IfErr, OnOk, OnErr, IsTrue, IsFalse};
-    ghost use Rattle.job_calls.specs.declared.call.Call.TheVariants.{Open};
-    ghost use Rattle.job_calls.specs.declared.reply.Answer.TheVariants.{Ready};
-    ghost use Rattle.job_calls.specs.declared.reply.Reply.TheVariants.{Opened};
-    ghost use Rattle.job_calls.specs.Answers as answers;
-    ghost use Rattle.job_calls.specs.Fitting as fitting;
-    ghost use Rattle.job_calls.specs.Runs.{Opening, opening};
+    ghost use Rattle.std.specs.Prelude.{◌≡◌, ℕ, ◌<◌, ◌≤◌, ◌+◌, length, IfOk, IfErr, IsOk, OnOk, OnErr, IsTrue};
+    ghost use Rattle.job_calls.specs.Fitting.{fits};
+    ghost use Rattle.job_calls.specs.Replies.{is_plain};
+    ghost use Rattle.job_calls.specs.Runs.{opening};
     ghost use Rattle.job_calls.specs.Words.{own_entries};
     ghost use Rattle.job_calls.specs.Legal.{CanOpen, IsLegal};
-    ghost use Rattle.job_calls.specs.Laws.{SaysTrue};
-    ghost use Rattle.hub_core.specs.Hubs.{journal_of, spare_of, entry_of, IsPut, IsRefused, wants_memory};
-    ghost use Rattle.hub_core.specs.Room.{takes_no_memory};
-    ghost use Rattle.job_calls.specs.Replies.{is_plain};
+    ghost use Rattle.job_laws.specs.Truth.{SaysTrue};
+    ghost use Rattle.job_laws.specs.Laws.{KeepsLaws};
+    ghost use Rattle.hub_core.specs.Hubs.{journal_of, spare_of, opened_with, first_journal, with_entry};
+    ghost use Rattle.hub_core.specs.Hubs.{MayMake, IsAnswered, FitsRun, StopsRun, IsHeldBack, LacksMemory};
 
     /// A hub whose journal is the `Open` alone.
     pub fn new(
@@ -51,8 +52,8 @@ impl Hub {
         params: Text,
         files: Items<Listed>,
     ) -> Result<Hub, NoMemory>
-        requires { CanOpen (record { lanes = lanes; budget = budget; params = params; files = files }) }
-        ensures opened { IfOk result (λ hub. journal_of hub ≡ entry_of 0 None (Open lanes budget params files) Opened ∷ []) }
+        requires { CanOpen (opened_with lanes budget params files) }
+        ensures opened { IfOk result (λ hub. journal_of hub ≡ first_journal lanes budget params files) }
         ensures legal { IfOk result (λ hub. IsLegal (journal_of hub)) }
     {
         let call = Call::Open {
@@ -87,9 +88,9 @@ impl Hub {
 
     /// Whether the lane may make this call, for itself or for the run.
     pub fn fits(&self, lane: u32, run: Option<u32>, call: &Call) -> bool
-        ensures { result ≡ fitting.fits (opening (journal_of self.now)) (own_entries lane (journal_of self.now)) lane run call.now }
+        ensures { result ≡ fits (opening (journal_of self.now)) (own_entries lane (journal_of self.now)) lane run call.now }
     {
-        fits(&self.entries, lane, run, call)
+        self.entries.fits(lane, run, call)
     }
 
     /// How many entries there is room for.
@@ -109,20 +110,58 @@ impl Hub {
         Ok(())
     }
 
+    /// The number of entries.
+    pub fn count(&self) -> u32
+        ensures count { result ≡ length (journal_of self.now) }
+        ensures legal { IsLegal (journal_of self.now) }
+    {
+        laws::few_entries();
+        self.entries.len() as u32
+    }
+
     /// Answers the call by what the journal says, and puts both at its end; or hands the call back, and
     /// the journal stays as it was.
     pub fn act(&mut self, lane: u32, run: Option<u32>, call: Call) -> Result<Acted, Held>
-        requires { IsTrue (fitting.fits (opening (journal_of self.old)) (own_entries lane (journal_of self.old)) lane run call) }
-        ensures acted { IfOk result (λ acted. IsPut (journal_of self.old) (journal_of self.new) lane run call acted.place.0 acted.reply) }
-        ensures held { IfErr result (λ held. IsRefused (journal_of self.old) lane run call held) }
+        requires { MayMake (journal_of self.old) lane run call }
+        ensures answered { IfOk result (λ acted. IsAnswered (journal_of self.old) lane run call acted.reply) }
+        ensures put { IfOk result (λ acted. journal_of self.new ≡ with_entry (journal_of self.old) lane run call acted.reply) }
+        ensures place { IfOk result (λ acted. acted.place.0 ≡ length (journal_of self.old)) }
+        ensures held { IfErr result (λ held. IsHeldBack (journal_of self.old) lane run call held) }
+        ensures room { IfErr result (λ held. LacksMemory (spare_of self.old) call held) }
         ensures stays { OnErr result (journal_of self.new ≡ journal_of self.old) }
-        ensures says_true { IfOk result (λ acted. SaysTrue (journal_of self.old) run call acted.reply) }
         ensures legal { IsLegal (journal_of self.new) }
-        ensures few { length (journal_of self.new) < 1100000 }
         ensures spare { spare_of self.old ≤ spare_of self.new + 1 }
         ensures kept { OnErr result (spare_of self.old ≤ spare_of self.new) }
-        ensures room { 1 ≤ spare_of self.old → IsTrue (takes_no_memory call) → IfErr result (λ held. IsFalse (wants_memory held)) }
+        ensures fits_call { IfOk result (λ acted. FitsRun call acted.reply) }
+        ensures says_true { IfOk result (λ acted. SaysTrue (journal_of self.old) run call acted.reply) }
+        ensures stops { IfOk result (λ acted. StopsRun (journal_of self.old) run call acted.reply) }
+        ensures laws { KeepsLaws (journal_of self.new) }
+        ensures few { length (journal_of self.new) < 1100000 }
     {
+        laws::few_entries();
+        laws::legal_keeps_laws();
+        laws::replies_are_true();
+        laws::answers_fit();
+        let outcome = self.serve(lane, run, call);
+        in_range(&outcome);
+        outcome
+    }
+
+    /// Answers the call, and puts it with its reply at the end of the journal.
+    fn serve(&mut self, lane: u32, run: Option<u32>, call: Call) -> Result<Acted, Held>
+        requires { MayMake (journal_of self.old) lane run call }
+        ensures answered { IfOk result (λ acted. IsAnswered (journal_of self.old) lane run call acted.reply) }
+        ensures put { IfOk result (λ acted. journal_of self.new ≡ with_entry (journal_of self.old) lane run call acted.reply) }
+        ensures place { IfOk result (λ acted. acted.place.0 ≡ length (journal_of self.old)) }
+        ensures held { IfErr result (λ held. IsHeldBack (journal_of self.old) lane run call held) }
+        ensures room { IfErr result (λ held. LacksMemory (spare_of self.old) call held) }
+        ensures stays { OnErr result (journal_of self.new ≡ journal_of self.old) }
+        ensures legal { IsLegal (journal_of self.new) }
+        ensures spare { spare_of self.old ≤ spare_of self.new + 1 }
+        ensures kept { OnErr result (spare_of self.old ≤ spare_of self.new) }
+    {
+        laws::few_entries();
+        laws::few_files();
         match answer_of(self.alloc, &self.entries, lane, run, &call) {
             Err(_) => Err(Held::NoMemory(call)),
             Ok(Answer::NotYet) => Err(Held::NotYet(call)),
@@ -133,17 +172,20 @@ impl Hub {
 
     /// Puts a call with its reply at the end of the journal.
     fn put(&mut self, lane: u32, run: Option<u32>, call: Call, reply: Reply) -> Result<Acted, Held>
-        requires fit { IsTrue (fitting.fits (opening (journal_of self.old)) (own_entries lane (journal_of self.old)) lane run call) }
-        requires answer { answers.answer_of (journal_of self.old) lane run call ≡ Ready reply }
-        ensures acted { IfOk result (λ acted. IsPut (journal_of self.old) (journal_of self.new) lane run call acted.place.0 acted.reply) }
-        ensures held { IfErr result (λ held. IsRefused (journal_of self.old) lane run call held) }
+        requires fit { MayMake (journal_of self.old) lane run call }
+        requires answer { IsAnswered (journal_of self.old) lane run call reply }
+        ensures answered { IfOk result (λ acted. IsAnswered (journal_of self.old) lane run call acted.reply) }
+        ensures put { IfOk result (λ acted. journal_of self.new ≡ with_entry (journal_of self.old) lane run call acted.reply) }
+        ensures place { IfOk result (λ acted. acted.place.0 ≡ length (journal_of self.old)) }
+        ensures held { IfErr result (λ held. IsHeldBack (journal_of self.old) lane run call held) }
+        ensures room { 1 ≤ spare_of self.old → IsTrue (is_plain reply) → IsOk result }
         ensures stays { OnErr result (journal_of self.new ≡ journal_of self.old) }
         ensures legal { IsLegal (journal_of self.new) }
-        ensures few { length (journal_of self.new) < 1100000 }
         ensures spare { spare_of self.old ≤ spare_of self.new + 1 }
         ensures kept { OnErr result (spare_of self.old ≤ spare_of self.new) }
-        ensures room { 1 ≤ spare_of self.old → IsTrue (is_plain reply) → IfErr result (λ held. IsFalse (wants_memory held)) }
     {
+        laws::few_entries();
+        laws::grows();
         let place = Place(self.entries.len() as u32);
         let Ok(again) = reply.copy(self.alloc) else {
             return Err(Held::NoMemory(call));
@@ -166,5 +208,15 @@ impl Hub {
                 Err(Held::NoMemory(call))
             }
         }
+    }
+}
+
+/// What was replied is in the ranges of its types: it does nothing, and says so.
+fn in_range(outcome: &Result<Acted, Held>)
+    ensures { IfOk outcome.now (λ acted. InRange acted.reply) }
+{
+    match outcome {
+        Ok(acted) => acted.reply.in_range(),
+        Err(_) => (),
     }
 }

@@ -2,22 +2,12 @@
 #![tactic(auto)]
 
 mod answers;
-mod blocks;
-mod events;
-mod files;
-mod fitting;
 mod held;
 mod hub;
-mod jobs;
-mod models;
 mod opening;
-mod pipes;
-mod runs;
-#[cfg(test)]
-mod tests;
-mod weights;
-mod words;
+mod story;
 
 pub use held::{Acted, Held};
 pub use hub::Hub;
 pub use opening::can_open;
+pub use story::{HubCall, HubHeld};

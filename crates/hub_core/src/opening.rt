@@ -3,12 +3,10 @@ ghost use Rattle.std.specs.Prelude.{◌≡◌, ℕ, List, IsTrue, bytes_eq};
 ghost use Rattle.std.specs.List.{list_all, list_any};
 ghost use Rattle.mos_text.specs.FileName.{is_file_name};
 ghost use Rattle.job_calls.specs.Legal.{CanOpen, IsMaster, HaveDistinctNames};
-ghost use Rattle.job_calls.specs.Runs.{Opening};
+ghost use Rattle.hub_core.specs.Hubs.{opened_with};
 
-use crate::files::{is_image, is_source};
-use crate::words::same;
 use job_calls::Listed;
-use mos_text::is_file_name;
+use mos_text::{is_file_name, is_image_name, is_source_name};
 
 /// The first of the files can be the master.
 fn is_master(files: &[Listed]) -> bool
@@ -17,7 +15,7 @@ fn is_master(files: &[Listed]) -> bool
 {
     match files {
         [] => false,
-        [file, ..] => (is_source(&file.name) || is_image(&file.name)) && file.code == 0,
+        [file, ..] => (is_source_name(&file.name) || is_image_name(&file.name)) && file.code == 0,
     }
 }
 
@@ -30,7 +28,9 @@ fn have_file_names(files: &[Listed]) -> bool
 fn is_among(name: &Listed, files: &[Listed]) -> bool
     ensures { result ≡ list_any (λ file. bytes_eq file.name name.now.name) files.now }
 {
-    files.iter().any(|file| same(&file.name, &name.name))
+    files
+        .iter()
+        .any(|file| file.name.as_bytes() == name.name.as_bytes())
 }
 
 fn are_distinct(files: &[Listed]) -> bool
@@ -47,8 +47,8 @@ fn are_distinct(files: &[Listed]) -> bool
 /// ticks, and 1 to 128 files whose names are distinct file names, the first of them an accepted source or
 /// an image.
 pub fn can_open(lanes: u32, budget: u32, files: &[Listed]) -> bool
-    ensures yes { IsTrue result → (params : List ℕ) → CanOpen (record { lanes = lanes; budget = budget; params = params; files = files.now }) }
-    ensures no { (params : List ℕ) → CanOpen (record { lanes = lanes; budget = budget; params = params; files = files.now }) → IsTrue result }
+    ensures yes { IsTrue result → (params : List ℕ) → CanOpen (opened_with lanes budget params files.now) }
+    ensures no { (params : List ℕ) → CanOpen (opened_with lanes budget params files.now) → IsTrue result }
 {
     let numbers = lanes >= 1 && lanes <= 64 && budget >= 1 && budget <= 1_000_000_000;
     numbers

@@ -1,46 +1,69 @@
 -- What a call leaves, and what the end of a lock gives.
-use Rattle.std.specs.Prelude.{◌≡◌, ℕ, ◌+◌, ◌<◌, List, [], ◌∷◌, ◌++◌, length, All, slice_get, Some}
+use Rattle.std.specs.Prelude.{◌≡◌, ℕ, ◌+◌, ◌<◌, List, [], ◌∷◌, ◌++◌, length, All, sum_by, slice_get, Some}
 use Rattle.hub_lock.specs.declared.story.Story.{Ghosts}
-use Rattle.hub_lock.specs.declared.seat.Seat.{Seat}
-use Rattle.hub_lock.specs.Words.{of, StartsWith}
-use Rattle.hub_lock.specs.Rule.{WasJournal}
-use Rattle.hub_lock.specs.Seats.{seen, turns, lane}
+use Rattle.hub_lock.specs.Words.{entries_of, StartsWith}
+use Rattle.hub_lock.specs.Marks.{times, FoundLast, IsOrder, IsMarkOf}
+use Rattle.hub_lock.specs.Seats.{SeatState, turns, first_entry, own_list}
 
--- `story` has the meaning of a story S, with the calls C, their answers A and refusals H, and the entries E
-module _ {S C A H E : Type 0} {story : Ghosts S C A H E} where
-  -- the lane's call was answered: what it has seen goes on with entries of other lanes, and ends with its own new entry. At its last turn this was the whole journal, before and after the entry
-  pub record HasActed (old new : Seat S C A H E story) (call : C) (acted : A) : Type 0 where
+-- a story has the calls C, their answers A and refusals H, and the entries E
+module _ {S C A H E : Type 0} where
+  -- the call may be made: its story allows it, of the first entry and of the lane's own entries
+  abbrev pub IsAllowed : Ghosts S C A H E → SeatState E → C → Type 0
+  IsAllowed story seat call = story.allowed (first_entry seat) (own_list story seat) seat.lane call
+
+  -- The call was answered: the lane has seen more of other lanes, then its own new entry. Its last turn found all before that entry
+  pub record HasActed (story : Ghosts S C A H E) (old new : SeatState E) (call : C) (acted : A)
+      : Type 0 where
     pub between : List E
     pub entry : E
-    pub goes_on : seen new ≡ (seen old ++ between) ++ entry ∷ []
-    pub others : of story.lane_of (lane old) between ≡ []
-    pub own : story.lane_of entry ≡ lane old
-    pub answered : story.answers (seen old ++ between) (lane old) call entry acted
-    pub sounds : story.sound (seen new)
-    pub before : WasJournal story.list story.lane_of story.sound (lane old) (turns new) (seen old ++ between)
-    pub after : WasJournal story.list story.lane_of story.sound (lane old) (turns new) (seen new)
+    pub goes_on : new.seen ≡ (old.seen ++ between) ++ entry ∷ []
+    pub others : entries_of story.lane_of old.lane between ≡ []
+    pub own : story.lane_of entry ≡ old.lane
+    pub one_more : own_list story new ≡ own_list story old ++ entry ∷ []
+    pub first : first_entry new ≡ first_entry old
+    pub answered : story.answers (old.seen ++ between) old.lane call entry acted
+    pub sounds : story.sound new.seen
+    pub found : FoundLast new.marks (length (old.seen ++ between))
 
-  -- the lane's call was refused: what it has seen goes on with entries of other lanes alone, and was the whole journal at its last turn
-  pub record HasHeld (old new : Seat S C A H E story) (call : C) (count : ℕ) (held : H) : Type 0 where
+  -- The call was refused: the lane has seen more of other lanes alone. What it has seen is all that its last turn found
+  pub record HasHeld (story : Ghosts S C A H E) (old new : SeatState E) (call : C) (count : ℕ) (held : H)
+      : Type 0 where
     pub between : List E
-    pub goes_on : seen new ≡ seen old ++ between
-    pub others : of story.lane_of (lane old) between ≡ []
-    pub counted : count ≡ length (seen new)
-    pub refused : story.refuses (seen new) (lane old) call held
-    pub sounds : story.sound (seen new)
-    pub whole : WasJournal story.list story.lane_of story.sound (lane old) (turns new) (seen new)
+    pub goes_on : new.seen ≡ old.seen ++ between
+    pub others : entries_of story.lane_of old.lane between ≡ []
+    pub none_more : own_list story new ≡ own_list story old
+    pub first : first_entry new ≡ first_entry old
+    pub counted : count ≡ length new.seen
+    pub refused : story.refuses new.seen old.lane call held
+    pub sounds : story.sound new.seen
+    pub found : FoundLast new.marks (length new.seen)
 
+module _ {E : Type 0} where
   -- the journal begins with what the seat has seen, and has no other entries of its lane
-  abbrev pub IsIn : Seat S C A H E story → List E → Type 0
-  IsIn seat log = StartsWith log (seen seat) × (of story.lane_of (lane seat) log ≡ of story.lane_of (lane seat) (seen seat))
+  abbrev pub IsIn : (E → ℕ) → SeatState E → List E → Type 0
+  IsIn lane_of seat log = StartsWith log seat.seen × (entries_of lane_of seat.lane log ≡ entries_of lane_of seat.lane seat.seen)
 
   -- the other seats are those of lanes 1, 2 and so on, in this order
-  abbrev pub InOrder : List (Seat S C A H E story) → Type 0
-  InOrder others = (i : ℕ) (other : Seat S C A H E story) → slice_get others i ≡ Some other → lane other ≡ i + 1
+  abbrev pub InOrder : List (SeatState E) → Type 0
+  InOrder others = (i : ℕ) (other : SeatState E) → slice_get others i ≡ Some other → other.lane ≡ i + 1
 
-  -- the journal at the end: each lane's entries are those that its seat has seen, each seat has seen a beginning of it, and no other lane has an entry
-  pub record IsEnd (seat : Seat S C A H E story) (others : List (Seat S C A H E story)) (log : List E) : Type 0 where
-    pub first : IsIn seat log
-    pub rest : All (λ other. IsIn other log) others
-    pub no_more : (lane : ℕ) → length others < lane → of story.lane_of lane log ≡ []
-    pub sounds : story.sound log
+  -- how often a ticket stands among the marks of seats
+  abbrev pub times_of : ℕ → List (SeatState E) → ℕ
+  times_of ticket seats = sum_by (λ seat. times ticket seat.marks) seats
+
+  -- All turns of all seats stand in one order: each has a ticket of its own, and found as many entries as the order says
+  pub record HasOrder (seats : List (SeatState E)) (count : ℕ) : Type 0 where
+    pub at : ℕ → ℕ
+    pub steps : IsOrder at
+    pub marks : All (λ seat. All (IsMarkOf at (sum_by turns seats)) seat.marks) seats
+    pub once : (turn : ℕ) → turn < sum_by turns seats → times_of turn seats ≡ 1
+    pub whole : at (sum_by turns seats) ≡ count
+
+  -- The journal at the end: each seat has seen a beginning of it with all its lane's entries, no other lane has one, and all turns stand in one order
+  pub record IsEnd (lane_of : E → ℕ) (sound : List E → Type 0) (seat : SeatState E) (others : List (SeatState E))
+      (log : List E) : Type 0 where
+    pub first : IsIn lane_of seat log
+    pub rest : All (λ other. IsIn lane_of other log) others
+    pub no_more : (lane : ℕ) → length others < lane → entries_of lane_of lane log ≡ []
+    pub sounds : sound log
+    pub order : HasOrder (seat ∷ others) (length log)

@@ -1,7 +1,6 @@
 pub mod Words
-pub mod Rule
-pub mod Steps
-pub mod Turns
+pub mod Marks
 pub mod Seats
 pub mod Calls
 pub mod Tally
+pub mod Inner

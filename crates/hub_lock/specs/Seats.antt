@@ -1,43 +1,63 @@
--- What clauses say of a lock and of its seats.
-use Rattle.std.specs.Prelude.{◌≡◌, ℕ, List, []}
-use Rattle.hub_lock.specs.declared.rule.Stage.TheVariants.{Idle}
+-- What contracts see of a lock and of its seats.
+use Rattle.std.specs.Prelude.{◌≡◌, ℕ, List, length, Option, slice_get}
+use Rattle.atomic_table.specs.Seated.{TableId}
+use Rattle.hub_lock.specs.declared.mark.Mark.{Mark}
 use Rattle.hub_lock.specs.declared.story.Story.{Ghosts}
-use Rattle.hub_lock.specs.declared.seat.Seat.{Seat}
-use Rattle.hub_lock.specs.declared.keep.Keep.{Keep}
+use Rattle.hub_lock.specs.Words.{entries_of}
+
+-- which lock it is, and how many seats it may have
+pub record KeepState : Type 0 where
+  pub lock : TableId
+  pub lanes : ℕ
+
+-- the seat's lock and lane, the number of seats made (of lane 0's), what the lane has seen of the journal, and the marks of its turns
+pub record SeatState (E : Type 0) : Type 0 where
+  pub lock : TableId
+  pub lane : ℕ
+  pub made : ℕ
+  pub seen : List E
+  pub marks : List Mark
 
 -- how many seats a lock may have
-abbrev pub most_lanes : {S C A H E : Type 0} → Keep S C A H E → ℕ
+abbrev pub most_lanes : KeepState → ℕ
 most_lanes keep = keep.lanes
 
--- A story S has the calls C, their answers A and refusals H, and the entries E
-module _ {S C A H E : Type 0} {story : Ghosts S C A H E} where
-  -- what the lane has seen of the journal
-  abbrev pub seen : Seat S C A H E story → List E
-  seen seat = seat.raw.me.0.seen
-
-  -- how many turns of the lock the seat took
-  abbrev pub turns : Seat S C A H E story → ℕ
-  turns seat = seat.raw.me.0.turns
-
+module _ {E : Type 0} where
   -- the lane of the seat
-  abbrev pub lane : Seat S C A H E story → ℕ
+  abbrev pub lane : SeatState E → ℕ
   lane seat = seat.lane
 
   -- of lane 0's seat: how many seats were made
-  abbrev pub seats_made : Seat S C A H E story → ℕ
+  abbrev pub seats_made : SeatState E → ℕ
   seats_made seat = seat.made
 
+  -- what the lane has seen of the journal
+  abbrev pub seen : SeatState E → List E
+  seen seat = seat.seen
+
+  -- the first entry that the lane has seen
+  abbrev pub first_entry : SeatState E → Option E
+  first_entry seat = slice_get seat.seen 0
+
+  -- the marks of the seat's turns
+  abbrev pub marks : SeatState E → List Mark
+  marks seat = seat.marks
+
+  -- how many turns of the lock the seat took
+  abbrev pub turns : SeatState E → ℕ
+  turns seat = length seat.marks
+
   -- it is a seat of this lock
-  abbrev pub IsSeatOf : Keep S C A H E → Seat S C A H E story → Type 0
-  IsSeatOf keep seat = seat.raw.table_id ≡ keep.table.shared.table_id
+  abbrev pub IsSeatOf : KeepState → SeatState E → Type 0
+  IsSeatOf keep seat = seat.lock ≡ keep.lock
 
-  -- the seat has neither ticket nor turn, and no slot is out with it
-  abbrev pub Rests : Seat S C A H E story → Type 0
-  Rests seat = (seat.raw.me.0.stage ≡ Idle) × (seat.raw.me.1 ≡ [])
-
-  -- a call leaves the seat in its lock and its lane, with as many seats made, and at rest
-  pub record IsSameSeat (old new : Seat S C A H E story) : Type 0 where
-    pub lock : new.raw.table_id ≡ old.raw.table_id
+  -- a call leaves the seat in its lock and its lane, with as many seats made
+  pub record IsSameSeat (old new : SeatState E) : Type 0 where
+    pub lock : new.lock ≡ old.lock
     pub lane : new.lane ≡ old.lane
     pub made : new.made ≡ old.made
-    pub rests : Rests new
+
+module _ {S C A H E : Type 0} where
+  -- the lane's own entries, all of which it has seen
+  abbrev pub own_list : Ghosts S C A H E → SeatState E → List E
+  own_list story seat = entries_of story.lane_of seat.lane seat.seen

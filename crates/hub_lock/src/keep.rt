@@ -1,23 +1,28 @@
 //! The lock, and the calls of its lanes.
-ghost use Rattle.std.specs.Prelude.{◌≡◌, ◌≤◌};
 
-use crate::rule::{Rule, View};
+use crate::lock::Lock;
 use crate::story::Story;
-use atomic_table::Table;
-use std::alloc::Global;
-use std::snapshot::Snapshot;
+use std::marker::Model;
 
 mod calls;
 mod ends;
-mod turn;
 
 /// A lock over one story, which lanes share by reference from their own threads.
 #[derive(Drop)]
 pub struct Keep<S: Story> {
-    table: Table<Option<S>, View<S::Entry>, Snapshot<S>, Rule<S>, Global>,
+    lock: Lock<S>,
     lanes: u32,
-    ghost sized: { (table.shared.table_id.words ≡ 3) × (table.shared.table_id.slots ≡ 1) },
-    ghost few: { lanes ≤ 64 },
+}
+
+impl<S: Story> Model for Keep<S> {
+    ghost use Rattle.std.specs.Prelude.{◌≤◌};
+    ghost use Rattle.hub_lock.specs.Seats.{KeepState};
+
+    ghost Value = { KeepState };
+
+    ghost view = { λ k. record { lock = k.lock.table.shared.table_id; lanes = k.lanes } };
+
+    ghost invariant = { λ k. k.lanes ≤ 64 };
 }
 
 /// A refused call: how many entries the lane had seen by then, and the refusal.

@@ -1,11 +1,13 @@
 //! The seat of a lane: what the lane has seen of the journal.
-ghost use Rattle.std.specs.Prelude.{◌≡◌, ◌<◌, [], length};
-ghost use Rattle.hub_lock.specs.declared.rule.Stage.TheVariants.{Idle};
+ghost use Rattle.std.specs.Prelude.{◌≡◌};
+ghost use Rattle.hub_lock.specs.Seats.{lane};
 
 use crate::rule::View;
 use crate::story::Story;
+use std::marker::Model;
 
-/// A seat of a lock, by which one lane makes its calls. It may go to another thread, and two threads cannot share it.
+/// A seat of a lock, by which one lane makes its calls. It may go to another thread, and two threads
+/// cannot share it.
 ///
 /// Between two calls a seat has neither ticket nor turn.
 #[derive(Drop)]
@@ -13,19 +15,30 @@ pub struct Seat<S: Story> {
     pub(crate) raw: Raw<S>,
     pub(crate) lane: u32,
     pub(crate) made: u32,
-    ghost rests: { (raw.me.1 ≡ []) × (raw.me.0.stage ≡ Idle) },
-    ghost lane_is: { raw.me.0.lane ≡ lane },
-    ghost made_is: { raw.me.0.made ≡ made },
-    ghost begun: { 0 < length raw.me.0.seen },
-    ghost alone: { raw.me.0.joined ≡ [] },
+}
+
+impl<S: Story> Model for Seat<S> {
+    ghost use Rattle.hub_lock.specs.Seats.{SeatState};
+
+    ghost Value = { SeatState S.Entry };
+
+    ghost use Rattle.hub_lock.specs.Inner.Rests.{IsAtRest};
+
+    ghost view = { λ s. record {
+      lock = s.raw.table_id;
+      lane = s.lane;
+      made = s.made;
+      seen = s.raw.me.0.seen;
+      marks = s.raw.me.0.marks;
+    } };
+
+    ghost invariant = { λ s. IsAtRest S.lane_of s.lane s.made s.raw.me };
 }
 
 /// A seat of the lock's table.
 pub(crate) type Raw<S> = atomic_table::Seat<Option<S>, View<<S as Story>::Entry>>;
 
 impl<S: Story> Seat<S> {
-    ghost use Rattle.hub_lock.specs.Seats.{lane};
-
     /// The number of the seat's lane: 0 for the first seat, then 1, 2 and so on, as they were split off.
     pub fn lane(&self) -> u32
         ensures { result ≡ lane self.now }

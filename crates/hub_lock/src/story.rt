@@ -1,13 +1,13 @@
 //! What a lock keeps: a value that stands for a list of entries, each of one lane.
 ghost use Rattle.std.specs.Prelude.{◌≡◌, ℕ, ◌^◌, ◌<◌, List, [], ◌∷◌, ◌++◌, length, slice_get, Option, Some, None, IfOk, IfErr, MatchResult};
-ghost use Rattle.hub_lock.specs.Words.{of};
+ghost use Rattle.hub_lock.specs.Words.{entries_of};
 
 /// A value that stands for a list of entries, to which each accepted call adds one.
 ///
-/// A list that a value can stand for is `sound`. `answers` says what an accepted call means, of the list before, the
-/// lane, the call, the new entry and the answer; `refuses` says what a refusal means. `allowed` is the condition of a
-/// call, of the first entry, the lane's own entries, the lane and the call. `waits` has the refused call where a
-/// refusal means "not ready", so that the call may be tried again.
+/// A list that a value can stand for is `sound`. `answers` says what an accepted call means, of the list
+/// before, the lane, the call, the new entry and the answer; `refuses` says what a refusal means. `allowed`
+/// is the condition of a call, of the first entry, the lane's own entries, the lane and the call. `waits`
+/// has the refused call where a refusal means "not ready", so that the call may be tried again.
 pub trait Story: Drop {
     type Call;
 
@@ -33,8 +33,11 @@ pub trait Story: Drop {
 
     /// Answers the call and adds one entry of the lane, or refuses it and adds none.
     fn step(&mut self, lane: u32, call: Self::Call) -> Result<Self::Acted, Self::Held>
-        requires { allowed (slice_get (list self.old) 0) (of lane_of lane (list self.old)) lane call }
-        ensures answered { IfOk result (λ acted. (entry : Self.Entry) × (list self.new ≡ list self.old ++ entry ∷ []) × (lane_of entry ≡ lane) × answers (list self.old) lane call entry acted) }
+        requires { allowed (slice_get (list self.old) 0) (entries_of lane_of lane (list self.old)) lane call }
+        ensures answered { IfOk result (λ acted. (entry : Self.Entry)
+            × (list self.new ≡ list self.old ++ entry ∷ [])
+            × (lane_of entry ≡ lane)
+            × answers (list self.old) lane call entry acted) }
         ensures sound { IfOk result (λ _. sound (list self.new) × (length (list self.new) < 2 ^ 32)) }
         ensures refused { IfErr result (λ held. (list self.new ≡ list self.old) × refuses (list self.old) lane call held) }
         ensures not_ready { IfErr result (λ held. (same : Self.Call) → waits held ≡ Some same → same ≡ call) };

@@ -45,7 +45,7 @@ impl Model for Tally {
 
 impl Tally {
     ghost use Rattle.std.specs.Prelude.{◌≡◌, [], ◌∷◌, length, IfOk};
-    ghost use Rattle.hub_lock.specs.Words.{of};
+    ghost use Rattle.hub_lock.specs.Words.{entries_of};
     ghost use Rattle.hub_lock.specs.Tally.{total};
 
     /// A tally whose only entry is lane 0's, of the amount 0.
@@ -66,7 +66,7 @@ impl Tally {
 
     /// How many entries a lane put.
     pub fn count_of(&self, lane: u32) -> usize
-        ensures { result ≡ length (of (λ p. p.lane) lane self.now) }
+        ensures { result ≡ length (entries_of (λ p. p.lane) lane self.now) }
     {
         self.puts.iter().filter(|put| put.lane == lane).count()
     }

@@ -1,6 +1,6 @@
 //! The line that a command writes in place of a report, where it ends before its job.
 ghost use Rattle.std.specs.Prelude.{◌≡◌, ◌++◌, IfOk, OnOk};
-ghost use Rattle.job_calls.specs.ErrorLines.{about, missing_line, read_fault_line, too_large_line, usage_line, verdict_line};
+ghost use Rattle.hub_text.specs.ErrorLines.{about, bad_input_line, missing_line, read_fault_line, rule_text, too_large_line, usage_line, verdict_line};
 ghost use Rattle.mos_text.specs.Kinds.{kind_text};
 
 use crate::report_writer::put_number;
@@ -8,7 +8,7 @@ use mos_text::{Blob, Kind, NoMemory, Text};
 use std::alloc::{AllocError, Global};
 
 /// The words are no command.
-#[tactic(auto, unfolding(job_calls::specs::ErrorLines::usage_line))]
+#[tactic(auto, unfolding(crate::specs::ErrorLines::usage_line))]
 pub fn write_usage(alloc: Global) -> Result<Blob, NoMemory>
     ensures { IfOk result (λ line. line ≡ usage_line) }
 {
@@ -16,7 +16,7 @@ pub fn write_usage(alloc: Global) -> Result<Blob, NoMemory>
 }
 
 /// A source is not accepted: the line at fault, from 1, and the kind of the fault.
-#[tactic(auto, unfolding(job_calls::specs::ErrorLines::verdict_line))]
+#[tactic(auto, unfolding(crate::specs::ErrorLines::verdict_line))]
 pub fn write_verdict(alloc: Global, name: &Text, line: u32, kind: &Kind) -> Result<Blob, NoMemory>
     ensures { IfOk result (λ text. text ≡ verdict_line name.now line kind.now) }
 {
@@ -56,8 +56,31 @@ pub fn write_read_fault(alloc: Global, name: &Text) -> Result<Blob, NoMemory>
     Ok(Blob::from_vec(out))
 }
 
+/// An image or an order file is not accepted: the byte at fault, from 0, and the number of the rule
+/// that it breaks.
+#[tactic(auto, unfolding(crate::specs::ErrorLines::bad_input_line))]
+pub fn write_bad_input(alloc: Global, name: &Text, at: u64, rule: u32) -> Result<Blob, NoMemory>
+    ensures { IfOk result (λ line. line ≡ bad_input_line name.now at rule) }
+{
+    let mut out = Vec::new(alloc);
+    put_about(&mut out, name, b": bad input at ")?;
+    put_number(&mut out, at)?;
+    put_rule(&mut out, rule)?;
+    Ok(Blob::from_vec(out))
+}
+
+/// The rule that is broken, at the end of the line.
+#[tactic(auto, unfolding(crate::specs::ErrorLines::rule_text))]
+fn put_rule(out: &mut Vec<u8>, rule: u32) -> Result<(), AllocError>
+    ensures { OnOk result (out.new.items ≡ out.old.items ++ rule_text rule) }
+{
+    out.extend_from_slice(b", rule ")?;
+    put_number(out, rule)?;
+    Ok(out.push(b'\n')?)
+}
+
 /// The program's name, a file's, and what is the matter with it.
-#[tactic(auto, unfolding(job_calls::specs::ErrorLines::about))]
+#[tactic(auto, unfolding(crate::specs::ErrorLines::about))]
 fn put_about(out: &mut Vec<u8>, name: &Text, matter: &[u8]) -> Result<(), AllocError>
     ensures { OnOk result (out.new.items ≡ out.old.items ++ about name.now matter.now) }
 {
@@ -77,39 +100,5 @@ fn put_kind(out: &mut Vec<u8>, kind: &Kind) -> Result<(), AllocError>
             out.push(b' ')?;
             out.extend_from_slice(name.as_bytes())
         }
-    }
-}
-
-#[cfg(test)]
-mod tests {
-    use super::*;
-    use std::test::Fail;
-
-    #[test]
-    fn each_line(rt: HostRuntime) -> Result<(), Fail> {
-        let alloc = rt.alloc();
-        let name = Text::from_string(String::from_str(alloc, "a.mos")?);
-        assert_eq!(rt;
-            write_usage(alloc)?.as_bytes(),
-            b"mosel: usage\n".as_slice()
-        );
-        assert_eq!(rt;
-            write_missing(alloc, &name)?.as_bytes(),
-            b"mosel: a.mos: missing\n".as_slice()
-        );
-        assert_eq!(rt;
-            write_too_large(alloc, &name)?.as_bytes(),
-            b"mosel: a.mos: too large\n".as_slice()
-        );
-        assert_eq!(rt;
-            write_read_fault(alloc, &name)?.as_bytes(),
-            b"mosel: a.mos: read fault\n".as_slice()
-        );
-        let kind = Kind::Unknown(Text::from_string(String::from_str(alloc, "x")?));
-        assert_eq!(rt;
-            write_verdict(alloc, &name, 2, &kind)?.as_bytes(),
-            b"mosel: a.mos line 2: UNKNOWN x\n".as_slice()
-        );
-        Ok(())
     }
 }

@@ -1,8 +1,9 @@
 //! A journal and its runs as the text of a report. Each function adds one part of the text; they
 //! are cut as the text's definition is.
 ghost use Rattle.std.specs.Prelude.{◌≡◌, ◌++◌, length, IfOk, OnOk};
-ghost use Rattle.job_calls.specs.ReportText.{caller_text, counts_text, entry_line, entry_lines, output_text, report_text, run_end_text, run_head, run_line, run_lines};
+ghost use Rattle.hub_text.specs.ReportText.{caller_text, counts_text, entry_line, entry_lines, output_text, report_text, run_end_text, run_head, run_line, run_lines};
 
+use crate::report::Report;
 use job_calls::{Entry, RunEnd, RunLine};
 use mos_text::{Blob, NoMemory};
 use std::alloc::{AllocError, Global};
@@ -15,11 +16,13 @@ use calls::{put_call, put_end};
 use replies::put_reply;
 pub use words::put_number;
 
-/// The report of a journal and of its runs, run 0 first.
-#[tactic(auto, unfolding(job_calls::specs::ReportText::report_text))]
-pub fn write_report(alloc: Global, runs: &[RunLine], entries: &[Entry]) -> Result<Blob, NoMemory>
-    ensures { IfOk result (λ text. text ≡ report_text entries.now runs.now) }
+/// The text of a report.
+#[tactic(auto, unfolding(crate::specs::ReportText::report_text))]
+pub fn write_report(alloc: Global, report: &Report) -> Result<Blob, NoMemory>
+    ensures { IfOk result (λ text. text ≡ report_text report.now.entries report.now.runs) }
 {
+    let runs = report.runs.as_slice();
+    let entries = report.entries.as_slice();
     let mut out = Vec::new(alloc);
     out.extend_from_slice(b"mosel report 1\n")?;
     put_runs(&mut out, runs)?;
@@ -41,7 +44,7 @@ fn put_runs(out: &mut Vec<u8>, runs: &[RunLine]) -> Result<(), AllocError>
 }
 
 /// A run's line, its output and a newline.
-#[tactic(auto, unfolding(job_calls::specs::ReportText::run_line))]
+#[tactic(auto, unfolding(crate::specs::ReportText::run_line))]
 fn put_run(out: &mut Vec<u8>, number: usize, line: &RunLine) -> Result<(), AllocError>
     ensures { OnOk result (out.new.items ≡ out.old.items ++ run_line number line.now) }
 {
@@ -52,7 +55,7 @@ fn put_run(out: &mut Vec<u8>, number: usize, line: &RunLine) -> Result<(), Alloc
     put_output(out, output)
 }
 
-#[tactic(auto, unfolding(job_calls::specs::ReportText::run_head))]
+#[tactic(auto, unfolding(crate::specs::ReportText::run_head))]
 fn put_run_head(out: &mut Vec<u8>, number: usize, source: &[u8]) -> Result<(), AllocError>
     ensures { OnOk result (out.new.items ≡ out.old.items ++ run_head number source.now) }
 {
@@ -63,7 +66,7 @@ fn put_run_head(out: &mut Vec<u8>, number: usize, source: &[u8]) -> Result<(), A
     Ok(out.push(b' ')?)
 }
 
-#[tactic(auto, unfolding(job_calls::specs::ReportText::output_text))]
+#[tactic(auto, unfolding(crate::specs::ReportText::output_text))]
 fn put_output(out: &mut Vec<u8>, output: &[u8]) -> Result<(), AllocError>
     ensures { OnOk result (out.new.items ≡ out.old.items ++ output_text output.now) }
 {
@@ -72,7 +75,7 @@ fn put_output(out: &mut Vec<u8>, output: &[u8]) -> Result<(), AllocError>
     Ok(out.push(b'\n')?)
 }
 
-#[tactic(auto, unfolding(job_calls::specs::ReportText::run_end_text))]
+#[tactic(auto, unfolding(crate::specs::ReportText::run_end_text))]
 fn put_run_end(out: &mut Vec<u8>, end: &RunEnd) -> Result<(), AllocError>
     ensures { OnOk result (out.new.items ≡ out.old.items ++ run_end_text end.now) }
 {
@@ -85,7 +88,7 @@ fn put_run_end(out: &mut Vec<u8>, end: &RunEnd) -> Result<(), AllocError>
     }
 }
 
-#[tactic(auto, unfolding(job_calls::specs::ReportText::counts_text))]
+#[tactic(auto, unfolding(crate::specs::ReportText::counts_text))]
 fn put_counts(
     out: &mut Vec<u8>,
     ticks: u32,
@@ -111,7 +114,7 @@ fn put_entries(out: &mut Vec<u8>, entries: &[Entry]) -> Result<(), AllocError>
     Ok(())
 }
 
-#[tactic(auto, unfolding(job_calls::specs::ReportText::entry_line))]
+#[tactic(auto, unfolding(crate::specs::ReportText::entry_line))]
 fn put_entry(out: &mut Vec<u8>, place: usize, entry: &Entry) -> Result<(), AllocError>
     ensures { OnOk result (out.new.items ≡ out.old.items ++ entry_line place entry.now) }
 {
@@ -127,7 +130,7 @@ fn put_entry(out: &mut Vec<u8>, place: usize, entry: &Entry) -> Result<(), Alloc
     Ok(out.push(b'\n')?)
 }
 
-#[tactic(auto, unfolding(job_calls::specs::ReportText::caller_text))]
+#[tactic(auto, unfolding(crate::specs::ReportText::caller_text))]
 fn put_caller(out: &mut Vec<u8>, caller: Option<u32>) -> Result<(), AllocError>
     ensures { OnOk result (out.new.items ≡ out.old.items ++ caller_text caller) }
 {
@@ -136,6 +139,3 @@ fn put_caller(out: &mut Vec<u8>, caller: Option<u32>) -> Result<(), AllocError>
         Some(run) => put_number(out, run),
     }
 }
-
-#[cfg(test)]
-mod tests;

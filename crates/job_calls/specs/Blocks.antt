@@ -1,8 +1,7 @@
 -- Blocks of memory and files: what was last written under a name.
 
-use Rattle.std.specs.Prelude.{ℕ, Bool, false, List, [], Option, Some, None, if◌then◌else◌, slice_get}
+use Rattle.std.specs.Prelude.{ℕ, Bool, false, List, Option, Some, None, if◌then◌else◌, option_map, option_and_then, slice_get}
 use Rattle.std.specs.List.{enumerate_from}
-use Rattle.std.specs.Option.{option_map_or}
 use Rattle.std.specs.Str.{bytes_eq}
 use Rattle.job_calls.specs.declared.call.Call.{Call}
 use Rattle.job_calls.specs.declared.call.Call.TheVariants.{Write}
@@ -24,10 +23,22 @@ writes name _ _ = false
 abbrev pub last_write : List ℕ → List Entry → Option ℕ
 last_write name journal = last_place (λ e. writes name e.call e.reply) journal
 
-abbrev pub written : Call → List ℕ
-written (Write name bytes) = bytes
-written _ = []
+-- the bytes that a call writes
+abbrev pub bytes_written : Call → Option (List ℕ)
+bytes_written (Write name bytes) = Some bytes
+bytes_written call = None
 
--- the bytes that the entry at this place wrote
-abbrev pub written_at : ℕ → List Entry → List ℕ
-written_at place journal = option_map_or (λ (e : Entry). written e.call) (slice_get journal place) []
+-- bytes that were written, and the place of the entry that wrote them
+pub record Written : Type 0 where
+  pub place : ℕ
+  pub bytes : List ℕ
+
+-- what the entry at this place wrote
+abbrev pub written_at : ℕ → List Entry → Option Written
+written_at place journal =
+    option_map (λ bytes. record { place = place; bytes = bytes })
+    (option_and_then (λ e. bytes_written e.call) (slice_get journal place))
+
+-- what was last written under this name
+abbrev pub last_written : List ℕ → List Entry → Option Written
+last_written name journal = option_and_then (λ place. written_at place journal) (last_write name journal)

@@ -1,7 +1,6 @@
 -- Events: which run each goes to, and the queue of those that a run has not taken.
 
-use Rattle.std.specs.Prelude.{ℕ, ℤ, pos, Bool, true, false, ◌&&◌, List, Option, Some, None, count_by, drop, filter, map, slice_get}
-use Rattle.std.specs.Option.{option_map_or}
+use Rattle.std.specs.Prelude.{ℕ, ℤ, pos, Bool, true, false, ◌&&◌, List, Option, Some, None, count_by, drop, filter, map, option_and_then, slice_get}
 use Rattle.job_calls.specs.declared.call.Call.{Call}
 use Rattle.job_calls.specs.declared.call.Call.TheVariants.{Finish, Send}
 use Rattle.job_calls.specs.declared.reply.Reply.{Reply}
@@ -18,6 +17,7 @@ receiver_of before run (Send to class value) (Queued receiver) = Some receiver
 receiver_of before (Some run) (Finish end) reply = parent_of run before
 receiver_of before run call reply = None
 
+-- this entry makes an event for run r
 abbrev pub comes_to : ℕ → Moment → Bool
 comes_to r m = is_run r (receiver_of m.before m.entry.run m.entry.call m.entry.reply)
 
@@ -38,12 +38,26 @@ taken_count r journal = count_by (λ e. is_run r e.run && is_took e.reply) journ
 abbrev pub queue : ℕ → List Entry → List ℕ
 queue r journal = drop (taken_count r journal) (arrivals r journal)
 
--- the class and value of the event that a call makes; the end of a run has class 1
-abbrev pub event_of : Call → ℤ × ℤ
-event_of (Send to class value) = (class, value)
-event_of (Finish end) = (pos 1, exit_code end)
-event_of _ = (pos 0, pos 0)
+-- the place of the first event that a run has not taken
+abbrev pub first_event : ℕ → List Entry → Option ℕ
+first_event run journal = slice_get (queue run journal) 0
 
--- the class and value of the event at this place
-abbrev pub event_at : ℕ → List Entry → ℤ × ℤ
-event_at place journal = option_map_or (λ (e : Entry). event_of e.call) (slice_get journal place) (pos 0, pos 0)
+-- an event at its place
+pub record Event : Type 0 where
+  pub place : ℕ
+  pub class : ℤ
+  pub value : ℤ
+
+-- the event that a call makes at this place; the end of a run has class 1
+abbrev pub event_of : ℕ → Call → Option Event
+event_of place (Send to class value) = Some record { place = place; class = class; value = value }
+event_of place (Finish end) = Some record { place = place; class = pos 1; value = exit_code end }
+event_of place call = None
+
+-- the event at this place
+abbrev pub event_at : ℕ → List Entry → Option Event
+event_at place journal = option_and_then (λ e. event_of place e.call) (slice_get journal place)
+
+-- the first event that a run has not taken
+abbrev pub front : ℕ → List Entry → Option Event
+front run journal = option_and_then (λ place. event_at place journal) (first_event run journal)

@@ -1,48 +1,33 @@
 -- The listed files of a job: sources, data files, and an image.
 
-use Rattle.std.specs.Prelude.{ℕ, ◌-◌, Bool, ◌&&◌, not, List, [], Option, length, drop, codes, find, position, option_map}
+use Rattle.std.specs.Prelude.{ℕ, Bool, ◌&&◌, not, List, [], Option, find, position, option_map, option_and_then, slice_get}
 use Rattle.std.specs.Option.{option_map_or}
 use Rattle.std.specs.Str.{bytes_eq}
+use Rattle.mos_text.specs.FileName.{is_source_name, is_image_name}
 use Rattle.job_calls.specs.declared.entry.Entry.{Entry}
 use Rattle.job_calls.specs.declared.entry.Listed.{Listed}
-use Rattle.job_calls.specs.Runs.{Opening, opening}
+use Rattle.job_calls.specs.Runs.{Opening, opening, source_of}
 
--- the last so many bytes of a name
-abbrev pub last_bytes : ℕ → List ℕ → List ℕ
-last_bytes many name = drop (length name - many) name
-
--- how the names of sources and images end
-abbrev pub source_ending : List ℕ
-source_ending = codes ".mos"
-
-abbrev pub image_ending : List ℕ
-image_ending = codes ".bim"
-
--- the name ends in these bytes
-abbrev pub has_ending : List ℕ → List ℕ → Bool
-has_ending ending name = bytes_eq (last_bytes (length ending) name) ending
-
--- a file is a source, an image, or else a data file
-abbrev pub is_source : List ℕ → Bool
-is_source name = has_ending source_ending name
-
-abbrev pub is_image : List ℕ → Bool
-is_image name = has_ending image_ending name
-
+-- a file that is neither a source nor an image is a data file
 abbrev pub is_data : List ℕ → Bool
-is_data name = not (is_source name) && not (is_image name)
+is_data name = not (is_source_name name) && not (is_image_name name)
 
--- the files, and the number of lanes, that the job was opened with
+-- the files that the job was opened with
 abbrev pub files_of : List Entry → List Listed
 files_of journal = option_map_or (λ (o : Opening). o.files) (opening journal) []
 
+-- and the number of lanes
 abbrev pub lanes_of : List Entry → ℕ
 lanes_of journal = option_map_or (λ (o : Opening). o.lanes) (opening journal) 0
+
+-- the listed file that is the source of run k
+abbrev pub file_of : ℕ → List Entry → Option Listed
+file_of k journal = option_and_then (λ source. slice_get (files_of journal) source) (source_of k journal)
 
 -- the code of the listed source of this name; 1 where there is none
 abbrev pub code_of : List ℕ → List Entry → ℕ
 code_of name journal =
-    option_map_or (λ (file : Listed). file.code) (find (λ file. bytes_eq file.name name && is_source file.name) (files_of journal)) 1
+    option_map_or (λ (file : Listed). file.code) (find (λ file. bytes_eq file.name name && is_source_name file.name) (files_of journal)) 1
 
 -- the place of the listed file of this name
 abbrev pub file_at : List ℕ → List Entry → Option ℕ

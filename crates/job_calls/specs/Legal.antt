@@ -1,33 +1,21 @@
 -- The legal journals: those that one hub, asked by one lane after the other, can have written.
 
-use Rattle.std.specs.Prelude.{◌≡◌, ℕ, ◌≤◌, List, [], ◌∷◌, ◌++◌, Option, Some, None, length, IsTrue, All, ◌≢◌, ◌⊎◌}
+use Rattle.std.specs.Prelude.{◌≡◌, ◌≤◌, List, [], ◌∷◌, ◌++◌, Option, Some, None, ◌||◌, length, IsTrue, All, ◌≢◌}
 use Rattle.std.specs.List.{list_all}
-use Rattle.mos_text.specs.FileName.{is_file_name}
+use Rattle.mos_text.specs.FileName.{is_file_name, is_source_name, is_image_name}
 use Rattle.job_calls.specs.declared.reply.Answer.TheVariants.{Ready}
 use Rattle.job_calls.specs.declared.reply.Reply.TheVariants.{Opened}
 use Rattle.job_calls.specs.declared.entry.Entry.{Entry}
 use Rattle.job_calls.specs.declared.entry.Listed.{Listed}
 use Rattle.job_calls.specs.Words.{own_entries}
 use Rattle.job_calls.specs.Runs.{Opening, opening, opening_of}
-use Rattle.job_calls.specs.Files.{last_bytes, source_ending, image_ending}
 use Rattle.job_calls.specs.Answers.{answer_of}
 use Rattle.job_calls.specs.Fitting.{fits}
-
--- the name ends in these bytes
-abbrev pub ends_in : List ℕ → List ℕ → Type 0
-ends_in ending name = last_bytes (length ending) name ≡ ending
-
--- the name of a source, and that of an image
-abbrev pub IsSourceName : List ℕ → Type 0
-IsSourceName name = ends_in source_ending name
-
-abbrev pub IsImageName : List ℕ → Type 0
-IsImageName name = ends_in image_ending name
 
 -- the first of the files can be the master: a source that is accepted, or an image
 abbrev pub IsMaster : List Listed → Type 0
 IsMaster [] = ⊥
-IsMaster (file ∷ files) = (IsSourceName file.name ⊎ IsImageName file.name) × (file.code ≡ 0)
+IsMaster (file ∷ files) = IsTrue (is_source_name file.name || is_image_name file.name) × (file.code ≡ 0)
 
 -- no name is that of a later file
 abbrev pub HaveDistinctNames : List Listed → Type 0
@@ -45,6 +33,7 @@ pub record CanOpen (o : Opening) : Type 0 where
   pub names : IsTrue (list_all (λ file. is_file_name file.name) o.files)
   pub distinct : HaveDistinctNames o.files
 
+-- there is such an opening
 abbrev pub OpensSo : Option Opening → Type 0
 OpensSo None = ⊥
 OpensSo (Some o) = CanOpen o
@@ -66,6 +55,7 @@ abbrev pub FollowOn : List Entry → List Entry → Type 0
 FollowOn before [] = Unit {0}
 FollowOn before (e ∷ es) = Follows before e × FollowOn (before ++ e ∷ []) es
 
+-- an opening, and entries that follow it, one by one
 abbrev pub IsLegal : List Entry → Type 0
 IsLegal [] = ⊥
 IsLegal (e ∷ es) = IsOpening e × FollowOn (e ∷ []) es

@@ -6,16 +6,17 @@ use Rattle.std.specs.List.{list_any, range_with_len}
 use Rattle.std.specs.Option.{option_map_or}
 use Rattle.std.specs.Str.{bytes_eq}
 use Rattle.job_calls.specs.declared.call.Call.{Call}
-use Rattle.job_calls.specs.declared.call.Call.TheVariants.{Compile, Run, Stop, Unload}
+use Rattle.job_calls.specs.declared.call.Call.TheVariants.{Compile, Stop, Unload}
 use Rattle.job_calls.specs.declared.end.End.{End}
 use Rattle.job_calls.specs.declared.end.End.TheVariants as end
 use Rattle.job_calls.specs.declared.reply.Reply.{Reply}
-use Rattle.job_calls.specs.declared.reply.Reply.TheVariants.{Code, Loaded, Started}
+use Rattle.job_calls.specs.declared.reply.Reply.TheVariants.{Code, Loaded}
 use Rattle.job_calls.specs.declared.reply.Reply.TheVariants as reply
 use Rattle.job_calls.specs.declared.entry.Entry.{Entry}
 use Rattle.job_calls.specs.Moments.{Moment, moments}
 use Rattle.job_calls.specs.Words.{is_run, is_finished, run_count}
-use Rattle.job_calls.specs.Runs.{last_given, finish_of}
+use Rattle.job_calls.specs.Files.{file_at}
+use Rattle.job_calls.specs.Runs.{last_given, finish_of, start_of, start_of_run}
 
 -- the source whose image was made under this name
 abbrev pub compiled_to : List ℕ → Call → Reply → Option (List ℕ)
@@ -25,6 +26,10 @@ compiled_to file _ _ = None
 -- the last source whose image was made under this name
 abbrev pub compiled_from : List ℕ → List Entry → Option (List ℕ)
 compiled_from file journal = last_given (λ e. compiled_to file e.call e.reply) journal
+
+-- the place, in the list of files, of the source that the image of this name was last made of
+abbrev pub image_source : List ℕ → List Entry → Option ℕ
+image_source file journal = option_and_then (λ src. file_at src journal) (compiled_from file journal)
 
 -- a model was loaded
 abbrev pub is_loading : Reply → Bool
@@ -46,27 +51,22 @@ abbrev pub is_loaded : ℕ → List Entry → Bool
 is_loaded m journal = unwrap_or (last_given (λ e. loads m e.call e.reply) journal) false
 
 -- the run that this entry started of the model
-abbrev pub run_of_model : ℕ → Call → Reply → Option ℕ
-run_of_model m (Run model params) (Started run) = if nat_eq model m then Some run else None
-run_of_model m _ _ = None
+abbrev pub run_of_model : ℕ → Entry → Option ℕ
+run_of_model m e = option_and_then (λ start. if nat_eq start.model m then Some start.run else None) (start_of e)
 
 -- the last run of the model
 abbrev pub current_run : ℕ → List Entry → Option ℕ
-current_run m journal = last_given (λ e. run_of_model m e.call e.reply) journal
-
--- the reply says that run k was started
-abbrev pub starts : ℕ → Reply → Bool
-starts k (Started run) = nat_eq run k
-starts k _ = false
+current_run m journal = last_given (run_of_model m) journal
 
 -- the run that started run k
 abbrev pub parent_of : ℕ → List Entry → Option ℕ
-parent_of k journal = last_given (λ e. if starts k e.reply then e.run else None) journal
+parent_of k journal = last_given (λ e. option_and_then (λ start. start.parent) (start_of_run k e)) journal
 
 -- a run is live from its start to its end
 abbrev pub is_live : ℕ → List Entry → Bool
 is_live k journal = nat_lt k (run_count journal) && not (is_finished k journal)
 
+-- the runs that are live, in order
 abbrev pub live_runs : List Entry → List ℕ
 live_runs journal = filter (λ k. is_live k journal) (range_with_len 0 (run_count journal))
 

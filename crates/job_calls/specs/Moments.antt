@@ -8,6 +8,7 @@ pub record Moment : Type 0 where
   pub before : List Entry
   pub entry : Entry
 
+-- the moments of entries that stand behind these
 abbrev pub moments_from : List Entry → List Entry → List Moment
 moments_from before [] = []
 moments_from before (e ∷ es) = record { before = before; entry = e } ∷ moments_from (before ++ e ∷ []) es

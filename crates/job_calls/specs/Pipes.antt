@@ -16,6 +16,7 @@ use Rattle.job_calls.specs.Words.{is_run, is_finish}
 use Rattle.job_calls.specs.Runs.{last_given}
 use Rattle.job_calls.specs.Blocks.{last_place}
 
+-- both are one end
 abbrev pub is_way : Way → Way → Bool
 is_way Reads Reads = true
 is_way Writes Writes = true
@@ -26,6 +27,7 @@ abbrev pub opened_session : Way → List ℕ → Call → Reply → Option ℕ
 opened_session way name (PipeOpen opened end) (Session place) = if is_way way end && bytes_eq opened name then Some place.0 else None
 opened_session way name _ _ = None
 
+-- an entry opens this end of the pipe
 abbrev pub opens : Way → List ℕ → Entry → Bool
 opens way name e = is_some (opened_session way name e.call e.reply)
 
@@ -34,10 +36,14 @@ abbrev pub is_close : List ℕ → Call → Reply → Bool
 is_close name (PipeClose closed) reply.Unit = bytes_eq closed name
 is_close name _ _ = false
 
--- a run closes its ends of the pipe, or all its ends as it finishes
+-- a run lets go of its ends of the pipe: it closes them, or finishes
+abbrev pub lets_go : List ℕ → Call → Reply → Bool
+lets_go name call reply = is_close name call reply || is_finish call
+
+-- the run that held an end lets go of it
 abbrev pub closes : List ℕ → Option ℕ → Entry → Bool
 closes name None e = false
-closes name (Some run) e = is_run run e.run && (is_close name e.call e.reply || is_finish e.call)
+closes name (Some run) e = is_run run e.run && lets_go name e.call e.reply
 
 -- the run that holds this end of the pipe, after one more entry
 abbrev pub holder_after : Way → List ℕ → Option ℕ → Entry → Option ℕ
@@ -56,6 +62,7 @@ session name journal = last_place (opens Reads name) journal
 abbrev pub writers_session : List ℕ → List Entry → Option ℕ
 writers_session name journal = last_given (λ e. opened_session Writes name e.call e.reply) journal
 
+-- both are there, and are one session
 abbrev pub is_session : Option ℕ → Option ℕ → Bool
 is_session (Some place) (Some other) = nat_eq place other
 is_session _ _ = false
@@ -78,18 +85,21 @@ is_ended name journal = had_writer name journal && is_none (holder Writes name j
 abbrev pub in_session : List ℕ → List Entry → List Entry
 in_session name journal = option_map_or (λ place. drop (place + 1) journal) (session name journal) []
 
+-- the bytes that a call puts into the pipe
 abbrev pub put_by : List ℕ → Call → Reply → List ℕ
 put_by name (PipePut put bytes) reply.Unit = if bytes_eq put name then bytes else []
 put_by name _ _ = []
 
+-- the bytes that a call takes out of it
 abbrev pub taken_by : List ℕ → Call → Reply → List ℕ
 taken_by name (PipeTake taken) (Bytes bytes) = if bytes_eq taken name then bytes else []
 taken_by name _ _ = []
 
--- the bytes that were put into the pipe, and those that were taken out of it, by these entries
+-- the bytes that were put into the pipe by these entries
 abbrev pub put_in : List ℕ → List Entry → List ℕ
 put_in name entries = flat_map (λ e. put_by name e.call e.reply) entries
 
+-- and those that were taken out of it
 abbrev pub taken_in : List ℕ → List Entry → List ℕ
 taken_in name entries = flat_map (λ e. taken_by name e.call e.reply) entries
 

@@ -13,14 +13,17 @@ abbrev pub is_run : ℕ → Option ℕ → Bool
 is_run k None = false
 is_run k (Some run) = nat_eq run k
 
+-- the lane ends the job before its time
 abbrev pub is_quit : Call → Bool
 is_quit Quit = true
 is_quit _ = false
 
+-- the lane asks for a run
 abbrev pub is_claim : Call → Bool
 is_claim Claim = true
 is_claim _ = false
 
+-- the run has ended
 abbrev pub is_finish : Call → Bool
 is_finish (Finish end) = true
 is_finish _ = false
@@ -35,6 +38,7 @@ abbrev pub claims : ℕ → Reply → Bool
 claims k (Claimed run source params) = nat_eq run k
 claims k _ = false
 
+-- the job is done
 abbrev pub is_done : Reply → Bool
 is_done Done = true
 is_done _ = false

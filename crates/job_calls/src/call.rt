@@ -1,3 +1,4 @@
+//! What a lane or a run asks of the hub.
 ghost use Rattle.std.specs.Prelude.{◌≡◌, IfOk};
 
 use crate::end::End;

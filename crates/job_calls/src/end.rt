@@ -1,3 +1,4 @@
+//! How a run ended.
 use mos_text::FaultKind;
 
 /// How a run ended.

@@ -1,3 +1,4 @@
+//! An entry of the journal, and the files that its first entry lists.
 ghost use Rattle.std.specs.Prelude.{◌≡◌, IfOk};
 
 use crate::call::Call;

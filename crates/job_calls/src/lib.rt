@@ -9,10 +9,7 @@
 mod call;
 mod end;
 mod entry;
-pub mod journals;
-pub mod laws;
 mod reply;
-pub mod report;
 mod run_line;
 
 pub use call::{Call, Way};

@@ -1,5 +1,6 @@
-ghost use Rattle.std.specs.Prelude.{◌≡◌, IfOk, IsOk, IsTrue};
-ghost use Rattle.job_calls.specs.Replies.{is_plain};
+//! What the hub answers.
+ghost use Rattle.std.specs.Prelude.{◌≡◌, ◌<◌, ◌^◌, All, IfOk, IsOk, IsTrue};
+ghost use Rattle.job_calls.specs.Replies.{InRange, is_plain};
 
 use mos_text::{Blob, FaultKind, NoMemory, Place, SharedBlob, Text};
 use std::alloc::Global;
@@ -72,6 +73,65 @@ pub enum Answer {
 }
 
 impl Reply {
+    /// What a reply holds is in the ranges of its types: it does nothing, and says so.
+    pub fn in_range(&self)
+        ensures { InRange self.now }
+    {
+        match self {
+            Reply::Claimed { run, source, .. } => {
+                let _numbers = (*run, *source);
+            }
+            Reply::Code(code) => {
+                let _code = *code;
+            }
+            Reply::Loaded { model, source } => {
+                let _numbers = (*model, *source);
+            }
+            Reply::Started { run } => {
+                let _run = *run;
+            }
+            Reply::Took {
+                place,
+                class,
+                value,
+            } => {
+                let _numbers = (*class, *value);
+                place_in_range(*place);
+            }
+            Reply::Seen {
+                place,
+                class,
+                value,
+            } => {
+                let _numbers = (*class, *value);
+                place_in_range(*place);
+            }
+            Reply::Queued { run } => {
+                let _run = *run;
+            }
+            Reply::Number(number) => {
+                let _number = *number;
+            }
+            Reply::Found { place, bytes } => {
+                place_in_range(*place);
+                bytes_in_range(bytes.as_bytes())
+            }
+            Reply::Session { place } => {
+                place_in_range(*place);
+            }
+            Reply::Bytes(bytes) => bytes_in_range(bytes.as_bytes()),
+            Reply::Opened
+            | Reply::Done
+            | Reply::Unit
+            | Reply::Nothing
+            | Reply::Flag(_)
+            | Reply::Lost
+            | Reply::PipeEnd
+            | Reply::Halt
+            | Reply::Fault(_) => (),
+        }
+    }
+
     /// The same reply once more; the bytes of blocks are shared and not copied. A reply without texts
     /// and bytes takes no memory.
     pub fn copy(&self, alloc: Global) -> Result<Reply, NoMemory>
@@ -132,3 +192,13 @@ impl Reply {
         })
     }
 }
+
+/// The bytes of a slice are bytes.
+fn bytes_in_range(_bytes: &[u8])
+    ensures { All (λ byte. byte < 2 ^ 8) _bytes.now }
+{}
+
+/// The number of a place fits 32 bits.
+fn place_in_range(_place: Place)
+    ensures { _place.0 < 2 ^ 32 }
+{}

@@ -1,3 +1,4 @@
+//! What a report and a lane keep of a run.
 use crate::call::Call;
 use crate::end::End;
 use mos_text::{Blob, Text};

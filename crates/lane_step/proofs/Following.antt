@@ -9,8 +9,8 @@ use Rattle.job_calls.specs.declared.run_line.RunLine.{RunLine}
 use Rattle.job_calls.specs.Runs.{Opening, calls_of, replies_of}
 use Rattle.job_calls.specs.Replies.{AllFit}
 use Rattle.bim_code.specs.declared.image.Image.{Image}
-use Rattle.mos_meaning.specs.State.{Outcome}
-use Rattle.mos_meaning.specs.Machine.{Course, course_of}
+use Rattle.run_state.specs.Stops.{Outcome}
+use Rattle.bim_machine.specs.Courses.{course_of}
 use Rattle.mos_meaning.specs.Follows.{Behaviour, FollowsSources, Follows, RunFollows, EndsSo, end_of}
 use Rattle.mos_vm.specs.declared.runner.RunResult.{RunResult}
 use Rattle.mos_vm.specs.Courses.{IsCourse, outcome_of, stop_of}

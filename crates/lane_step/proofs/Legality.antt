@@ -16,7 +16,7 @@ use Rattle.job_calls.specs.Runs.{Opening, opening}
 use Rattle.job_calls.specs.Answers.{claim_answer, next_run}
 use Rattle.job_calls.specs.Fitting.{fits, below_lanes, held_run, was_done}
 use Rattle.job_calls.specs.Legal.{CanOpen, IsLegal, Follows, FollowOn}
-use Rattle.lane_step.specs.Schedule.{opened, claimed, finished, done_entry, dones, schedule_of}
+use Rattle.lane_step.specs.Schedule.{open_entry, claim_entry, finish_entry, done_entry, done_entries, schedule_of}
 
 -- run 0 has ended, and there is no other run
 pub record IsEnded (o : Opening) (before : List Entry) : Type 0 where
@@ -83,7 +83,7 @@ own_other lane other before apart =
 
 follow_dones : (o : Opening) (before : List Entry) (lane many : ℕ) → IsEnded o before
     → 1 ≤ lane → lane + many ≡ o.lanes
-    → ((l : ℕ) → lane ≤ l → own_entries l before ≡ []) → IsFree before 0 → FollowOn before (dones lane many)
+    → ((l : ℕ) → lane ≤ l → own_entries l before ≡ []) → IsFree before 0 → FollowOn before (done_entries lane many)
 follow_dones o before lane zero h some all none free = (lane_done o before 0 h free (omega arith), tt)
 follow_dones o before lane (suc many) h some all none free = (
   lane_done o before lane h (free_by before lane (none lane (omega arith))) (omega arith),
@@ -97,7 +97,7 @@ follow_dones o before lane (suc many) h some all none free = (
 
 -- the entries up to the end of run 0
 abbrev head : Opening → End → List Entry
-head o end = opened o ∷ claimed o.params ∷ finished end ∷ []
+head o end = open_entry o ∷ claim_entry o.params ∷ finish_entry end ∷ []
 
 head_ended : (o : Opening) (end : End) → IsEnded o (head o end)
 head_ended o end = record { opened_by = refl; no_quit = refl; claimed_0 = refl; finished_0 = refl; one_run = refl }
@@ -106,7 +106,7 @@ head_ended o end = record { opened_by = refl; no_quit = refl; claimed_0 = refl; 
 head_own : (o : Opening) (end : End) (lane : ℕ) → 1 ≤ lane → own_entries lane (head o end) ≡ []
 head_own o end lane some =
     let apart : nat_eq 0 lane ≡ false = ne_eqb 0 lane (λ e. absurd (omega arith)) in
-    ap (λ b. if b then opened o ∷ (if b then claimed o.params ∷ (if b then finished end ∷ [] else []) else (if b then finished end ∷ [] else [])) else (if b then claimed o.params ∷ (if b then finished end ∷ [] else []) else (if b then finished end ∷ [] else []))) apart
+    ap (λ b. if b then open_entry o ∷ (if b then claim_entry o.params ∷ (if b then finish_entry end ∷ [] else []) else (if b then finish_entry end ∷ [] else [])) else (if b then claim_entry o.params ∷ (if b then finish_entry end ∷ [] else []) else (if b then finish_entry end ∷ [] else []))) apart
 
 pub is_legal : (o : Opening) (end : End) → CanOpen o → IsLegal (schedule_of o end)
 is_legal o end can =

@@ -1,6 +1,6 @@
 -- The journal of the one-thread schedule is whole: no lane quits, each run ends, each lane is told last.
 
-use Rattle.std.proofs.Common.{◌≡◌, ◌≤◌, ◌<◌, ◌≢◌, ℕ, ◌+◌, ◌-◌, zero, suc, Bool, true, false, ◌&&◌, ◌||◌, not, List, [], ◌∷◌, Option, Some, None, refl, sym, ap, ◌∙◌, subst, nat_eq, map, ne_eqb, inl, inr, arith}
+use Rattle.std.proofs.Common.{◌≡◌, ◌≤◌, ◌<◌, ◌≢◌, ℕ, ◌+◌, ◌-◌, zero, suc, Bool, true, false, ◌&&◌, ◌||◌, not, List, [], ◌∷◌, Some, None, refl, sym, ap, ◌∙◌, subst, nat_eq, map, ne_eqb, inl, inr, arith}
 use Rattle.std.specs.Prelude.{filter, if◌then◌else◌, ◌⊎◌}
 use Rattle.std.specs.List.{list_any, fold}
 use Rattle.std.proofs.lemmas.Bool.Decides.{eqb_tells}
@@ -9,30 +9,31 @@ use Rattle.job_calls.specs.declared.entry.Entry.{Entry}
 use Rattle.job_calls.specs.Words.{is_run, is_quit, is_finish, is_started, own_entries, has_quit, run_count, is_finished}
 use Rattle.job_calls.specs.Runs.{Opening, acts_of, calls_of, replies_of, finish, finish_of, last_given, later}
 use Rattle.job_calls.specs.Legal.{CanOpen}
-use Rattle.lane_step.specs.Schedule.{opened, claimed, finished, done_entry, dones, schedule_of}
-use Rattle.lane_step.specs.Whole.{EndsDone, IsWhole}
+use Rattle.lane_step.specs.Schedule.{open_entry, claim_entry, finish_entry, done_entry, done_entries, schedule_of}
+use Rattle.job_laws.specs.Lanes.{EndsDone}
+use Rattle.lane_step.specs.Whole.{IsWhole}
 use Rattle.lane_step.proofs.Legality.{is_legal}
 
 -- what holds of none of the last entries
-dones_none : (test : Entry → Bool) → ((lane : ℕ) → test (done_entry lane) ≡ false) → (lane many : ℕ) → list_any test (dones lane many) ≡ false
+dones_none : (test : Entry → Bool) → ((lane : ℕ) → test (done_entry lane) ≡ false) → (lane many : ℕ) → list_any test (done_entries lane many) ≡ false
 dones_none test h lane zero = ap (λ b. b || false) (h 0)
-dones_none test h lane (suc many) = ap (λ b. b || list_any test (dones (lane + 1) many)) (h lane) ∙ dones_none test h (lane + 1) many
+dones_none test h lane (suc many) = ap (λ b. b || list_any test (done_entries (lane + 1) many)) (h lane) ∙ dones_none test h (lane + 1) many
 
-dones_kept : (test : Entry → Bool) → ((lane : ℕ) → test (done_entry lane) ≡ false) → (lane many : ℕ) → filter test (dones lane many) ≡ []
+dones_kept : (test : Entry → Bool) → ((lane : ℕ) → test (done_entry lane) ≡ false) → (lane many : ℕ) → filter test (done_entries lane many) ≡ []
 dones_kept test h lane zero = ap (λ b. if b then done_entry 0 ∷ [] else []) (h 0)
 dones_kept test h lane (suc many) =
-    ap (λ b. if b then done_entry lane ∷ filter test (dones (lane + 1) many) else filter test (dones (lane + 1) many)) (h lane)
+    ap (λ b. if b then done_entry lane ∷ filter test (done_entries (lane + 1) many) else filter test (done_entries (lane + 1) many)) (h lane)
     ∙ dones_kept test h (lane + 1) many
 
-no_starts : (lane many n : ℕ) → fold (λ (a : ℕ) (e : Entry). a + (if is_started e.reply then 1 else 0)) n (dones lane many) ≡ n
+no_starts : (lane many n : ℕ) → fold (λ (a : ℕ) (e : Entry). a + (if is_started e.reply then 1 else 0)) n (done_entries lane many) ≡ n
 no_starts lane zero n = omega arith
 no_starts lane (suc many) n = let e : n + 0 ≡ n = omega arith in
-    ap (λ m. fold (λ (a : ℕ) (e : Entry). a + (if is_started e.reply then 1 else 0)) m (dones (lane + 1) many)) e ∙ no_starts (lane + 1) many n
+    ap (λ m. fold (λ (a : ℕ) (e : Entry). a + (if is_started e.reply then 1 else 0)) m (done_entries (lane + 1) many)) e ∙ no_starts (lane + 1) many n
 
 pub one_run : (o : Opening) (end : End) → run_count (schedule_of o end) ≡ 1
 one_run o end = ap (λ n. n + 1) (no_starts 1 (o.lanes - 1) 0)
 
-no_finish : (lane many : ℕ) → last_given (λ (e : Entry). if is_run 0 e.run then finish e.call else None) (dones lane many) ≡ None
+no_finish : (lane many : ℕ) → last_given (λ (e : Entry). if is_run 0 e.run then finish e.call else None) (done_entries lane many) ≡ None
 no_finish lane zero = refl
 no_finish lane (suc many) = ap (later None) (no_finish (lane + 1) many)
 
@@ -52,42 +53,42 @@ no_quit : (o : Opening) (end : End) → has_quit (schedule_of o end) ≡ false
 no_quit o end = dones_none (λ (e : Entry). is_quit e.call) (λ lane. refl) 1 (o.lanes - 1)
 
 -- the entries of a lane among the last
-own_past : (lane from many : ℕ) → lane < from → 1 ≤ lane → own_entries lane (dones from many) ≡ []
+own_past : (lane from many : ℕ) → lane < from → 1 ≤ lane → own_entries lane (done_entries from many) ≡ []
 own_past lane from zero less some = ap (λ b. if b then done_entry 0 ∷ [] else []) (ne_eqb 0 lane (λ e. absurd (omega arith)))
 own_past lane from (suc many) less some =
-    ap (λ b. if b then done_entry from ∷ own_entries lane (dones (from + 1) many) else own_entries lane (dones (from + 1) many)) (ne_eqb from lane (λ e. absurd (omega arith)))
+    ap (λ b. if b then done_entry from ∷ own_entries lane (done_entries (from + 1) many) else own_entries lane (done_entries (from + 1) many)) (ne_eqb from lane (λ e. absurd (omega arith)))
     ∙ own_past lane (from + 1) many (omega arith) some
 
-own_one : (lane from many : ℕ) → from ≤ lane → lane < from + many → 1 ≤ from → own_entries lane (dones from many) ≡ done_entry lane ∷ []
+own_one : (lane from many : ℕ) → from ≤ lane → lane < from + many → 1 ≤ from → own_entries lane (done_entries from many) ≡ done_entry lane ∷ []
 own_one lane from zero less more some = absurd (omega arith)
 own_one lane from (suc many) less more some =
     at (eqb_tells from lane) (λ above. own_one lane (from + 1) many above (omega arith) (omega arith))
   where
     at : ((nat_eq from lane ≡ true) × (from ≡ lane)) ⊎ ((nat_eq from lane ≡ false) × (from ≢ lane))
-        → (from + 1 ≤ lane → own_entries lane (dones (from + 1) many) ≡ done_entry lane ∷ [])
-        → own_entries lane (dones from (suc many)) ≡ done_entry lane ∷ []
+        → (from + 1 ≤ lane → own_entries lane (done_entries (from + 1) many) ≡ done_entry lane ∷ [])
+        → own_entries lane (done_entries from (suc many)) ≡ done_entry lane ∷ []
     at (inl h) later_on =
-        ap (λ b. if b then done_entry from ∷ own_entries lane (dones (from + 1) many) else own_entries lane (dones (from + 1) many)) h.0
+        ap (λ b. if b then done_entry from ∷ own_entries lane (done_entries (from + 1) many) else own_entries lane (done_entries (from + 1) many)) h.0
         ∙ ap (λ rest. done_entry from ∷ rest) (own_past lane (from + 1) many (let e = h.1 in omega arith) (omega arith))
         ∙ ap (λ l. done_entry l ∷ []) h.1
     at (inr h) later_on =
-        ap (λ b. if b then done_entry from ∷ own_entries lane (dones (from + 1) many) else own_entries lane (dones (from + 1) many)) h.0
+        ap (λ b. if b then done_entry from ∷ own_entries lane (done_entries (from + 1) many) else own_entries lane (done_entries (from + 1) many)) h.0
         ∙ later_on (let n = h.1 in omega arith)
 
-own_zero : (from many : ℕ) → 1 ≤ from → own_entries 0 (dones from many) ≡ done_entry 0 ∷ []
+own_zero : (from many : ℕ) → 1 ≤ from → own_entries 0 (done_entries from many) ≡ done_entry 0 ∷ []
 own_zero from zero some = refl
 own_zero from (suc many) some =
-    ap (λ b. if b then done_entry from ∷ own_entries 0 (dones (from + 1) many) else own_entries 0 (dones (from + 1) many)) (ne_eqb from 0 (λ e. absurd (omega arith)))
+    ap (λ b. if b then done_entry from ∷ own_entries 0 (done_entries (from + 1) many) else own_entries 0 (done_entries (from + 1) many)) (ne_eqb from 0 (λ e. absurd (omega arith)))
     ∙ own_zero (from + 1) many (omega arith)
 
 ends_done : (o : Opening) (end : End) (lane : ℕ) → 1 ≤ o.lanes → lane < o.lanes → EndsDone (own_entries lane (schedule_of o end))
 ends_done o end zero some less =
-    subst (λ (es : List Entry). EndsDone (opened o ∷ claimed o.params ∷ finished end ∷ es)) (sym (own_zero 1 (o.lanes - 1) (omega arith))) (refl, refl)
+    subst (λ (es : List Entry). EndsDone (open_entry o ∷ claim_entry o.params ∷ finish_entry end ∷ es)) (sym (own_zero 1 (o.lanes - 1) (omega arith))) (refl, refl)
 ends_done o end (suc lane) some less =
     let apart : nat_eq 0 (suc lane) ≡ false = ne_eqb 0 (suc lane) (λ e. absurd (omega arith)) in
-    let rest : List Entry = own_entries (suc lane) (dones 1 (o.lanes - 1)) in
+    let rest : List Entry = own_entries (suc lane) (done_entries 1 (o.lanes - 1)) in
     let e : own_entries (suc lane) (schedule_of o end) ≡ done_entry (suc lane) ∷ [] =
-    ap (λ b. if b then opened o ∷ (if b then claimed o.params ∷ (if b then finished end ∷ rest else rest) else (if b then finished end ∷ rest else rest)) else (if b then claimed o.params ∷ (if b then finished end ∷ rest else rest) else (if b then finished end ∷ rest else rest))) apart
+    ap (λ b. if b then open_entry o ∷ (if b then claim_entry o.params ∷ (if b then finish_entry end ∷ rest else rest) else (if b then finish_entry end ∷ rest else rest)) else (if b then claim_entry o.params ∷ (if b then finish_entry end ∷ rest else rest) else (if b then finish_entry end ∷ rest else rest))) apart
     ∙ own_one (suc lane) 1 (o.lanes - 1) (omega arith) (omega arith) (omega arith) in
     subst EndsDone (sym e) (refl, refl)
 

@@ -8,22 +8,27 @@ use Rattle.job_calls.specs.declared.reply.Reply.TheVariants.{Opened, Claimed, Do
 use Rattle.job_calls.specs.declared.entry.Entry.{Entry}
 use Rattle.job_calls.specs.Runs.{Opening}
 
-abbrev pub opened : Opening → Entry
-opened o = record { lane = 0; run = None; call = Open o.lanes o.budget o.params o.files; reply = Opened }
+-- lane 0 opens the job
+abbrev pub open_entry : Opening → Entry
+open_entry o = record { lane = 0; run = None; call = Open o.lanes o.budget o.params o.files; reply = Opened }
 
-abbrev pub claimed : List ℕ → Entry
-claimed params = record { lane = 0; run = None; call = Claim; reply = Claimed 0 0 params }
+-- it claims run 0
+abbrev pub claim_entry : List ℕ → Entry
+claim_entry params = record { lane = 0; run = None; call = Claim; reply = Claimed 0 0 params }
 
-abbrev pub finished : End → Entry
-finished end = record { lane = 0; run = Some 0; call = Finish end; reply = Acknowledged }
+-- which ends
+abbrev pub finish_entry : End → Entry
+finish_entry end = record { lane = 0; run = Some 0; call = Finish end; reply = Acknowledged }
 
+-- a lane is told that the job is done
 abbrev pub done_entry : ℕ → Entry
 done_entry lane = record { lane = lane; run = None; call = Claim; reply = Done }
 
 -- so many lanes from `lane` on, then lane 0
-abbrev pub dones : ℕ → ℕ → List Entry
-dones lane zero = done_entry 0 ∷ []
-dones lane (suc many) = done_entry lane ∷ dones (lane + 1) many
+abbrev pub done_entries : ℕ → ℕ → List Entry
+done_entries lane zero = done_entry 0 ∷ []
+done_entries lane (suc many) = done_entry lane ∷ done_entries (lane + 1) many
 
+-- the whole journal
 abbrev pub schedule_of : Opening → End → List Entry
-schedule_of o end = opened o ∷ claimed o.params ∷ finished end ∷ dones 1 (o.lanes - 1)
+schedule_of o end = open_entry o ∷ claim_entry o.params ∷ finish_entry end ∷ done_entries 1 (o.lanes - 1)

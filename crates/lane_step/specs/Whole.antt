@@ -1,16 +1,11 @@
 -- The journal of a job that came to its end.
 
-use Rattle.std.specs.Prelude.{◌≡◌, ℕ, ◌<◌, true, false, List, [], ◌∷◌, Some}
+use Rattle.std.specs.Prelude.{◌≡◌, ℕ, ◌<◌, true, false, List, Some}
 use Rattle.job_calls.specs.declared.entry.Entry.{Entry}
-use Rattle.job_calls.specs.Words.{own_entries, has_quit, run_count, is_finished, is_claim, is_done}
+use Rattle.job_calls.specs.Words.{own_entries, has_quit, run_count, is_finished}
 use Rattle.job_calls.specs.Runs.{Opening, opening}
 use Rattle.job_calls.specs.Legal.{IsLegal}
-
--- the last of the entries is a `Claim` answered `Done`
-abbrev pub EndsDone : List Entry → Type 0
-EndsDone [] = ⊥
-EndsDone (e ∷ []) = (is_claim e.call ≡ true) × (is_done e.reply ≡ true)
-EndsDone (e ∷ d ∷ es) = EndsDone (d ∷ es)
+use Rattle.job_laws.specs.Lanes.{EndsDone}
 
 -- one hub can have written it, opened so; no lane quit, each run ended, and each lane was told last that
 -- the job is done

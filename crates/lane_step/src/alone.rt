@@ -4,9 +4,9 @@ ghost use Rattle.bim_code.specs.Code.{code_size};
 ghost use Rattle.job_calls.specs.Legal.{CanOpen, IsMaster};
 ghost use Rattle.job_calls.specs.Runs.{finish_of};
 ghost use Rattle.mos_meaning.specs.Follows.{Behaviour, FollowsSources, end_of};
-ghost use Rattle.mos_meaning.specs.Machine.{course_of};
-ghost use Rattle.mos_meaning.specs.MachineLaws.{KeepsTicks};
-ghost use Rattle.mos_meaning.specs.State.{Stuck};
+ghost use Rattle.bim_machine.specs.Courses.{course_of};
+ghost use Rattle.bim_code.specs.Rules.{KeepsTicks};
+ghost use Rattle.run_state.specs.Stops.{Stuck};
 ghost use Rattle.mos_vm.specs.Courses.{stop_of};
 ghost use Rattle.lane_step.specs.Alone.{opening_with, IsOwnEnd};
 ghost use Rattle.lane_step.specs.Lines.{line_of, IsFirstName};
@@ -41,7 +41,8 @@ pub fn run_alone(
     requires keeps { KeepsTicks image.now }
     requires small { code_size image.now.code < 2 ^ 30 }
     requires never_stuck { (course_of image.now [] [] budget).outcome.stop ≢ Stuck }
-    ensures schedule { IfOk result (λ s. s.journal ≡ schedule_of (opening_with lanes budget files) s.end) }
+    ensures schedule { IfOk result (λ s.
+        s.journal ≡ schedule_of (opening_with lanes budget files) s.end) }
     ensures whole { IfOk result (λ s. IsWhole (opening_with lanes budget files) s.journal) }
     ensures follows { IfOk result (λ s. (others : List (Option Behaviour))
         → FollowsSources s.journal s.lines (Some (course_of image.now) ∷ others)) }

@@ -1,6 +1,6 @@
 //! The journal of a job on one thread, whose one run makes no call.
 ghost use Rattle.std.specs.Prelude.{◌≡◌, ◌≤◌, ◌∷◌, [], IfOk};
-ghost use Rattle.lane_step.specs.Schedule.{schedule_of, opened, claimed, finished, done_entry};
+ghost use Rattle.lane_step.specs.Schedule.{schedule_of, open_entry, claim_entry, finish_entry, done_entry};
 ghost use Rattle.lane_step.specs.Alone.{opening_with};
 
 use job_calls::{Call, End, Entry, Listed, Reply};
@@ -31,7 +31,7 @@ pub(crate) fn schedule(
 }
 
 fn open(alloc: Global, files: Items<Listed>, lanes: u32, budget: u32) -> Entry
-    ensures { result ≡ opened (opening_with lanes budget files) }
+    ensures { result ≡ open_entry (opening_with lanes budget files) }
 {
     Entry {
         lane: 0,
@@ -47,7 +47,7 @@ fn open(alloc: Global, files: Items<Listed>, lanes: u32, budget: u32) -> Entry
 }
 
 fn claim(alloc: Global) -> Entry
-    ensures { result ≡ claimed [] }
+    ensures { result ≡ claim_entry [] }
 {
     Entry {
         lane: 0,
@@ -62,7 +62,7 @@ fn claim(alloc: Global) -> Entry
 }
 
 fn finish(end: End) -> Entry
-    ensures { result ≡ finished end }
+    ensures { result ≡ finish_entry end }
 {
     Entry {
         lane: 0,

@@ -1,4 +1,4 @@
--- What an expression is, as far as expressions can be run today.
+-- What an expression is, as far as expressions can be run.
 
 use Rattle.std.specs.Prelude.{Bool, true, false}
 use Rattle.mos_tree.specs.declared.expr.Expr.{Expr}
@@ -14,6 +14,7 @@ abbrev pub of_sums : Form → Form → Form → Form
 of_sums made form.Sum form.Sum = made
 of_sums made _ _ = form.Other
 
+-- an operator between two operands of these forms
 abbrev pub form_of_binary : BinaryOperator → Form → Form → Form
 form_of_binary Plus a b = of_sums form.Sum a b
 form_of_binary Minus a b = of_sums form.Sum a b
@@ -25,6 +26,7 @@ form_of_binary Greater a b = of_sums form.Condition a b
 form_of_binary AtLeast a b = of_sums form.Condition a b
 form_of_binary _ a b = form.Other
 
+-- an expression, by the forms of its parts
 abbrev pub form_step : Expr-F Form → Form
 form_step (Integer n) = form.Sum
 form_step (Name n) = form.Sum
@@ -33,13 +35,16 @@ form_step (Truth b) = form.Condition
 form_step (Binary operator a b) = form_of_binary operator a b
 form_step _ = form.Other
 
+-- what an expression is
 abbrev pub form_of : Expr → Form
 form_of = fold-Expr Form form_step
 
+-- literals and names with `+` and `-` between them
 abbrev pub is_sum : Form → Bool
 is_sum form.Sum = true
 is_sum _ = false
 
+-- a truth value or a comparison
 abbrev pub is_condition : Form → Bool
 is_condition form.Condition = true
 is_condition _ = false

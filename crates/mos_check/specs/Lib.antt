@@ -1,3 +1,4 @@
 pub mod Forms
 pub mod NotBuilt
 pub mod Names
+pub mod Laws

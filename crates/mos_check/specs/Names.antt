@@ -1,7 +1,7 @@
 -- Names that are used before a statement gives them a value, and `break` and `next` outside loops: the
 -- first piece of a source that does one of these.
 
-use Rattle.std.specs.Prelude.{◌≡◌, ℕ, Bool, true, false, if◌then◌else◌, List, [], ◌∷◌, Option, Some, None, map}
+use Rattle.std.specs.Prelude.{◌≡◌, ℕ, Bool, true, false, if◌then◌else◌, List, [], ◌∷◌, Option, Some, None}
 use Rattle.mos_text.specs.declared.kind.Kind.{Kind}
 use Rattle.mos_text.specs.declared.kind.Kind.TheVariants.{Unknown, Loop}
 use Rattle.mos_tree.specs.declared.expr.Expr.{Expr}
@@ -18,10 +18,11 @@ use Rattle.mos_tree.specs.declared.statement.Statement.TheFolds.{fold-Statement}
 use Rattle.mos_tree.specs.declared.source.Top.{Top}
 use Rattle.mos_tree.specs.declared.source.Top.TheVariants as top
 use Rattle.mos_tree.specs.declared.source.Tree.{Tree}
-use Rattle.mos_meaning.specs.Syntax.{has_name, with_name}
+use Rattle.mos_names.specs.NameLists.{has_name, with_name}
 use Rattle.mos_check.specs.declared.names.CheckFault.{CheckFault}
-use Rattle.mos_check.specs.declared.names.CheckFault.TheVariants.{At, NoMemory}
+use Rattle.mos_check.specs.declared.names.CheckFault.TheVariants.{Refused, NoMemory}
 
+-- names, in the order in which they were given values
 abbrev pub Names : Type 0
 Names = List (List ℕ)
 
@@ -30,6 +31,7 @@ pub data Found : Type 0 where
   Wrong : (line : ℕ) (kind : Kind) → Found
   Knows : (names : Names) → Found
 
+-- what is found behind pieces of which this is found
 abbrev pub and_then : Found → (Names → Found) → Found
 and_then (Wrong line kind) go = Wrong line kind
 and_then (Knows names) go = go names
@@ -39,6 +41,7 @@ abbrev pub or_other : Option (List ℕ) → Option (List ℕ) → Option (List �
 or_other None other = other
 or_other (Some one) other = Some one
 
+-- the name, unless it is known
 abbrev pub unless_known : Names → List ℕ → Option (List ℕ)
 unless_known known n = if has_name n known then None else Some n
 
@@ -48,9 +51,11 @@ unknown_step (Name n) known = unless_known known n
 unknown_step (Binary operator a b) known = or_other (a known) (b known)
 unknown_step _ known = None
 
+-- that of an expression
 abbrev pub unknown_in : Expr → Names → Option (List ℕ)
 unknown_in = fold-Expr (Names → Option (List ℕ)) unknown_step
 
+-- that of several expressions
 abbrev pub unknown_in_all : List Expr → Names → Option (List ℕ)
 unknown_in_all [] known = None
 unknown_in_all (e ∷ es) known = or_other (unknown_in e known) (unknown_in_all es known)
@@ -61,6 +66,7 @@ unknown_target (target.Name n) Set known = None
 unknown_target (target.Name n) operator known = unless_known known n
 unknown_target _ operator known = None
 
+-- the names behind an assignment
 abbrev pub with_target : Reference → Assignment → Names → Names
 with_target (target.Name n) Set known = with_name known n
 with_target _ operator known = known
@@ -74,19 +80,23 @@ uses line known (Some n) = Wrong line (Unknown n)
 abbrev pub Checks : Type 0
 Checks = Bool → Names → Found
 
+-- statements one behind the other
 abbrev pub check_all : List Checks → Checks
 check_all [] inside known = Knows known
 check_all (c ∷ cs) inside known = and_then (c inside known) (check_all cs inside)
 
+-- the arms of `if`, one behind the other
 abbrev pub check_arms : List (Arm Checks) → Checks
 check_arms [] inside known = Knows known
 check_arms (arm ∷ arms) inside known =
     and_then (uses arm.line known (unknown_in arm.condition known)) (λ k. and_then (check_all arm.body inside k) (check_arms arms inside))
 
+-- `break` or `next`
 abbrev pub in_loop : Bool → ℕ → Names → Found
 in_loop true line known = Knows known
 in_loop false line known = Wrong line Loop
 
+-- one statement, by what is found of those in it
 abbrev pub check_step : Statement-F Checks → Checks
 check_step (Assign line to operator value) inside known =
     and_then (uses line known (or_other (unknown_target to operator known) (unknown_in value known))) (λ k. Knows (with_target to operator k))
@@ -98,13 +108,16 @@ check_step (Break line) inside known = in_loop inside line known
 check_step (Next line) inside known = in_loop inside line known
 check_step _ inside known = Knows known
 
+-- what is found of a statement
 abbrev pub check_statement : Statement → Checks
 check_statement = fold-Statement Checks check_step
 
+-- what is found of a part of a model
 abbrev pub check_top : Top → Names → Found
 check_top (top.Statement statement) known = check_statement statement false known
 check_top _ known = Knows known
 
+-- what is found of the parts of a model
 abbrev pub check_tops : List Top → Names → Found
 check_tops [] known = Knows known
 check_tops (t ∷ tops) known = and_then (check_top t known) (check_tops tops)
@@ -115,9 +128,9 @@ check_of tree = check_tops tree.tops []
 
 -- a fault that says what was found; want of memory says nothing
 abbrev pub Says : Found → CheckFault → Type 0
-Says found (At line kind) = found ≡ Wrong line kind
+Says found (Refused refusal) = found ≡ Wrong refusal.line refusal.kind
 Says found NoMemory = Unit {0}
 
--- an arm with what is found of its statements in their place
-abbrev pub in_arm : Arm Statement → Arm Checks
-in_arm arm = record { line = arm.line; condition = arm.condition; body = map check_statement arm.body }
+-- the fault of a piece on this line
+abbrev pub fault_at : ℕ → Kind → CheckFault
+fault_at line kind = Refused record { line = line; kind = kind }

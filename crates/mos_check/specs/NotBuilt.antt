@@ -1,4 +1,4 @@
--- Which pieces of a source are of a form that can be run today, and which is the first that is not.
+-- Which pieces of a source are of a form that can be run, and which is the first that is not.
 
 use Rattle.std.specs.Prelude.{ℕ, Bool, true, false, ◌&&◌, ◌||◌, List, [], ◌∷◌, Option, Some, None, map, codes, option_map}
 use Rattle.std.specs.Str.{bytes_eq}
@@ -23,14 +23,17 @@ abbrev pub unless : Bool → ℕ → Option ℕ
 unless true line = None
 unless false line = Some line
 
+-- the first line, or the later one where there is no first
 abbrev pub or_later : Option ℕ → Option ℕ → Option ℕ
 or_later None later = later
 or_later (Some line) later = Some line
 
+-- the first line of several
 abbrev pub first_of : List (Option ℕ) → Option ℕ
 first_of [] = None
 first_of (found ∷ more) = or_later found (first_of more)
 
+-- a name alone on the left side
 abbrev pub is_variable : Reference → Bool
 is_variable (target.Name n) = true
 is_variable _ = false
@@ -39,13 +42,16 @@ is_variable _ = false
 abbrev pub is_write : List ℕ → Bool
 is_write called = bytes_eq called (codes "writeln") || bytes_eq called (codes "write")
 
+-- one argument, which can be printed
 abbrev pub shows_one : List Expr → Bool
 shows_one (e ∷ []) = is_shown (form_of e)
 shows_one _ = false
 
+-- that of an arm of `if`
 abbrev pub unbuilt_arm : Arm (Option ℕ) → Option ℕ
 unbuilt_arm arm = or_later (unless (is_condition (form_of arm.condition)) arm.line) (first_of arm.body)
 
+-- that of a statement, by those in it
 abbrev pub unbuilt_step : Statement-F (Option ℕ) → Option ℕ
 unbuilt_step (Assign line to operator value) = unless (is_variable to && is_sum (form_of value)) line
 unbuilt_step (Call line called all) = unless (is_write called && shows_one all) line
@@ -64,9 +70,11 @@ unbuilt_step (Initializations line direction name labels) = Some line
 abbrev pub unbuilt_in : Statement → Option ℕ
 unbuilt_in = fold-Statement (Option ℕ) unbuilt_step
 
+-- that of several statements
 abbrev pub unbuilt_in_all : List Statement → Option ℕ
 unbuilt_in_all all = first_of (map unbuilt_in all)
 
+-- that of a part of a model
 abbrev pub unbuilt_in_top : Top → Option ℕ
 unbuilt_in_top (top.Parameters line parameters) = Some line
 unbuilt_in_top (top.Declarations declared) = Some declared.line
@@ -74,6 +82,7 @@ unbuilt_in_top (top.Routine routine) = Some routine.heading.line
 unbuilt_in_top (top.Forward heading) = Some heading.line
 unbuilt_in_top (top.Statement statement) = unbuilt_in statement
 
+-- a piece on this line, of the kind `SYNTAX`
 abbrev pub at_syntax : ℕ → ℕ × Kind
 at_syntax line = (line, Syntax)
 
@@ -87,9 +96,6 @@ abbrev pub unbuilt_behind : List Head → List Top → Option (ℕ × Kind)
 unbuilt_behind [] tops = option_map at_syntax (first_of (map unbuilt_in_top tops))
 unbuilt_behind (h ∷ heads) tops = Some (unbuilt_head h)
 
+-- that of a whole source
 abbrev pub unbuilt_of : Tree → Option (ℕ × Kind)
 unbuilt_of tree = unbuilt_behind tree.heads tree.tops
-
--- an arm with what is found of its statements in their place
-abbrev pub in_arm : Arm Statement → Arm (Option ℕ)
-in_arm arm = record { line = arm.line; condition = arm.condition; body = map unbuilt_in arm.body }

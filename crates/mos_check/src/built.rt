@@ -1,28 +1,25 @@
-//! The first piece of a source that is of no form that can be run today.
+//! The first piece of a source that is of no form that can be run.
 ghost use Rattle.std.specs.Prelude.{◌≡◌, ◌&&◌, IfOk, MatchOption, Some, None, pos, map};
 ghost use Rattle.mos_check.specs.NotBuilt.{unbuilt_of, unbuilt_head, unbuilt_in, unbuilt_in_all, unbuilt_in_top, unless, is_variable, is_write, shows_one, first_of};
 
 use crate::form::{Form, form_of};
-use mos_text::{Kind, NoMemory, Text};
-use mos_tree::{Expr, Head, Reference, Statement, Top, Tree, Verdict};
+use mos_text::{Kind, NoMemory, SourceText, Text};
+use mos_tree::{Expr, Head, Reference, Refusal, Statement, Top, Tree};
 use std::alloc::Global;
 
-/// The verdict on the first piece whose form cannot be run yet: its line, with the kind `SYNTAX`, or
-/// `MODULE mmjobs` for a piece that uses that module. None where every piece is of such a form.
-pub fn not_built(alloc: Global, tree: &Tree) -> Result<Option<Verdict>, NoMemory>
-    ensures { IfOk result (λ verdict. MatchOption verdict (unbuilt_of tree.now ≡ None) (λ v. (v.code ≡ 1) × (unbuilt_of tree.now ≡ Some (v.line, v.kind)))) }
+/// The first piece whose form cannot be run: its line, with the kind `SYNTAX`, or `MODULE mmjobs` for a
+/// piece that uses that module. None where every piece is of a form that can.
+pub fn not_built(alloc: Global, tree: &Tree) -> Result<Option<Refusal>, NoMemory>
+    ensures { IfOk result (λ found. MatchOption found
+        (unbuilt_of tree.now ≡ None)
+        (λ refusal. unbuilt_of tree.now ≡ Some (refusal.line, refusal.kind))) }
 {
     if let [head, ..] = tree.heads.as_slice() {
         let (line, kind) = unbuilt_head(alloc, head)?;
-        return Ok(Some(Verdict {
-            code: 1,
-            line,
-            kind,
-        }));
+        return Ok(Some(Refusal { line, kind }));
     }
     match first_unbuilt(tree.tops.as_slice()) {
-        Some(line) => Ok(Some(Verdict {
-            code: 1,
+        Some(line) => Ok(Some(Refusal {
             line,
             kind: Kind::Syntax,
         })),
@@ -139,7 +136,7 @@ fn is_variable(target: &Reference) -> bool
     matches!(target, Reference::Name(_))
 }
 
-fn is_write(called: &Text) -> bool
+fn is_write(called: &SourceText) -> bool
     ensures { result ≡ is_write called.now }
 {
     called.as_str() == "writeln" || called.as_str() == "write"

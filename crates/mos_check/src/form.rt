@@ -1,4 +1,4 @@
-//! What an expression is, as far as expressions can be run today.
+//! What an expression is, as far as expressions can be run.
 ghost use Rattle.std.specs.Prelude.{◌≡◌};
 ghost use Rattle.mos_check.specs.Forms.{form_of, form_of_binary};
 

@@ -1,19 +1,20 @@
 //! The first piece that uses a name without a value, or leaves or continues a loop where there is none.
 ghost use Rattle.std.specs.Prelude.{◌≡◌, IfOk, OnOk, IfErr, true, false, map, option_copied};
-ghost use Rattle.mos_check.specs.Names.{Knows, Says, check_of, check_tops, check_top, check_statement, check_all, or_other, unknown_in, unknown_target, uses, with_target};
+ghost use Rattle.mos_check.specs.Names.{Knows, Says, fault_at, check_of, check_tops, check_top, check_statement, check_all, or_other, unknown_in, unknown_target, uses, with_target};
 
 use crate::unknown::{unknown_in, unknown_in_all, unknown_target};
 use mos_names::Names;
 use mos_text::{Kind, NoMemory, Text};
-use mos_tree::{Assignment, Expr, Reference, Statement, Top, Tree};
+use mos_tree::{Assignment, Expr, Reference, Refusal, Statement, Top, Tree};
 use sqlite_items::Items;
 use std::alloc::Global;
 
 /// Why a source is refused whose every piece is of a form that can be run.
 #[derive(Debug, Drop)]
 pub enum CheckFault {
-    /// The line of the piece, from 1, with the kind `UNKNOWN` and the name, or `LOOP`.
-    At { line: u32, kind: Kind },
+    /// The piece at fault, with the kind `UNKNOWN` and the name, or `LOOP`.
+    Refused(Refusal),
+    /// Memory was wanting.
     NoMemory,
 }
 
@@ -123,7 +124,8 @@ fn check_all<'a>(
     inside: bool,
     all: &'a [Statement],
 ) -> Result<(), CheckFault>
-    ensures names { OnOk result (check_all (map check_statement all.now) inside known.old ≡ Knows known.new) }
+    ensures names { OnOk result
+        (check_all (map check_statement all.now) inside known.old ≡ Knows known.new) }
     ensures fault { IfErr result (Says (check_all (map check_statement all.now) inside known.old)) }
 {
     for statement in all {
@@ -144,25 +146,25 @@ fn refuse(
 {
     match unknown {
         None => Ok(()),
-        Some(name) => Err(CheckFault::At {
+        Some(name) => Err(CheckFault::Refused(Refusal {
             line,
             kind: Kind::Unknown(name.copy(alloc)?),
-        }),
+        })),
     }
 }
 
 /// Refuses `break` or `next` where it stands in no loop.
 fn in_loop(inside: bool, line: u32) -> Result<(), CheckFault>
     ensures names { OnOk result (inside ≡ true) }
-    ensures fault { IfErr result (λ fault. (inside ≡ false) × (fault ≡ CheckFault.At line Kind.Loop)) }
+    ensures fault { IfErr result (λ fault. (inside ≡ false) × (fault ≡ fault_at line Kind.Loop)) }
 {
     if inside {
         return Ok(());
     }
-    Err(CheckFault::At {
+    Err(CheckFault::Refused(Refusal {
         line,
         kind: Kind::Loop,
-    })
+    }))
 }
 
 fn unknown_in_assignment<'a>(
@@ -171,7 +173,10 @@ fn unknown_in_assignment<'a>(
     operator: Assignment,
     value: &'a Expr,
 ) -> Option<&'a Text>
-    ensures { option_copied result ≡ or_other (unknown_target target.now operator known.now) (unknown_in value.now known.now) }
+    ensures { option_copied result
+        ≡ or_other
+        (unknown_target target.now operator known.now)
+        (unknown_in value.now known.now) }
 {
     match unknown_target(known, target, operator) {
         Some(name) => Some(name),
@@ -188,7 +193,7 @@ fn note_target<'a>(
     ensures { OnOk result (known.new ≡ with_target target.now operator known.old) }
 {
     match (target, operator) {
-        (Reference::Name(name), Assignment::Set) => known.note(name),
+        (Reference::Name(name), Assignment::Set) => known.note(name.text()),
         _ => Ok(()),
     }
 }

@@ -3,7 +3,7 @@ ghost use Rattle.std.specs.Prelude.{◌≡◌, option_copied};
 ghost use Rattle.mos_check.specs.Names.{unless_known, unknown_in, unknown_in_all, unknown_target};
 
 use mos_names::Names;
-use mos_text::Text;
+use mos_text::{SourceText, Text};
 use mos_tree::{Assignment, Expr, Reference};
 
 /// The first name of an expression, from the left, that is not known.
@@ -20,6 +20,7 @@ pub(crate) fn unknown_in<'a>(known: &Names<'_>, written: &'a Expr) -> Option<&'a
     }
 }
 
+/// The first name of several expressions, from the left, that is not known.
 pub(crate) fn unknown_in_all<'a>(known: &Names<'_>, all: &'a [Expr]) -> Option<&'a Text>
     ensures { option_copied result ≡ unknown_in_all all.now known.now }
 {
@@ -46,8 +47,12 @@ pub(crate) fn unknown_target<'a>(
     }
 }
 
-fn unless_known<'a>(known: &Names<'_>, name: &'a Text) -> Option<&'a Text>
+fn unless_known<'a>(known: &Names<'_>, name: &'a SourceText) -> Option<&'a Text>
     ensures { option_copied result ≡ unless_known known.now name.now }
 {
-    if known.has(name) { None } else { Some(name) }
+    if known.has(name.text()) {
+        None
+    } else {
+        Some(name.text())
+    }
 }

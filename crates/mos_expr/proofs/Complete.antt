@@ -1,3 +1,5 @@
+-- What the words of an expression come to: the expression read whole, in the same frames.
+
 use Rattle.std.proofs.Common.{◌≡◌, ℕ, ◌+◌, ◌≤◌, max, true, false, nat_le, List, [], ◌∷◌, ◌++◌, Option, Some, None, refl, sym, ◌∙◌, ap, subst, arith, append_assoc}
 use Rattle.std.proofs.lemmas.List.{append-nil}
 use Rattle.std.proofs.lemmas.Bool.{le-leb}
@@ -12,23 +14,21 @@ use Rattle.mos_tree.specs.declared.expr.Conversion.TheVariants as c
 use Rattle.mos_scan.specs.declared.token.TokenKind.TheVariants as t
 use Rattle.mos_scan.specs.declared.reading.Word.{Word}
 use Rattle.mos_scan.specs.declared.reading.Word.TheVariants as w
-use Rattle.mos_expr.specs.Grammar.{Leaf, number, text, truth, name, returned, field, Names, one_name, and_name, Syntax, leaf, call, call_field, set, list, bracket, choice, convert, before, between, aggregate, counted, Written, no_more, one_more, Over, last_set, such_that, another, level, binds, takes, tree, trees, height, heights, height_over, groups_of, condition_of, IsGrouped, AreGrouped, IsGroupedOver, key, spell, spell_leaf, spell_before, spell_between, spell_aggregate, spell_conversion, spell_names, spell_list, spell_rest, spell_over, list_of_names, index_of}
-use Rattle.mos_expr.specs.Machine.{State, Settled, and_then, folds, room, settled, at_frame, after_key, index_read, round}
+use Rattle.mos_expr.specs.Grammar.{Leaf, number, text, truth, name, returned, field, Names, one_name, and_name, Syntax, leaf, call, call_field, set, list, bracket, if_expr, convert, before, between, aggregate, counted, Written, no_more, one_more, Over, last_set, such_that, another, level, binds, takes, tree, trees, height, heights, height_over, groups_of, condition_of, IsGrouped, AreGrouped, IsGroupedOver, key, spell, spell_leaf, spell_before, spell_between, spell_aggregate, spell_conversion, spell_names, spell_list, spell_rest, spell_over, list_of_names, index_of}
+use Rattle.mos_expr.specs.Machine.{State, Settled, and_then, folds, room, settled, at_frame, after_key, index_read, at_round}
 use Rattle.mos_expr.specs.Reader.{step, read, want_key, aggregate_key, last_of_index}
 use Rattle.mos_expr.specs.Operands as o
 use Rattle.mos_expr.specs.declared.operand.Operand.{Operand}
 use Rattle.mos_expr.specs.declared.operand.Parts.{Parts}
 use Rattle.mos_expr.specs.declared.operand.Groups.{Groups}
-use Rattle.mos_expr.specs.declared.operand.Ready.{Ready}
+use Rattle.mos_expr.specs.declared.operand.WholeIndex.{WholeIndex}
 use Rattle.mos_expr.specs.declared.frame.IndexKind.{IndexKind}
 use Rattle.mos_expr.specs.declared.frame.IndexKind.TheVariants as i
 use Rattle.mos_expr.specs.declared.frame.Frame.{Frame}
 use Rattle.mos_expr.specs.declared.frame.Frame.TheVariants as f
 use Rattle.mos_expr.specs.declared.frame.Mode.TheVariants as m
-use Rattle.mos_expr.proofs.Values.{whole, parts_at, groups_at, ready_at, group_of, bracketed-whole, convert-whole, choice-whole, counted-whole, parts-whole, call-whole, call_field-whole, set-whole, list-whole, groups-whole, ready-whole, such-whole}
+use Rattle.mos_expr.proofs.Values.{whole, parts_at, groups_at, index_at, group_of, bracketed-whole, convert-whole, if_expr-whole, counted-whole, parts-whole, call-whole, call_field-whole, set-whole, list-whole, groups-whole, index-whole, conditioned-whole}
 use Rattle.mos_expr.proofs.Steps.{or_right, Follows, follows-part, follows-operator, level-9, left-binds, Fits, fits-less, pops-before, pops-between, pops-body, stays-fits, reads-operator, name-ends, call-ends}
-
--- What the words of an expression come to: the expression read whole, in the same frames.
 
 -- nothing that takes part in an expression comes next
 abbrev pub Closes : List Word → Type 0
@@ -94,7 +94,7 @@ begins (call_field n xs x) = record { word = w.Name n; words = _; spelled = refl
 begins (set xs) = record { word = w.Key t.OpenCurly; words = _; spelled = refl; opens = λ fs. refl }
 begins (list xs) = record { word = w.Key t.OpenSquare; words = _; spelled = refl; opens = λ fs. refl }
 begins (bracket s) = record { word = w.Key t.OpenRound; words = _; spelled = refl; opens = λ fs. refl }
-begins (choice x y z) = record { word = w.Key t.If; words = _; spelled = refl; opens = λ fs. refl }
+begins (if_expr x y z) = record { word = w.Key t.If; words = _; spelled = refl; opens = λ fs. refl }
 begins (convert to s) = record { word = spell_conversion to; words = _; spelled = refl; opens = opens-conversion to }
 begins (before p s) = record { word = spell_before p; words = _; spelled = refl; opens = opens-before p }
 begins (between op x y) =
@@ -117,7 +117,7 @@ first-operand s fs rest =
 -- a frame of expressions with commas between them
 pub record IsListFrame (frame : Parts → Frame) : Type 0 where
   pub wide : (ps : Parts) → room (frame ps) ≡ 9
-  pub comma : (ps : Parts) (x : Operand) (fs : List Frame) (ws : List Word) → read (m.After x) (frame ps ∷ fs) (w.Key t.Comma ∷ ws) ≡ read m.Want (frame (o.parts_with ps x) ∷ fs) ws
+  pub at_comma : (ps : Parts) (x : Operand) (fs : List Frame) (ws : List Word) → read (m.After x) (frame ps ∷ fs) (w.Key t.Comma ∷ ws) ≡ read m.Want (frame (o.parts_with ps x) ∷ fs) ws
 
 abbrev call_frame : List ℕ → Parts → Frame
 call_frame n ps = f.Call n ps
@@ -128,24 +128,24 @@ set_frame ps = f.Set ps
 abbrev list_frame : Parts → Frame
 list_frame ps = f.List ps
 
-abbrev pub listed_frame : Parts → Frame
-listed_frame ps = f.Listed ps
+abbrev pub bare_list_frame : Parts → Frame
+bare_list_frame ps = f.BareList ps
 
 in_call : (n : List ℕ) → IsListFrame (call_frame n)
 unfolding step after_key
-in_call n = record { wide = λ ps. refl; comma = λ ps x fs ws. refl }
+in_call n = record { wide = λ ps. refl; at_comma = λ ps x fs ws. refl }
 
 in_set : IsListFrame set_frame
 unfolding step after_key
-in_set = record { wide = λ ps. refl; comma = λ ps x fs ws. refl }
+in_set = record { wide = λ ps. refl; at_comma = λ ps x fs ws. refl }
 
 in_list : IsListFrame list_frame
 unfolding step after_key
-in_list = record { wide = λ ps. refl; comma = λ ps x fs ws. refl }
+in_list = record { wide = λ ps. refl; at_comma = λ ps x fs ws. refl }
 
-pub in_listed : IsListFrame listed_frame
+pub in_bare_list : IsListFrame bare_list_frame
 unfolding step after_key
-in_listed = record { wide = λ ps. refl; comma = λ ps x fs ws. refl }
+in_bare_list = record { wide = λ ps. refl; at_comma = λ ps x fs ws. refl }
 
 -- behind the last of some expressions, which is not yet among the parts
 pub record ListRead (frame : Parts → Frame) (h : ℕ) (xs : List Expr) (s : Syntax) (ss : Written) (fs : List Frame) (rest : List Word) : Type 0 where
@@ -180,9 +180,9 @@ follows-rest s (one_more x xs) rest c = closes-comma ((spell x ++ spell_rest xs)
 
 -- ---- indexes
 
-pub record IndexEnds (kind : IndexKind) (top : Frame) (x : Operand) (ready : Ready) : Type 0 where
+pub record IndexEnds (kind : IndexKind) (top : Frame) (x : Operand) (ready : WholeIndex) : Type 0 where
   pub open_still : folds top ≡ false
-  pub rounds : (fs : List Frame) → round top x fs ≡ index_read kind ready fs
+  pub rounds : (fs : List Frame) → at_round top x fs ≡ index_read kind ready fs
   pub loops : kind ≡ i.Loop → last_of_index x top ≡ Some ready
 
 -- behind the last expression of an index
@@ -190,13 +190,13 @@ pub record IndexRead (kind : IndexKind) (h : ℕ) (gs : List (Group Expr)) (over
   pub last : Operand
   pub top : Frame
   pub reads_to : read (m.WantName kind (groups_at h gs) []) fs (spell_over over ++ rest) ≡ read (m.After last) (top ∷ fs) rest
-  pub ends : IndexEnds kind top last (ready_at (max h (height_over over)) (record { groups = gs ++ groups_of over; condition = condition_of over }))
+  pub ends : IndexEnds kind top last (index_at (max h (height_over over)) (record { groups = gs ++ groups_of over; condition = condition_of over }))
 
-reads-names : (kind : IndexKind) (groups : Groups) (ns : Names) (before_names : List (List ℕ)) (fs : List Frame) (ws : List Word) → read (m.WantName kind groups before_names) fs (spell_names ns ++ w.Key t.In ∷ ws) ≡ read m.Want (f.Within kind groups (before_names ++ list_of_names ns) ∷ fs) ws
+reads-names : (kind : IndexKind) (groups : Groups) (ns : Names) (before_names : List (List ℕ)) (fs : List Frame) (ws : List Word) → read (m.WantName kind groups before_names) fs (spell_names ns ++ w.Key t.In ∷ ws) ≡ read m.Want (f.IndexSet kind groups (before_names ++ list_of_names ns) ∷ fs) ws
 unfolding step
 reads-names kind groups (one_name n) before_names fs ws = refl
 reads-names kind groups (and_name n ns) before_names fs ws =
-    reads-names kind groups ns (before_names ++ n ∷ []) fs ws ∙ ap (λ l. read m.Want (f.Within kind groups l ∷ fs) ws) (append_assoc before_names (n ∷ []) (list_of_names ns))
+    reads-names kind groups ns (before_names ++ n ∷ []) fs ws ∙ ap (λ l. read m.Want (f.IndexSet kind groups l ∷ fs) ws) (append_assoc before_names (n ∷ []) (list_of_names ns))
 
 aggregate-begins : (p : AggregateOperator) (fs : List Frame) (ws : List Word) → read m.Want fs (spell_aggregate p ∷ w.Key t.OpenRound ∷ ws) ≡ read (m.WantName (i.Aggregate p) o.no_groups []) fs ws
 unfolding step want_key aggregate_key
@@ -207,52 +207,52 @@ count-begins : (fs : List Frame) (ws : List Word) → read m.Want fs (w.Key t.Co
 unfolding step want_key aggregate_key
 count-begins fs ws = refl
 
-index-closes : (kind : IndexKind) (top : Frame) (x : Operand) (ready : Ready) (fs : List Frame) (ws : List Word) → IndexEnds kind top x ready → read (m.After x) (top ∷ fs) (w.Key t.CloseRound ∷ ws) ≡ next_words ws (index_read kind ready fs)
+index-closes : (kind : IndexKind) (top : Frame) (x : Operand) (ready : WholeIndex) (fs : List Frame) (ws : List Word) → IndexEnds kind top x ready → read (m.After x) (top ∷ fs) (w.Key t.CloseRound ∷ ws) ≡ next_words ws (index_read kind ready fs)
 unfolding step after_key
 index-closes kind top x ready fs ws ends =
     let s : settled x (top ∷ fs) ≡ Some (x, top ∷ fs) = rw (ends.open_still) refl in
     ap (λ (z : Settled). next_words ws (and_then z (λ y. at_frame t.CloseRound y.0 y.1))) s ∙ ap (next_words ws) (ends.rounds fs)
 
 -- the last set of an index
-set_ends : (kind : IndexKind) (h : ℕ) (gs : List (Group Expr)) (names : List (List ℕ)) (s : Syntax) → level s ≤ 5 → IndexEnds kind (f.Within kind (groups_at h gs) names) (whole s) (ready_at (max h (height s + 1)) (record { groups = gs ++ group_of names s ∷ []; condition = None }))
+set_ends : (kind : IndexKind) (h : ℕ) (gs : List (Group Expr)) (names : List (List ℕ)) (s : Syntax) → level s ≤ 5 → IndexEnds kind (f.IndexSet kind (groups_at h gs) names) (whole s) (index_at (max h (height s + 1)) (record { groups = gs ++ group_of names s ∷ []; condition = None }))
 set_ends kind h gs names s l =
     let t : nat_le (level s) 5 ≡ true = le-leb (level s) 5 l in
-    let made : o.ready_of (o.groups_with (groups_at h gs) names (whole s)) ≡ ready_at (max h (height s + 1)) (record { groups = gs ++ group_of names s ∷ []; condition = None }) = ap o.ready_of (groups-whole h gs names s) ∙ ready-whole (max h (height s + 1)) (gs ++ group_of names s ∷ []) in
+    let made : o.whole_index_of (o.groups_with (groups_at h gs) names (whole s)) ≡ index_at (max h (height s + 1)) (record { groups = gs ++ group_of names s ∷ []; condition = None }) = ap o.whole_index_of (groups-whole h gs names s) ∙ index-whole (max h (height s + 1)) (gs ++ group_of names s ∷ []) in
     record {
       open_still = refl;
       rounds = λ fs. rw t (ap (λ r. index_read kind r fs) made);
-      loops = λ is. subst (λ k. last_of_index (whole s) (f.Within k (groups_at h gs) names) ≡ Some (ready_at (max h (height s + 1)) (record { groups = gs ++ group_of names s ∷ []; condition = None }))) (sym is) (rw t (ap (λ r. Some r) made));
+      loops = λ is. subst (λ k. last_of_index (whole s) (f.IndexSet k (groups_at h gs) names) ≡ Some (index_at (max h (height s + 1)) (record { groups = gs ++ group_of names s ∷ []; condition = None }))) (sym is) (rw t (ap (λ r. Some r) made));
     }
 
 -- the condition of an index
-condition_ends : (kind : IndexKind) (h : ℕ) (gs : List (Group Expr)) (s : Syntax) → IndexEnds kind (f.Such kind (groups_at h gs)) (whole s) (ready_at (max h (height s)) (record { groups = gs; condition = Some (tree s) }))
+condition_ends : (kind : IndexKind) (h : ℕ) (gs : List (Group Expr)) (s : Syntax) → IndexEnds kind (f.IndexCondition kind (groups_at h gs)) (whole s) (index_at (max h (height s)) (record { groups = gs; condition = Some (tree s) }))
 condition_ends kind h gs s = record {
   open_still = refl;
-  rounds = λ fs. ap (λ r. index_read kind r fs) (such-whole h gs s);
-  loops = λ is. subst (λ k. last_of_index (whole s) (f.Such k (groups_at h gs)) ≡ Some (ready_at (max h (height s)) (record { groups = gs; condition = Some (tree s) }))) (sym is) (ap (λ r. Some r) (such-whole h gs s));
+  rounds = λ fs. ap (λ r. index_read kind r fs) (conditioned-whole h gs s);
+  loops = λ is. subst (λ k. last_of_index (whole s) (f.IndexCondition k (groups_at h gs)) ≡ Some (index_at (max h (height s)) (record { groups = gs; condition = Some (tree s) }))) (sym is) (ap (λ r. Some r) (conditioned-whole h gs s));
 }
 
 -- a bar behind a set
-reads-bar : (kind : IndexKind) (h : ℕ) (gs : List (Group Expr)) (names : List (List ℕ)) (s : Syntax) (fs : List Frame) (ws : List Word) → level s ≤ 5 → read (m.After (whole s)) (f.Within kind (groups_at h gs) names ∷ fs) (w.Key t.Bar ∷ ws) ≡ read m.Want (f.Such kind (groups_at (max h (height s + 1)) (gs ++ group_of names s ∷ [])) ∷ fs) ws
+reads-bar : (kind : IndexKind) (h : ℕ) (gs : List (Group Expr)) (names : List (List ℕ)) (s : Syntax) (fs : List Frame) (ws : List Word) → level s ≤ 5 → read (m.After (whole s)) (f.IndexSet kind (groups_at h gs) names ∷ fs) (w.Key t.Bar ∷ ws) ≡ read m.Want (f.IndexCondition kind (groups_at (max h (height s + 1)) (gs ++ group_of names s ∷ [])) ∷ fs) ws
 unfolding step after_key
 reads-bar kind h gs names s fs ws l =
     let t : nat_le (level s) 5 ≡ true = le-leb (level s) 5 l in
-    rw t (ap (λ q. read m.Want (f.Such kind q ∷ fs) ws) (groups-whole h gs names s))
+    rw t (ap (λ q. read m.Want (f.IndexCondition kind q ∷ fs) ws) (groups-whole h gs names s))
 
 -- a comma behind a set
-reads-comma : (kind : IndexKind) (h : ℕ) (gs : List (Group Expr)) (names : List (List ℕ)) (s : Syntax) (fs : List Frame) (ws : List Word) → level s ≤ 5 → read (m.After (whole s)) (f.Within kind (groups_at h gs) names ∷ fs) (w.Key t.Comma ∷ ws) ≡ read (m.WantName kind (groups_at (max h (height s + 1)) (gs ++ group_of names s ∷ [])) []) fs ws
+reads-comma : (kind : IndexKind) (h : ℕ) (gs : List (Group Expr)) (names : List (List ℕ)) (s : Syntax) (fs : List Frame) (ws : List Word) → level s ≤ 5 → read (m.After (whole s)) (f.IndexSet kind (groups_at h gs) names ∷ fs) (w.Key t.Comma ∷ ws) ≡ read (m.WantName kind (groups_at (max h (height s + 1)) (gs ++ group_of names s ∷ [])) []) fs ws
 unfolding step after_key
 reads-comma kind h gs names s fs ws l =
     let t : nat_le (level s) 5 ≡ true = le-leb (level s) 5 l in
     rw t (ap (λ q. read (m.WantName kind q []) fs ws) (groups-whole h gs names s))
 
 -- more groups, of which the first is already among those before
-more_ends : (kind : IndexKind) (top : Frame) (x : Operand) (h k n : ℕ) (gs more : List (Group Expr)) (one : Group Expr) (condition : Option Expr) → IndexEnds kind top x (ready_at (max (max h k) n) (record { groups = gs ++ one ∷ [] ++ more; condition = condition })) → IndexEnds kind top x (ready_at (max h (max k n)) (record { groups = gs ++ one ∷ more; condition = condition }))
+more_ends : (kind : IndexKind) (top : Frame) (x : Operand) (h k n : ℕ) (gs more : List (Group Expr)) (one : Group Expr) (condition : Option Expr) → IndexEnds kind top x (index_at (max (max h k) n) (record { groups = gs ++ one ∷ [] ++ more; condition = condition })) → IndexEnds kind top x (index_at (max h (max k n)) (record { groups = gs ++ one ∷ more; condition = condition }))
 more_ends kind top x h k n gs more one condition ends =
     let p : max (max h k) n ≡ max h (max k n) = omega arith in
     let q : gs ++ one ∷ [] ++ more ≡ gs ++ one ∷ more = append_assoc gs (one ∷ []) more in
-    subst (λ a. IndexEnds kind top x (ready_at a (record { groups = gs ++ one ∷ more; condition = condition }))) p
-    (subst (λ b. IndexEnds kind top x (ready_at (max (max h k) n) (record { groups = b; condition = condition }))) q ends)
+    subst (λ a. IndexEnds kind top x (index_at a (record { groups = gs ++ one ∷ more; condition = condition }))) p
+    (subst (λ b. IndexEnds kind top x (index_at (max (max h k) n) (record { groups = b; condition = condition }))) q ends)
 
 -- ---- expressions without parts
 
@@ -330,12 +330,12 @@ mutual
       ap (read m.Want (f.Bracket ∷ fs)) (append_assoc (spell s) (key t.CloseRound) rest)
       ∙ reads s (f.Bracket ∷ fs) (w.Key t.CloseRound ∷ rest) g (level-9 s) (closes-round rest s)
       ∙ ap (λ y. read (m.After y) fs rest) (bracketed-whole s)
-  reads (choice x y z) fs rest g l h =
-      ap (read m.Want (f.Choice ∷ fs)) (three-parts (spell x) (spell y) (spell z) rest)
-      ∙ reads x (f.Choice ∷ fs) (w.Key t.Comma ∷ (spell y ++ w.Key t.Comma ∷ (spell z ++ w.Key t.CloseRound ∷ rest))) g.0 (level-9 x) (closes-comma (spell y ++ w.Key t.Comma ∷ (spell z ++ w.Key t.CloseRound ∷ rest)) x)
-      ∙ reads y (f.ChoiceOne (whole x) ∷ fs) (w.Key t.Comma ∷ (spell z ++ w.Key t.CloseRound ∷ rest)) g.1 (level-9 y) (closes-comma (spell z ++ w.Key t.CloseRound ∷ rest) y)
-      ∙ reads z (f.ChoiceTwo (whole x) (whole y) ∷ fs) (w.Key t.CloseRound ∷ rest) g.2 (level-9 z) (closes-round rest z)
-      ∙ ap (λ v. read (m.After v) fs rest) (choice-whole x y z)
+  reads (if_expr x y z) fs rest g l h =
+      ap (read m.Want (f.IfExpr ∷ fs)) (three-parts (spell x) (spell y) (spell z) rest)
+      ∙ reads x (f.IfExpr ∷ fs) (w.Key t.Comma ∷ (spell y ++ w.Key t.Comma ∷ (spell z ++ w.Key t.CloseRound ∷ rest))) g.0 (level-9 x) (closes-comma (spell y ++ w.Key t.Comma ∷ (spell z ++ w.Key t.CloseRound ∷ rest)) x)
+      ∙ reads y (f.IfFirst (whole x) ∷ fs) (w.Key t.Comma ∷ (spell z ++ w.Key t.CloseRound ∷ rest)) g.1 (level-9 y) (closes-comma (spell z ++ w.Key t.CloseRound ∷ rest) y)
+      ∙ reads z (f.IfSecond (whole x) (whole y) ∷ fs) (w.Key t.CloseRound ∷ rest) g.2 (level-9 z) (closes-round rest z)
+      ∙ ap (λ v. read (m.After v) fs rest) (if_expr-whole x y z)
   reads (convert to s) fs rest g l h =
       conversion-begins to fs ((spell s ++ key t.CloseRound) ++ rest)
       ∙ ap (read m.Want (f.Convert to ∷ fs)) (append_assoc (spell s) (key t.CloseRound) rest)
@@ -357,9 +357,9 @@ mutual
       aggregate-begins p fs ((spell_over over ++ w.Key t.CloseRound ∷ spell s) ++ rest)
       ∙ ap (read (m.WantName (i.Aggregate p) o.no_groups []) fs) (append_assoc (spell_over over) (w.Key t.CloseRound ∷ spell s) rest)
       ∙ r.reads_to
-      ∙ index-closes (i.Aggregate p) r.top r.last (ready_at (max 0 (height_over over)) (index_of over)) fs (spell s ++ rest) r.ends
-      ∙ ap (λ k. read m.Want (f.Body p (ready_at k (index_of over)) ∷ fs) (spell s ++ rest)) zero
-      ∙ reads s (f.Body p (ready_at (height_over over) (index_of over)) ∷ fs) rest g.2 g.0 (follows-part (aggregate p over s) s rest (λ op e. or_right _ (takes s op) e) h)
+      ∙ index-closes (i.Aggregate p) r.top r.last (index_at (max 0 (height_over over)) (index_of over)) fs (spell s ++ rest) r.ends
+      ∙ ap (λ k. read m.Want (f.Body p (index_at k (index_of over)) ∷ fs) (spell s ++ rest)) zero
+      ∙ reads s (f.Body p (index_at (height_over over) (index_of over)) ∷ fs) rest g.2 g.0 (follows-part (aggregate p over s) s rest (λ op e. or_right _ (takes s op) e) h)
       ∙ pops-body p over s fs rest g.0 h
   reads (counted over) fs rest g l h =
       let r : IndexRead i.Count 0 [] over fs (w.Key t.CloseRound ∷ rest) = reads_over i.Count 0 [] over fs (w.Key t.CloseRound ∷ rest) g (closes-round rest) in
@@ -367,8 +367,8 @@ mutual
       count-begins fs ((spell_over over ++ key t.CloseRound) ++ rest)
       ∙ ap (read (m.WantName i.Count o.no_groups []) fs) (append_assoc (spell_over over) (key t.CloseRound) rest)
       ∙ r.reads_to
-      ∙ index-closes i.Count r.top r.last (ready_at (max 0 (height_over over)) (index_of over)) fs rest r.ends
-      ∙ ap (λ k. read (m.After (o.counted_of (ready_at k (index_of over)))) fs rest) zero
+      ∙ index-closes i.Count r.top r.last (index_at (max 0 (height_over over)) (index_of over)) fs rest r.ends
+      ∙ ap (λ k. read (m.After (o.counted_of (index_at k (index_of over)))) fs rest) zero
       ∙ ap (λ y. read (m.After y) fs rest) (counted-whole (height_over over) (index_of over))
 
   reads_rest : (frame : Parts → Frame) → IsListFrame frame → (h : ℕ) (xs : List Expr) (s : Syntax) (ss : Written) (fs : List Frame) (rest : List Word) → AreGrouped ss → Closes rest → ListRead frame h xs s ss fs rest
@@ -386,7 +386,7 @@ mutual
         last = r.last;
         parts = r.parts;
         reads_to =
-            is.comma (parts_at h xs) (whole s) fs ((spell y ++ spell_rest ys) ++ rest)
+            is.at_comma (parts_at h xs) (whole s) fs ((spell y ++ spell_rest ys) ++ rest)
             ∙ ap (λ ps. read m.Want (frame ps ∷ fs) ((spell y ++ spell_rest ys) ++ rest)) (parts-whole h xs s)
             ∙ ap (read m.Want (frame (parts_at (max h (height s)) (xs ++ tree s ∷ [])) ∷ fs)) (append_assoc (spell y) (spell_rest ys) rest)
             ∙ reads y (frame (parts_at (max h (height s)) (xs ++ tree s ∷ [])) ∷ fs) (spell_rest ys ++ rest) g.0 fits (follows-rest y ys rest c)
@@ -397,26 +397,26 @@ mutual
   pub reads_over : (kind : IndexKind) (h : ℕ) (gs : List (Group Expr)) (over : Over) (fs : List Frame) (rest : List Word) → IsGroupedOver over → Closes rest → IndexRead kind h gs over fs rest
   reads_over kind h gs (last_set ns s) fs rest g c = record {
     last = whole s;
-    top = f.Within kind (groups_at h gs) (list_of_names ns);
+    top = f.IndexSet kind (groups_at h gs) (list_of_names ns);
     reads_to =
         ap (read (m.WantName kind (groups_at h gs) []) fs) (append_assoc (spell_names ns) (w.Key t.In ∷ spell s) rest)
         ∙ reads-names kind (groups_at h gs) ns [] fs (spell s ++ rest)
-        ∙ reads s (f.Within kind (groups_at h gs) (list_of_names ns) ∷ fs) rest g.1 g.0 (c s);
+        ∙ reads s (f.IndexSet kind (groups_at h gs) (list_of_names ns) ∷ fs) rest g.1 g.0 (c s);
     ends = set_ends kind h gs (list_of_names ns) s g.0;
   }
   reads_over kind h gs (such_that ns s x) fs rest g c = record {
     last = whole x;
-    top = f.Such kind (groups_at (max h (height s + 1)) (gs ++ group_of (list_of_names ns) s ∷ []));
+    top = f.IndexCondition kind (groups_at (max h (height s + 1)) (gs ++ group_of (list_of_names ns) s ∷ []));
     reads_to =
         ap (read (m.WantName kind (groups_at h gs) []) fs) (append_assoc (spell_names ns) (w.Key t.In ∷ (spell s ++ w.Key t.Bar ∷ spell x)) rest)
         ∙ reads-names kind (groups_at h gs) ns [] fs ((spell s ++ w.Key t.Bar ∷ spell x) ++ rest)
-        ∙ ap (read m.Want (f.Within kind (groups_at h gs) (list_of_names ns) ∷ fs)) (append_assoc (spell s) (w.Key t.Bar ∷ spell x) rest)
-        ∙ reads s (f.Within kind (groups_at h gs) (list_of_names ns) ∷ fs) (w.Key t.Bar ∷ (spell x ++ rest)) g.1 g.0 (closes-bar (spell x ++ rest) s)
+        ∙ ap (read m.Want (f.IndexSet kind (groups_at h gs) (list_of_names ns) ∷ fs)) (append_assoc (spell s) (w.Key t.Bar ∷ spell x) rest)
+        ∙ reads s (f.IndexSet kind (groups_at h gs) (list_of_names ns) ∷ fs) (w.Key t.Bar ∷ (spell x ++ rest)) g.1 g.0 (closes-bar (spell x ++ rest) s)
         ∙ reads-bar kind h gs (list_of_names ns) s fs (spell x ++ rest) g.0
-        ∙ reads x (f.Such kind (groups_at (max h (height s + 1)) (gs ++ group_of (list_of_names ns) s ∷ [])) ∷ fs) rest g.2 (level-9 x) (c x);
+        ∙ reads x (f.IndexCondition kind (groups_at (max h (height s + 1)) (gs ++ group_of (list_of_names ns) s ∷ [])) ∷ fs) rest g.2 (level-9 x) (c x);
     ends =
         let p : max (max h (height s + 1)) (height x) ≡ max h (max (height s + 1) (height x)) = omega arith in
-        subst (λ q. IndexEnds kind (f.Such kind (groups_at (max h (height s + 1)) (gs ++ group_of (list_of_names ns) s ∷ []))) (whole x) (ready_at q (record { groups = gs ++ group_of (list_of_names ns) s ∷ []; condition = Some (tree x) }))) p (condition_ends kind (max h (height s + 1)) (gs ++ group_of (list_of_names ns) s ∷ []) x);
+        subst (λ q. IndexEnds kind (f.IndexCondition kind (groups_at (max h (height s + 1)) (gs ++ group_of (list_of_names ns) s ∷ []))) (whole x) (index_at q (record { groups = gs ++ group_of (list_of_names ns) s ∷ []; condition = Some (tree x) }))) p (condition_ends kind (max h (height s + 1)) (gs ++ group_of (list_of_names ns) s ∷ []) x);
   }
   reads_over kind h gs (another ns s over) fs rest g c =
       let r : IndexRead kind (max h (height s + 1)) (gs ++ group_of (list_of_names ns) s ∷ []) over fs rest = reads_over kind (max h (height s + 1)) (gs ++ group_of (list_of_names ns) s ∷ []) over fs rest g.2 c in
@@ -426,8 +426,8 @@ mutual
         reads_to =
             ap (read (m.WantName kind (groups_at h gs) []) fs) (append_assoc (spell_names ns) (w.Key t.In ∷ (spell s ++ w.Key t.Comma ∷ spell_over over)) rest)
             ∙ reads-names kind (groups_at h gs) ns [] fs ((spell s ++ w.Key t.Comma ∷ spell_over over) ++ rest)
-            ∙ ap (read m.Want (f.Within kind (groups_at h gs) (list_of_names ns) ∷ fs)) (append_assoc (spell s) (w.Key t.Comma ∷ spell_over over) rest)
-            ∙ reads s (f.Within kind (groups_at h gs) (list_of_names ns) ∷ fs) (w.Key t.Comma ∷ (spell_over over ++ rest)) g.1 g.0 (closes-comma (spell_over over ++ rest) s)
+            ∙ ap (read m.Want (f.IndexSet kind (groups_at h gs) (list_of_names ns) ∷ fs)) (append_assoc (spell s) (w.Key t.Comma ∷ spell_over over) rest)
+            ∙ reads s (f.IndexSet kind (groups_at h gs) (list_of_names ns) ∷ fs) (w.Key t.Comma ∷ (spell_over over ++ rest)) g.1 g.0 (closes-comma (spell_over over ++ rest) s)
             ∙ reads-comma kind h gs (list_of_names ns) s fs (spell_over over ++ rest) g.0
             ∙ r.reads_to;
         ends = more_ends kind r.top r.last h (height s + 1) (height_over over) gs (groups_of over) (group_of (list_of_names ns) s) (condition_of over) r.ends;

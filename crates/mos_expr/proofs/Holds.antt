@@ -1,3 +1,5 @@
+-- What the open frames hold: the words that were read, and what they spell so far.
+
 use Rattle.std.proofs.Common.{◌≡◌, ℕ, ◌+◌, ◌≤◌, max, false, List, [], ◌∷◌, ◌++◌, Some, None, refl, sym, ◌∙◌, ap, arith, append_assoc}
 use Rattle.mos_tree.specs.declared.expr.Expr.{Expr}
 use Rattle.mos_tree.specs.declared.expr.Group.{Group}
@@ -11,16 +13,14 @@ use Rattle.mos_expr.specs.Operands as o
 use Rattle.mos_expr.specs.declared.operand.Operand.{Operand}
 use Rattle.mos_expr.specs.declared.operand.Parts.{Parts}
 use Rattle.mos_expr.specs.declared.operand.Groups.{Groups}
-use Rattle.mos_expr.specs.declared.operand.Ready.{Ready}
+use Rattle.mos_expr.specs.declared.operand.WholeIndex.{WholeIndex}
 use Rattle.mos_expr.specs.declared.frame.IndexKind.{IndexKind}
 use Rattle.mos_expr.specs.declared.frame.IndexKind.TheVariants as i
 use Rattle.mos_expr.specs.declared.frame.Frame.{Frame}
 use Rattle.mos_expr.specs.declared.frame.Frame.TheVariants as f
 use Rattle.mos_expr.specs.declared.frame.Mode.{Mode}
 use Rattle.mos_expr.specs.declared.frame.Mode.TheVariants as m
-use Rattle.mos_expr.proofs.Values.{whole, parts_at, groups_at, ready_at, group_of, parts-whole, groups-whole}
-
--- What the open frames hold: the words that were read, and what they spell so far.
+use Rattle.mos_expr.proofs.Values.{whole, parts_at, groups_at, index_at, group_of, parts-whole, groups-whole}
 
 -- ---- what is begun
 
@@ -145,10 +145,10 @@ pub record LastSet (groups : Groups) : Type 0 where
   pub is : groups ≡ groups_at (max sets.h (height syntax + 1)) (sets.gs ++ group_of (list_of_names names) syntax ∷ [])
 
 -- a whole index
-pub record WholeIndex (ready : Ready) : Type 0 where
+pub record SpelledIndex (ready : WholeIndex) : Type 0 where
   pub over : Over
   pub grouped : IsGroupedOver over
-  pub is : ready ≡ ready_at (height_over over) (index_of over)
+  pub is : ready ≡ index_at (height_over over) (index_of over)
 
 -- expressions between brackets
 pub record WholeParts (parts : Parts) : Type 0 where
@@ -171,16 +171,16 @@ Holds (f.Bracket ∷ fs) rest all = Holds fs (w.Key t.OpenRound ∷ rest) all
 Holds (f.Call n parts ∷ fs) rest all = (p : PartsBefore parts) × Holds fs (w.Name n ∷ w.Key t.OpenRound ∷ p.words rest) all
 Holds (f.Set parts ∷ fs) rest all = (p : PartsBefore parts) × Holds fs (w.Key t.OpenCurly ∷ p.words rest) all
 Holds (f.List parts ∷ fs) rest all = (p : PartsBefore parts) × Holds fs (w.Key t.OpenSquare ∷ p.words rest) all
-Holds (f.Listed parts ∷ fs) rest all = (p : PartsBefore parts) × Holds fs (p.words rest) all
-Holds (f.Choice ∷ fs) rest all = Holds fs (w.Key t.If ∷ w.Key t.OpenRound ∷ rest) all
-Holds (f.ChoiceOne a ∷ fs) rest all = (x : Whole a) × Holds fs (w.Key t.If ∷ w.Key t.OpenRound ∷ (spell x.syntax ++ w.Key t.Comma ∷ rest)) all
-Holds (f.ChoiceTwo a b ∷ fs) rest all = (x : Whole a) × (y : Whole b) × Holds fs (w.Key t.If ∷ w.Key t.OpenRound ∷ (spell x.syntax ++ w.Key t.Comma ∷ (spell y.syntax ++ w.Key t.Comma ∷ rest))) all
+Holds (f.BareList parts ∷ fs) rest all = (p : PartsBefore parts) × Holds fs (p.words rest) all
+Holds (f.IfExpr ∷ fs) rest all = Holds fs (w.Key t.If ∷ w.Key t.OpenRound ∷ rest) all
+Holds (f.IfFirst a ∷ fs) rest all = (x : Whole a) × Holds fs (w.Key t.If ∷ w.Key t.OpenRound ∷ (spell x.syntax ++ w.Key t.Comma ∷ rest)) all
+Holds (f.IfSecond a b ∷ fs) rest all = (x : Whole a) × (y : Whole b) × Holds fs (w.Key t.If ∷ w.Key t.OpenRound ∷ (spell x.syntax ++ w.Key t.Comma ∷ (spell y.syntax ++ w.Key t.Comma ∷ rest))) all
 Holds (f.Convert to ∷ fs) rest all = Holds fs (spell_conversion to ∷ w.Key t.OpenRound ∷ rest) all
 Holds (f.Before op ∷ fs) rest all = Holds fs (spell_before op ∷ rest) all
 Holds (f.Between op a ∷ fs) rest all = (x : Whole a) × (level x.syntax ≤ left_of op) × (takes x.syntax op ≡ false) × Holds fs (spell x.syntax ++ (spell_between op ++ rest)) all
-Holds (f.Within kind groups names ∷ fs) rest all = (sets : SetsBefore groups) × (ns : Names) × (names ≡ list_of_names ns) × Holds fs (begin_index kind (sets.words (spell_names ns ++ w.Key t.In ∷ rest))) all
-Holds (f.Such kind groups ∷ fs) rest all = (last : LastSet groups) × Holds fs (begin_index kind (last.sets.words (spell_names last.names ++ w.Key t.In ∷ (spell last.syntax ++ w.Key t.Bar ∷ rest)))) all
-Holds (f.Body op ready ∷ fs) rest all = (x : WholeIndex ready) × Holds fs (spell_aggregate op ∷ w.Key t.OpenRound ∷ (spell_over x.over ++ w.Key t.CloseRound ∷ rest)) all
+Holds (f.IndexSet kind groups names ∷ fs) rest all = (sets : SetsBefore groups) × (ns : Names) × (names ≡ list_of_names ns) × Holds fs (begin_index kind (sets.words (spell_names ns ++ w.Key t.In ∷ rest))) all
+Holds (f.IndexCondition kind groups ∷ fs) rest all = (last : LastSet groups) × Holds fs (begin_index kind (last.sets.words (spell_names last.names ++ w.Key t.In ∷ (spell last.syntax ++ w.Key t.Bar ∷ rest)))) all
+Holds (f.Body op ready ∷ fs) rest all = (x : SpelledIndex ready) × Holds fs (spell_aggregate op ∷ w.Key t.OpenRound ∷ (spell_over x.over ++ w.Key t.CloseRound ∷ rest)) all
 
 -- a bracket that was just opened
 abbrev pub HoldsFirst : List Frame → List Word → List Word → Type 0

@@ -1,8 +1,9 @@
 pub mod Complete
+pub mod Ending
 pub mod Holds
+pub mod Nodes
+pub mod Sizes
 pub mod Sound
 pub mod Steps
-pub mod TextForms
-pub mod Texts
 pub mod Values
 pub mod Whole

@@ -1,4 +1,6 @@
-use Rattle.std.proofs.Common.{◌≡◌, ℕ, ◌+◌, ◌≤◌, max, Bool, true, false, nat_le, ◌&&◌, ◌||◌, List, [], ◌∷◌, ◌++◌, Option, Some, None, refl, sym, ◌∙◌, ap, subst, arith, append_assoc}
+-- What the reader accepts is spelled as the grammar says.
+
+use Rattle.std.proofs.Common.{◌≡◌, ℕ, ◌≤◌, Bool, true, false, nat_le, ◌&&◌, ◌||◌, List, [], ◌∷◌, ◌++◌, Option, Some, None, refl, sym, ◌∙◌, ap, subst, append_assoc}
 use Rattle.std.proofs.lemmas.Bool.{leb-true, and_parts}
 use Rattle.mos_tree.specs.declared.expr.Expr.TheVariants as e
 use Rattle.mos_tree.specs.declared.expr.BinaryOperator.{BinaryOperator}
@@ -8,94 +10,28 @@ use Rattle.mos_scan.specs.declared.token.TokenKind.{TokenKind}
 use Rattle.mos_scan.specs.declared.token.TokenKind.TheVariants as t
 use Rattle.mos_scan.specs.declared.reading.Word.{Word}
 use Rattle.mos_scan.specs.declared.reading.Word.TheVariants as w
-use Rattle.mos_expr.specs.Grammar.{Leaf, number, text, truth, name, returned, field, Names, one_name, Syntax, leaf, call, call_field, set, list, bracket, choice, convert, before, between, aggregate, counted, no_more, one_more, Over, last_set, such_that, level, level_before, level_body, binds, left_of, right_of, takes, tree, trees, height, heights, height_over, groups_of, index_of, IsGrouped, key, spell, spell_between, spell_aggregate, spell_conversion, spell_names, spell_list, spell_over, list_of_names}
-use Rattle.mos_expr.specs.Machine.{State, Settled, and_then, folds, room, settled, placed, at_frame, after_key, mode_behind, index_read, round, curly, square, comma, bar, close, infix_at, on}
+use Rattle.mos_expr.specs.Grammar.{Leaf, number, text, truth, name, returned, field, Names, one_name, Syntax, leaf, call, call_field, set, list, bracket, if_expr, convert, before, between, aggregate, counted, no_more, one_more, Over, last_set, such_that, level, level_before, level_body, binds, left_of, right_of, takes, trees, heights, height_over, index_of, IsGrouped, key, spell, spell_between, spell_aggregate, spell_conversion, spell_names, spell_list, spell_over, list_of_names}
+use Rattle.mos_expr.specs.Machine.{State, Settled, and_then, folds, room, settled, placed, at_frame, after_key, mode_behind, index_read, at_round, at_curly, at_square, at_comma, at_bar, close, infix_at, state_of}
 use Rattle.mos_expr.specs.Reader.{step, read, want, want_key, aggregate_key, want_first, first_key, want_open, open_index, want_in, want_name, after_name, dotted, dotted_call, after, named, called, at_end}
 use Rattle.mos_expr.specs.Operands as o
 use Rattle.mos_expr.specs.declared.operand.Operand.{Operand}
 use Rattle.mos_expr.specs.declared.operand.Parts.{Parts}
 use Rattle.mos_expr.specs.declared.operand.Groups.{Groups}
-use Rattle.mos_expr.specs.declared.operand.Ready.{Ready}
+use Rattle.mos_expr.specs.declared.operand.WholeIndex.{WholeIndex}
 use Rattle.mos_expr.specs.declared.frame.IndexKind.{IndexKind}
 use Rattle.mos_expr.specs.declared.frame.IndexKind.TheVariants as i
 use Rattle.mos_expr.specs.declared.frame.Frame.{Frame}
 use Rattle.mos_expr.specs.declared.frame.Frame.TheVariants as f
 use Rattle.mos_expr.specs.declared.frame.Mode.{Mode}
 use Rattle.mos_expr.specs.declared.frame.Mode.TheVariants as m
-use Rattle.mos_expr.proofs.Values.{on_bool, whole, parts_at, ready_at, group_of, bracketed-whole, convert-whole, choice-whole, before-whole, between-whole, aggregate-whole, counted-whole, parts-whole, call-whole, call_field-whole, set-whole, list-whole, groups-whole, ready-whole, such-whole}
+use Rattle.mos_expr.proofs.Values.{on_bool, whole, bracketed-whole, convert-whole, if_expr-whole, before-whole, between-whole, aggregate-whole, counted-whole, call-whole, call_field-whole, set-whole, list-whole}
 use Rattle.mos_expr.proofs.Complete.{three-parts}
-use Rattle.mos_expr.proofs.Holds.{Whole, PartsBefore, SetsBefore, LastSet, WholeIndex, WholeParts, no_parts_before, part_before, no_names_before, name_before, no_sets_before, set_before, begin_index, Holds, HoldsFirst, Stands, Good, GoodOperand}
-
--- What the reader accepts is spelled as the grammar says.
+use Rattle.mos_expr.proofs.Ending.{parts_done, parts_words, no_parts_done, set_done, set_before_condition, condition_done, set_words, condition_words}
+use Rattle.mos_expr.proofs.Holds.{Whole, PartsBefore, SetsBefore, SpelledIndex, WholeParts, no_parts_before, part_before, no_names_before, name_before, no_sets_before, set_before, begin_index, Holds, HoldsFirst, Stands, Good, GoodOperand}
 
 -- all words stand as they did, with what is left written otherwise
 moved : (fs : List Frame) (x y all : List Word) → x ≡ y → Holds fs x all → Holds fs y all
 moved fs x y all e h = subst (λ ws. Holds fs ws all) e h
-
--- ---- whole parts and whole indexes
-
--- the last of some parts
-abbrev pub parts_done : (parts : Parts) (p : PartsBefore parts) (s : Syntax) → IsGrouped s → WholeParts (o.parts_with parts (whole s))
-parts_done parts p s g = record {
-  written = p.with_more (one_more s no_more);
-  grouped = p.grouped (one_more s no_more) (g, tt);
-  is =
-      ap (λ q. o.parts_with q (whole s)) p.is ∙ parts-whole p.h p.xs s
-      ∙ ap (λ k. parts_at k (p.xs ++ tree s ∷ [])) (let e : max p.h (height s) ≡ max p.h (max (height s) 0) = omega arith in e ∙ sym (p.high (one_more s no_more)))
-      ∙ ap (λ xs. parts_at (heights (p.with_more (one_more s no_more))) xs) (sym (p.made (one_more s no_more)));
-}
-
-pub parts_words : (parts : Parts) (p : PartsBefore parts) (s : Syntax) (rest : List Word) → p.words (spell s ++ rest) ≡ spell_list (p.with_more (one_more s no_more)) ++ rest
-parts_words parts p s rest = sym (p.spelled s no_more rest)
-
-abbrev no_parts_done : WholeParts o.no_parts
-no_parts_done = record { written = no_more; grouped = tt; is = refl }
-
--- an index whose last set has no condition
-abbrev pub set_done : (groups : Groups) (sets : SetsBefore groups) (ns : Names) (s : Syntax) → level s ≤ 5 → IsGrouped s → WholeIndex (o.ready_of (o.groups_with groups (list_of_names ns) (whole s)))
-set_done groups sets ns s l g = record {
-  over = sets.with_more (last_set ns s);
-  grouped = sets.grouped (last_set ns s) (l, g);
-  is =
-      ap (λ q. o.ready_of (o.groups_with q (list_of_names ns) (whole s))) sets.is
-      ∙ ap o.ready_of (groups-whole sets.h sets.gs (list_of_names ns) s)
-      ∙ ready-whole (max sets.h (height s + 1)) (sets.gs ++ group_of (list_of_names ns) s ∷ [])
-      ∙ ap (λ k. ready_at k (record { groups = sets.gs ++ group_of (list_of_names ns) s ∷ []; condition = None })) (sym (sets.high (last_set ns s)))
-      ∙ ap (λ gs. ready_at (height_over (sets.with_more (last_set ns s))) (record { groups = gs; condition = None })) (sym (sets.made (last_set ns s)))
-      ∙ ap (λ x. ready_at (height_over (sets.with_more (last_set ns s))) (record { groups = groups_of (sets.with_more (last_set ns s)); condition = x })) (sym (sets.condition (last_set ns s)));
-}
-
--- the last set of an index, whose condition comes next
-abbrev set_before_condition : (groups : Groups) (sets : SetsBefore groups) (ns : Names) (s : Syntax) → level s ≤ 5 → IsGrouped s → LastSet (o.groups_with groups (list_of_names ns) (whole s))
-set_before_condition groups sets ns s l g = record {
-  earlier = groups;
-  sets = sets;
-  names = ns;
-  syntax = s;
-  tight = l;
-  grouped = g;
-  is = ap (λ q. o.groups_with q (list_of_names ns) (whole s)) sets.is ∙ groups-whole sets.h sets.gs (list_of_names ns) s;
-}
-
--- an index with its condition
-abbrev pub condition_done : (groups : Groups) (last : LastSet groups) (x : Syntax) → IsGrouped x → WholeIndex (o.such_of groups (whole x))
-condition_done groups last x g =
-    record {
-      over = last.sets.with_more (such_that last.names last.syntax x);
-      grouped = last.sets.grouped (such_that last.names last.syntax x) (last.tight, last.grouped, g);
-      is =
-          ap (λ q. o.such_of q (whole x)) last.is
-          ∙ such-whole (max last.sets.h (height last.syntax + 1)) (last.sets.gs ++ group_of (list_of_names last.names) last.syntax ∷ []) x
-          ∙ ap (λ k. ready_at k (record { groups = last.sets.gs ++ group_of (list_of_names last.names) last.syntax ∷ []; condition = Some (tree x) })) (let e : max (max last.sets.h (height last.syntax + 1)) (height x) ≡ max last.sets.h (max (height last.syntax + 1) (height x)) = omega arith in e ∙ sym (last.sets.high (such_that last.names last.syntax x)))
-          ∙ ap (λ gs. ready_at (height_over (last.sets.with_more (such_that last.names last.syntax x))) (record { groups = gs; condition = Some (tree x) })) (sym (last.sets.made (such_that last.names last.syntax x)))
-          ∙ ap (λ y. ready_at (height_over (last.sets.with_more (such_that last.names last.syntax x))) (record { groups = groups_of (last.sets.with_more (such_that last.names last.syntax x)); condition = y })) (sym (last.sets.condition (such_that last.names last.syntax x)));
-    }
-
-pub set_words : (ns : Names) (s : Syntax) (rest : List Word) → spell_names ns ++ w.Key t.In ∷ (spell s ++ rest) ≡ spell_over (last_set ns s) ++ rest
-set_words ns s rest = sym (append_assoc (spell_names ns) (w.Key t.In ∷ spell s) rest)
-
-pub condition_words : (ns : Names) (s x : Syntax) (rest : List Word) → spell_names ns ++ w.Key t.In ∷ (spell s ++ w.Key t.Bar ∷ (spell x ++ rest)) ≡ spell_over (such_that ns s x) ++ rest
-condition_words ns s x rest = simp append_assoc
 
 -- ---- what is whole, in an operand
 
@@ -117,7 +53,7 @@ between_words op x y rest = simp append_assoc
 body_words : (over : Over) (s : Syntax) (rest : List Word) → spell_over over ++ w.Key t.CloseRound ∷ (spell s ++ rest) ≡ (spell_over over ++ w.Key t.CloseRound ∷ spell s) ++ rest
 body_words over s rest = sym (append_assoc (spell_over over) (w.Key t.CloseRound ∷ spell s) rest)
 
-body_whole : (p : AggregateOperator) (ready : Ready) (index : WholeIndex ready) (s : Syntax) → o.aggregate_of p ready (whole s) ≡ whole (aggregate p index.over s)
+body_whole : (p : AggregateOperator) (ready : WholeIndex) (index : SpelledIndex ready) (s : Syntax) → o.aggregate_of p ready (whole s) ≡ whole (aggregate p index.over s)
 body_whole p ready index s = ap (λ r. o.aggregate_of p r (whole s)) index.is ∙ aggregate-whole p (height_over index.over) (index_of index.over) s
 
 -- the operand that a frame makes ends what it ends
@@ -211,7 +147,7 @@ not_in s fs rest all g n h =
 
 -- ---- a bracket, a comma or a bar
 
-index_reads : (kind : IndexKind) (ready : Ready) (fs : List Frame) (rest all : List Word) (x : WholeIndex ready) → Holds fs (begin_index kind (spell_over x.over ++ w.Key t.CloseRound ∷ rest)) all → Good (index_read kind ready fs) rest all
+index_reads : (kind : IndexKind) (ready : WholeIndex) (fs : List Frame) (rest all : List Word) (x : SpelledIndex ready) → Holds fs (begin_index kind (spell_over x.over ++ w.Key t.CloseRound ∷ rest)) all → Good (index_read kind ready fs) rest all
 index_reads (i.Aggregate op) ready fs rest all x h = (x, h)
 index_reads i.Count ready fs rest all x h =
     after_stands (counted x.over) (o.counted_of ready) fs rest all x.grouped (ap o.counted_of x.is ∙ counted-whole (height_over x.over) (index_of x.over)) (λ op. refl)
@@ -219,30 +155,30 @@ index_reads i.Count ready fs rest all x h =
 index_reads i.Loop ready fs rest all x h = tt
 
 -- the last set, behind names that were read
-rounds_set : (kind : IndexKind) (groups : Groups) (sets : SetsBefore groups) (ns : Names) (fs : List Frame) (s : Syntax) (rest all : List Word) → level s ≤ 5 → IsGrouped s → Holds fs (begin_index kind (sets.words (spell_names ns ++ w.Key t.In ∷ (spell s ++ w.Key t.CloseRound ∷ rest)))) all → Good (index_read kind (o.ready_of (o.groups_with groups (list_of_names ns) (whole s))) fs) rest all
+rounds_set : (kind : IndexKind) (groups : Groups) (sets : SetsBefore groups) (ns : Names) (fs : List Frame) (s : Syntax) (rest all : List Word) → level s ≤ 5 → IsGrouped s → Holds fs (begin_index kind (sets.words (spell_names ns ++ w.Key t.In ∷ (spell s ++ w.Key t.CloseRound ∷ rest)))) all → Good (index_read kind (o.whole_index_of (o.groups_with groups (list_of_names ns) (whole s))) fs) rest all
 rounds_set kind groups sets ns fs s rest all l g h =
-    index_reads kind (o.ready_of (o.groups_with groups (list_of_names ns) (whole s))) fs rest all (set_done groups sets ns s l g)
+    index_reads kind (o.whole_index_of (o.groups_with groups (list_of_names ns) (whole s))) fs rest all (set_done groups sets ns s l g)
     (moved fs _ _ all (ap (begin_index kind) (ap sets.words (set_words ns s (w.Key t.CloseRound ∷ rest)) ∙ sym (sets.spelled (last_set ns s) (w.Key t.CloseRound ∷ rest)))) h)
 
-rounds : (q : Frame) (fs : List Frame) (s : Syntax) (rest all : List Word) → IsGrouped s → Holds (q ∷ fs) (spell s ++ w.Key t.CloseRound ∷ rest) all → Good (round q (whole s) fs) rest all
+rounds : (q : Frame) (fs : List Frame) (s : Syntax) (rest all : List Word) → IsGrouped s → Holds (q ∷ fs) (spell s ++ w.Key t.CloseRound ∷ rest) all → Good (at_round q (whole s) fs) rest all
 rounds f.Bracket fs s rest all g h =
     after_stands (bracket s) (o.bracketed (whole s)) fs rest all g (bracketed-whole s) (λ op. refl)
     (moved fs _ _ all (ap (λ z. w.Key t.OpenRound ∷ z) (sym (append_assoc (spell s) (key t.CloseRound) rest))) h)
 rounds (f.Call n ps) fs s rest all g h =
     (parts_done ps h.0 s g, moved fs _ _ all (ap (λ z. w.Name n ∷ w.Key t.OpenRound ∷ z) (parts_words ps h.0 s (w.Key t.CloseRound ∷ rest))) h.1)
-rounds (f.ChoiceTwo a c) fs s rest all g h =
-    after_stands (choice h.0.syntax h.1.syntax s) (o.choice_of a c (whole s)) fs rest all (h.0.grouped, h.1.grouped, g)
-    (ap (λ x. o.choice_of x c (whole s)) h.0.is ∙ ap (λ x. o.choice_of (whole h.0.syntax) x (whole s)) h.1.is ∙ choice-whole h.0.syntax h.1.syntax s) (λ op. refl)
+rounds (f.IfSecond a c) fs s rest all g h =
+    after_stands (if_expr h.0.syntax h.1.syntax s) (o.if_expr_of a c (whole s)) fs rest all (h.0.grouped, h.1.grouped, g)
+    (ap (λ x. o.if_expr_of x c (whole s)) h.0.is ∙ ap (λ x. o.if_expr_of (whole h.0.syntax) x (whole s)) h.1.is ∙ if_expr-whole h.0.syntax h.1.syntax s) (λ op. refl)
     (moved fs _ _ all (ap (λ z. w.Key t.If ∷ w.Key t.OpenRound ∷ z) (sym (three-parts (spell h.0.syntax) (spell h.1.syntax) (spell s) rest))) h.2)
 rounds (f.Convert to) fs s rest all g h =
     after_stands (convert to s) (o.convert_of to (whole s)) fs rest all g (convert-whole to s) (λ op. refl)
     (moved fs _ _ all (ap (λ z. spell_conversion to ∷ w.Key t.OpenRound ∷ z) (sym (append_assoc (spell s) (key t.CloseRound) rest))) h)
-rounds (f.Within kind groups names) fs s rest all g h =
+rounds (f.IndexSet kind groups names) fs s rest all g h =
     on_bool (nat_le (level s) 5)
-    (λ e. rw e (subst (λ l. Good (index_read kind (o.ready_of (o.groups_with groups l (whole s))) fs) rest all) (sym h.2) (rounds_set kind groups h.0 h.1 fs s rest all (leb-true (level s) 5 e) g h.3)))
+    (λ e. rw e (subst (λ l. Good (index_read kind (o.whole_index_of (o.groups_with groups l (whole s))) fs) rest all) (sym h.2) (rounds_set kind groups h.0 h.1 fs s rest all (leb-true (level s) 5 e) g h.3)))
     (λ e. rw e tt)
-rounds (f.Such kind groups) fs s rest all g h =
-    index_reads kind (o.such_of groups (whole s)) fs rest all (condition_done groups h.0 s g)
+rounds (f.IndexCondition kind groups) fs s rest all g h =
+    index_reads kind (o.conditioned_index_of groups (whole s)) fs rest all (condition_done groups h.0 s g)
     (moved fs _ _ all (ap (begin_index kind) (ap h.0.sets.words (condition_words h.0.names h.0.syntax s (w.Key t.CloseRound ∷ rest)) ∙ sym (h.0.sets.spelled (such_that h.0.names h.0.syntax s) (w.Key t.CloseRound ∷ rest)))) h.1)
 rounds q fs s rest all g h = tt
 
@@ -250,37 +186,37 @@ rounds q fs s rest all g h = tt
 bracket_words : (k : TokenKind) (ps : Parts) (p : PartsBefore ps) (s : Syntax) (rest : List Word) → p.words (spell s ++ w.Key k ∷ rest) ≡ (spell_list (p.with_more (one_more s no_more)) ++ key k) ++ rest
 bracket_words k ps p s rest = parts_words ps p s (w.Key k ∷ rest) ∙ sym (append_assoc (spell_list (p.with_more (one_more s no_more))) (key k) rest)
 
-curlies : (q : Frame) (fs : List Frame) (s : Syntax) (rest all : List Word) → IsGrouped s → Holds (q ∷ fs) (spell s ++ w.Key t.CloseCurly ∷ rest) all → Good (on (curly q (whole s)) fs) rest all
+curlies : (q : Frame) (fs : List Frame) (s : Syntax) (rest all : List Word) → IsGrouped s → Holds (q ∷ fs) (spell s ++ w.Key t.CloseCurly ∷ rest) all → Good (state_of (at_curly q (whole s)) fs) rest all
 curlies (f.Set ps) fs s rest all g h =
     let d : WholeParts (o.parts_with ps (whole s)) = parts_done ps h.0 s g in
     after_stands (set d.written) (o.set_of (o.parts_with ps (whole s))) fs rest all d.grouped (ap o.set_of d.is ∙ set-whole (heights d.written) (trees d.written)) (λ op. refl)
     (moved fs _ _ all (ap (λ z. w.Key t.OpenCurly ∷ z) (bracket_words t.CloseCurly ps h.0 s rest)) h.1)
 curlies q fs s rest all g h = tt
 
-squares : (q : Frame) (fs : List Frame) (s : Syntax) (rest all : List Word) → IsGrouped s → Holds (q ∷ fs) (spell s ++ w.Key t.CloseSquare ∷ rest) all → Good (on (square q (whole s)) fs) rest all
+squares : (q : Frame) (fs : List Frame) (s : Syntax) (rest all : List Word) → IsGrouped s → Holds (q ∷ fs) (spell s ++ w.Key t.CloseSquare ∷ rest) all → Good (state_of (at_square q (whole s)) fs) rest all
 squares (f.List ps) fs s rest all g h =
     let d : WholeParts (o.parts_with ps (whole s)) = parts_done ps h.0 s g in
     after_stands (list d.written) (o.list_of (o.parts_with ps (whole s))) fs rest all d.grouped (ap o.list_of d.is ∙ list-whole (heights d.written) (trees d.written)) (λ op. refl)
     (moved fs _ _ all (ap (λ z. w.Key t.OpenSquare ∷ z) (bracket_words t.CloseSquare ps h.0 s rest)) h.1)
 squares q fs s rest all g h = tt
 
-commas : (q : Frame) (fs : List Frame) (s : Syntax) (rest all : List Word) → IsGrouped s → Holds (q ∷ fs) (spell s ++ w.Key t.Comma ∷ rest) all → Good (comma q (whole s) fs) rest all
+commas : (q : Frame) (fs : List Frame) (s : Syntax) (rest all : List Word) → IsGrouped s → Holds (q ∷ fs) (spell s ++ w.Key t.Comma ∷ rest) all → Good (at_comma q (whole s) fs) rest all
 commas (f.Call n ps) fs s rest all g h = (part_before ps h.0 s g, h.1)
 commas (f.Set ps) fs s rest all g h = (part_before ps h.0 s g, h.1)
 commas (f.List ps) fs s rest all g h = (part_before ps h.0 s g, h.1)
-commas (f.Listed ps) fs s rest all g h = (part_before ps h.0 s g, h.1)
-commas f.Choice fs s rest all g h = (whole_of s (whole s) g refl, h)
-commas (f.ChoiceOne a) fs s rest all g h = (h.0, whole_of s (whole s) g refl, h.1)
-commas (f.Within kind groups names) fs s rest all g h =
+commas (f.BareList ps) fs s rest all g h = (part_before ps h.0 s g, h.1)
+commas f.IfExpr fs s rest all g h = (whole_of s (whole s) g refl, h)
+commas (f.IfFirst a) fs s rest all g h = (h.0, whole_of s (whole s) g refl, h.1)
+commas (f.IndexSet kind groups names) fs s rest all g h =
     on_bool (nat_le (level s) 5)
     (λ e. rw e (subst (λ l. Stands (m.WantName kind (o.groups_with groups l (whole s)) []) fs rest all) (sym h.2) (set_before groups h.0 h.1 s (leb-true (level s) 5 e) g, no_names_before, h.3)))
     (λ e. rw e tt)
 commas q fs s rest all g h = tt
 
-bars : (q : Frame) (fs : List Frame) (s : Syntax) (rest all : List Word) → IsGrouped s → Holds (q ∷ fs) (spell s ++ w.Key t.Bar ∷ rest) all → Good (bar q (whole s) fs) rest all
-bars (f.Within kind groups names) fs s rest all g h =
+bars : (q : Frame) (fs : List Frame) (s : Syntax) (rest all : List Word) → IsGrouped s → Holds (q ∷ fs) (spell s ++ w.Key t.Bar ∷ rest) all → Good (at_bar q (whole s) fs) rest all
+bars (f.IndexSet kind groups names) fs s rest all g h =
     on_bool (nat_le (level s) 5)
-    (λ e. rw e (subst (λ l. Stands m.Want (f.Such kind (o.groups_with groups l (whole s)) ∷ fs) rest all) (sym h.2) (set_before_condition groups h.0 h.1 s (leb-true (level s) 5 e) g, h.3)))
+    (λ e. rw e (subst (λ l. Stands m.Want (f.IndexCondition kind (o.groups_with groups l (whole s)) ∷ fs) rest all) (sym h.2) (set_before_condition groups h.0 h.1 s (leb-true (level s) 5 e) g, h.3)))
     (λ e. rw e tt)
 bars q fs s rest all g h = tt
 

@@ -1,3 +1,5 @@
+-- What the reader does behind an operand, step by step.
+
 use Rattle.std.proofs.Common.{◌≡◌, ℕ, ◌≤◌, Bool, true, false, nat_le, ◌&&◌, ◌||◌, List, [], ◌∷◌, ◌++◌, Option, Some, None, refl, sym, ◌∙◌, ap, subst, arith}
 use Rattle.std.proofs.lemmas.Bool.{le-leb}
 use Rattle.mos_tree.specs.declared.expr.UnaryOperator.{UnaryOperator}
@@ -10,7 +12,7 @@ use Rattle.mos_scan.specs.declared.token.TokenKind.{TokenKind}
 use Rattle.mos_scan.specs.declared.token.TokenKind.TheVariants as t
 use Rattle.mos_scan.specs.declared.reading.Word.{Word}
 use Rattle.mos_scan.specs.declared.reading.Word.TheVariants as w
-use Rattle.mos_expr.specs.Grammar.{Syntax, leaf, call, call_field, set, list, bracket, choice, convert, before, between, aggregate, counted, Over, level, level_before, level_body, binds, left_of, right_of, takes, height_over, spell_between, index_of}
+use Rattle.mos_expr.specs.Grammar.{Syntax, leaf, call, call_field, set, list, bracket, if_expr, convert, before, between, aggregate, counted, Over, level, level_before, level_body, binds, left_of, right_of, takes, height_over, spell_between, index_of}
 use Rattle.mos_expr.specs.Machine.{State, Settled, and_then, folds, room, fold, folded, stays, settled, placed, by_operator, at_frame, mode_behind, operator_of, after_key}
 use Rattle.mos_expr.specs.Reader.{step, read}
 use Rattle.mos_expr.specs.Operands as o
@@ -19,9 +21,7 @@ use Rattle.mos_expr.specs.declared.operand.Parts.{Parts}
 use Rattle.mos_expr.specs.declared.frame.Frame.{Frame}
 use Rattle.mos_expr.specs.declared.frame.Frame.TheVariants as f
 use Rattle.mos_expr.specs.declared.frame.Mode.TheVariants as m
-use Rattle.mos_expr.proofs.Values.{whole, ready_at, before-whole, between-whole, aggregate-whole}
-
--- What the reader does behind an operand, step by step.
+use Rattle.mos_expr.proofs.Values.{whole, index_at, before-whole, between-whole, aggregate-whole}
 
 pub or_left : (x y : Bool) → (x || y) ≡ false → x ≡ false
 or_left true y h = h
@@ -80,7 +80,7 @@ level-9 (call_field n xs f) = omega arith
 level-9 (set xs) = omega arith
 level-9 (list xs) = omega arith
 level-9 (bracket s) = omega arith
-level-9 (choice x y z) = omega arith
+level-9 (if_expr x y z) = omega arith
 level-9 (convert c s) = omega arith
 level-9 (aggregate g i s) = omega arith
 level-9 (counted i) = omega arith
@@ -149,11 +149,11 @@ pops-between op a s fs rest l h =
     (fold-tight (f.Between op (whole a)) s (whole (between op a s)) l (ap (λ z. Some z) (between-whole op a s)))
     (not_within (f.Between op (whole a)) (between op a s) s rest (λ q. refl) h)
 
-pub pops-body : (g : AggregateOperator) (i : Over) (s : Syntax) (fs : List Frame) (rest : List Word) → level s ≤ level_body g → Follows (aggregate g i s) rest → read (m.After (whole s)) (f.Body g (ready_at (height_over i) (index_of i)) ∷ fs) rest ≡ read (m.After (whole (aggregate g i s))) fs rest
+pub pops-body : (g : AggregateOperator) (i : Over) (s : Syntax) (fs : List Frame) (rest : List Word) → level s ≤ level_body g → Follows (aggregate g i s) rest → read (m.After (whole s)) (f.Body g (index_at (height_over i) (index_of i)) ∷ fs) rest ≡ read (m.After (whole (aggregate g i s))) fs rest
 pops-body g i s fs rest l h =
-    pops (f.Body g (ready_at (height_over i) (index_of i))) (whole s) (whole (aggregate g i s)) fs rest refl
-    (fold-tight (f.Body g (ready_at (height_over i) (index_of i))) s (whole (aggregate g i s)) l (ap (λ z. Some z) (aggregate-whole g (height_over i) (index_of i) s)))
-    (not_within (f.Body g (ready_at (height_over i) (index_of i))) (aggregate g i s) s rest (λ op. refl) h)
+    pops (f.Body g (index_at (height_over i) (index_of i))) (whole s) (whole (aggregate g i s)) fs rest refl
+    (fold-tight (f.Body g (index_at (height_over i) (index_of i))) s (whole (aggregate g i s)) l (ap (λ z. Some z) (aggregate-whole g (height_over i) (index_of i) s)))
+    (not_within (f.Body g (index_at (height_over i) (index_of i))) (aggregate g i s) s rest (λ op. refl) h)
 
 -- ---- an operator that stays within the innermost frame
 

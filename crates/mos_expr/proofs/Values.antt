@@ -1,3 +1,5 @@
+-- What the reader holds of an expression that it has read whole.
+
 use Rattle.std.proofs.Common.{◌≡◌, ℕ, ◌+◌, ◌<◌, ◌≤◌, min, max, Bool, true, false, nat_le, if◌then◌else◌, List, [], ◌∷◌, ◌++◌, Option, Some, None, refl, sym, ◌∙◌, ap, arith}
 use Rattle.std.proofs.lemmas.Bool.{leb-true, leb-false}
 use Rattle.mos_tree.specs.declared.expr.Expr.{Expr}
@@ -8,14 +10,12 @@ use Rattle.mos_tree.specs.declared.expr.UnaryOperator.{UnaryOperator}
 use Rattle.mos_tree.specs.declared.expr.BinaryOperator.{BinaryOperator}
 use Rattle.mos_tree.specs.declared.expr.AggregateOperator.{AggregateOperator}
 use Rattle.mos_tree.specs.declared.expr.Conversion.{Conversion}
-use Rattle.mos_expr.specs.Grammar.{Syntax, bracket, choice, convert, before, between, level, height, tree, binds, level_before}
+use Rattle.mos_expr.specs.Grammar.{Syntax, bracket, if_expr, convert, before, between, level, height, tree, binds, level_before}
 use Rattle.mos_expr.specs.Operands as o
 use Rattle.mos_expr.specs.declared.operand.Operand.{Operand}
 use Rattle.mos_expr.specs.declared.operand.Parts.{Parts}
 use Rattle.mos_expr.specs.declared.operand.Groups.{Groups}
-use Rattle.mos_expr.specs.declared.operand.Ready.{Ready}
-
--- What the reader holds of an expression that it has read whole.
+use Rattle.mos_expr.specs.declared.operand.WholeIndex.{WholeIndex}
 
 abbrev pub capped : ℕ → ℕ
 capped h = min h 501
@@ -36,8 +36,8 @@ parts_at h xs = record { height = capped h; items = tree_at h xs }
 abbrev pub groups_at : ℕ → List (Group Expr) → Groups
 groups_at h gs = record { height = capped h; items = tree_at h gs }
 
-abbrev pub ready_at : ℕ → Index Expr → Ready
-ready_at h index = record { height = capped h; index = tree_at h index }
+abbrev pub index_at : ℕ → Index Expr → WholeIndex
+index_at h index = record { height = capped h; index = tree_at h index }
 
 -- ---- what is low enough
 
@@ -72,30 +72,30 @@ max-capped a b = omega arith
 
 -- ---- trees
 
-pub one_at : {A B : Type 0} (f : A → B) (h : ℕ) (x : A) → o.one f (tree_at h x) ≡ tree_at h (f x)
+pub one_at : {A B : Type 0} (f : A → B) (h : ℕ) (x : A) → o.map1 f (tree_at h x) ≡ tree_at h (f x)
 one_at f h x = by_height h
-    (λ less. ap (o.one f) (low h x less) ∙ sym (low h (f x) less))
-    (λ more. ap (o.one f) (high h x more) ∙ sym (high h (f x) more))
+    (λ less. ap (o.map1 f) (low h x less) ∙ sym (low h (f x) less))
+    (λ more. ap (o.map1 f) (high h x more) ∙ sym (high h (f x) more))
 
-two_low : {A B C : Type 0} (f : A → B → C) (a b : ℕ) (x : A) (y : B) → a ≤ 500 → o.one (f x) (tree_at b y) ≡ tree_at (max a b) (f x y)
+two_low : {A B C : Type 0} (f : A → B → C) (a b : ℕ) (x : A) (y : B) → a ≤ 500 → o.map1 (f x) (tree_at b y) ≡ tree_at (max a b) (f x y)
 two_low f a b x y small = by_height b
-    (λ less. ap (o.one (f x)) (low b y less) ∙ sym (low (max a b) (f x y) (omega arith)))
-    (λ more. ap (o.one (f x)) (high b y more) ∙ sym (high (max a b) (f x y) (omega arith)))
+    (λ less. ap (o.map1 (f x)) (low b y less) ∙ sym (low (max a b) (f x y) (omega arith)))
+    (λ more. ap (o.map1 (f x)) (high b y more) ∙ sym (high (max a b) (f x y) (omega arith)))
 
-pub two_at : {A B C : Type 0} (f : A → B → C) (a b : ℕ) (x : A) (y : B) → o.two f (tree_at a x) (tree_at b y) ≡ tree_at (max a b) (f x y)
+pub two_at : {A B C : Type 0} (f : A → B → C) (a b : ℕ) (x : A) (y : B) → o.map2 f (tree_at a x) (tree_at b y) ≡ tree_at (max a b) (f x y)
 two_at f a b x y = by_height a
-    (λ less. ap (λ z. o.two f z (tree_at b y)) (low a x less) ∙ two_low f a b x y less)
-    (λ more. ap (λ z. o.two f z (tree_at b y)) (high a x more) ∙ sym (high (max a b) (f x y) (omega arith)))
+    (λ less. ap (λ z. o.map2 f z (tree_at b y)) (low a x less) ∙ two_low f a b x y less)
+    (λ more. ap (λ z. o.map2 f z (tree_at b y)) (high a x more) ∙ sym (high (max a b) (f x y) (omega arith)))
 
 same_at : {A : Type 0} (a b : ℕ) (x : A) → a ≤ 500 → tree_at b x ≡ tree_at (max a b) x
 same_at a b x small = by_height b
     (λ less. low b x less ∙ sym (low (max a b) x (omega arith)))
     (λ more. high b x more ∙ sym (high (max a b) x (omega arith)))
 
-pub three_at : {A B C D : Type 0} (f : A → B → C → D) (a b c : ℕ) (x : A) (y : B) (z : C) → o.three f (tree_at a x) (tree_at b y) (tree_at c z) ≡ tree_at (max a (max b c)) (f x y z)
+pub three_at : {A B C D : Type 0} (f : A → B → C → D) (a b c : ℕ) (x : A) (y : B) (z : C) → o.map3 f (tree_at a x) (tree_at b y) (tree_at c z) ≡ tree_at (max a (max b c)) (f x y z)
 three_at f a b c x y z = by_height a
-    (λ less. ap (λ w. o.three f w (tree_at b y) (tree_at c z)) (low a x less) ∙ two_at (f x) b c y z ∙ same_at a (max b c) (f x y z) less)
-    (λ more. ap (λ w. o.three f w (tree_at b y) (tree_at c z)) (high a x more) ∙ sym (high (max a (max b c)) (f x y z) (omega arith)))
+    (λ less. ap (λ w. o.map3 f w (tree_at b y) (tree_at c z)) (low a x less) ∙ two_at (f x) b c y z ∙ same_at a (max b c) (f x y z) less)
+    (λ more. ap (λ w. o.map3 f w (tree_at b y) (tree_at c z)) (high a x more) ∙ sym (high (max a (max b c)) (f x y z) (omega arith)))
 
 -- a node over a part of this height
 pub kept_at : (h : ℕ) (x : Expr) → o.kept (o.higher (capped h)) (tree_at h x) ≡ tree_at (h + 1) x
@@ -123,30 +123,30 @@ pub bracketed-whole : (s : Syntax) → o.bracketed (whole s) ≡ whole (bracket 
 bracketed-whole s = node-whole (capped (height s)) (height s) (tree_at (height s) (tree s)) (tree s) refl refl
 
 pub convert-whole : (to : Conversion) (s : Syntax) → o.convert_of to (whole s) ≡ whole (convert to s)
-convert-whole to s = node-whole (capped (height s)) (height s) (o.one (o.converted to) (tree_at (height s) (tree s))) (e.Convert to (tree s)) refl (one_at (o.converted to) (height s) (tree s))
+convert-whole to s = node-whole (capped (height s)) (height s) (o.map1 (o.converted to) (tree_at (height s) (tree s))) (e.Convert to (tree s)) refl (one_at (o.converted to) (height s) (tree s))
 
-pub choice-whole : (x y z : Syntax) → o.choice_of (whole x) (whole y) (whole z) ≡ whole (choice x y z)
-choice-whole x y z =
+pub if_expr-whole : (x y z : Syntax) → o.if_expr_of (whole x) (whole y) (whole z) ≡ whole (if_expr x y z)
+if_expr-whole x y z =
     node-whole _ (max (height x) (max (height y) (height z))) _ (e.If (tree x) (tree y) (tree z))
     (ap (λ h. max (capped (height x)) h) (max-capped (height y) (height z)) ∙ max-capped (height x) (max (height y) (height z)))
-    (three_at o.choice (height x) (height y) (height z) (tree x) (tree y) (tree z))
+    (three_at o.if_expr (height x) (height y) (height z) (tree x) (tree y) (tree z))
 
 pub before-whole : (op : UnaryOperator) (s : Syntax) → o.before_of op (whole s) ≡ whole (before op s)
-before-whole op s = made_at (level_before op) (capped (height s)) (height s) (o.one (o.unary op) (tree_at (height s) (tree s))) (e.Unary op (tree s)) refl (one_at (o.unary op) (height s) (tree s))
+before-whole op s = made_at (level_before op) (capped (height s)) (height s) (o.map1 (o.unary op) (tree_at (height s) (tree s))) (e.Unary op (tree s)) refl (one_at (o.unary op) (height s) (tree s))
 
 pub between-whole : (op : BinaryOperator) (x y : Syntax) → o.between_of op (whole x) (whole y) ≡ whole (between op x y)
 between-whole op x y =
-    made_at (binds op) (max (capped (height x)) (capped (height y))) (max (height x) (height y)) (o.two (o.binary op) (tree_at (height x) (tree x)) (tree_at (height y) (tree y))) (e.Binary op (tree x) (tree y))
+    made_at (binds op) (max (capped (height x)) (capped (height y))) (max (height x) (height y)) (o.map2 (o.binary op) (tree_at (height x) (tree x)) (tree_at (height y) (tree y))) (e.Binary op (tree x) (tree y))
     (max-capped (height x) (height y))
     (two_at (o.binary op) (height x) (height y) (tree x) (tree y))
 
-pub aggregate-whole : (op : AggregateOperator) (h : ℕ) (index : Index Expr) (s : Syntax) → o.aggregate_of op (ready_at h index) (whole s) ≡ operand_at 1 (max h (height s) + 1) (e.Aggregate op index (tree s))
+pub aggregate-whole : (op : AggregateOperator) (h : ℕ) (index : Index Expr) (s : Syntax) → o.aggregate_of op (index_at h index) (whole s) ≡ operand_at 1 (max h (height s) + 1) (e.Aggregate op index (tree s))
 aggregate-whole op h index s =
-    node-whole (max (capped h) (capped (height s))) (max h (height s)) (o.two (o.aggregate op) (tree_at h index) (tree_at (height s) (tree s))) (e.Aggregate op index (tree s))
+    node-whole (max (capped h) (capped (height s))) (max h (height s)) (o.map2 (o.aggregate op) (tree_at h index) (tree_at (height s) (tree s))) (e.Aggregate op index (tree s))
     (max-capped h (height s))
     (two_at (o.aggregate op) h (height s) index (tree s))
 
-pub counted-whole : (h : ℕ) (index : Index Expr) → o.counted_of (ready_at h index) ≡ operand_at 1 (h + 1) (e.Count index)
+pub counted-whole : (h : ℕ) (index : Index Expr) → o.counted_of (index_at h index) ≡ operand_at 1 (h + 1) (e.Count index)
 counted-whole h index = node-whole (capped h) h (o.count (tree_at h index)) (e.Count index) refl (one_at (λ i. e.Count i) h index)
 
 -- ---- lists of parts
@@ -156,7 +156,7 @@ parts_and h items = record { height = h; items = items }
 
 pub parts-whole : (h : ℕ) (xs : List Expr) (s : Syntax) → o.parts_with (parts_at h xs) (whole s) ≡ parts_at (max h (height s)) (xs ++ tree s ∷ [])
 parts-whole h xs s =
-    ap (λ k. parts_and k (o.two o.pushed (tree_at h xs) (tree_at (height s) (tree s)))) (max-capped h (height s))
+    ap (λ k. parts_and k (o.map2 o.pushed (tree_at h xs) (tree_at (height s) (tree s)))) (max-capped h (height s))
     ∙ ap (parts_and (capped (max h (height s)))) (two_at o.pushed h (height s) xs (tree s))
 
 pub call-whole : (n : List ℕ) (h : ℕ) (xs : List Expr) → o.call_of n (parts_at h xs) ≡ operand_at 1 (h + 1) (e.Call n xs)
@@ -179,7 +179,7 @@ group_of names s = record { names = names; set = tree s }
 abbrev groups_and : ℕ → Option (List (Group Expr)) → Groups
 groups_and h items = record { height = h; items = items }
 
-abbrev ready_and : ℕ → Option (Index Expr) → Ready
+abbrev ready_and : ℕ → Option (Index Expr) → WholeIndex
 ready_and h index = record { height = h; index = index }
 
 abbrev index_and : List (Group Expr) → Option Expr → Index Expr
@@ -187,15 +187,15 @@ index_and gs condition = record { groups = gs; condition = condition }
 
 pub groups-whole : (h : ℕ) (gs : List (Group Expr)) (names : List (List ℕ)) (s : Syntax) → o.groups_with (groups_at h gs) names (whole s) ≡ groups_at (max h (height s + 1)) (gs ++ group_of names s ∷ [])
 groups-whole h gs names s =
-    ap (λ k. groups_and (max (capped h) k) (o.two (o.grouped names) (tree_at h gs) (o.kept (o.higher (capped (height s))) (tree_at (height s) (tree s))))) (higher-capped (height s))
-    ∙ ap (λ k. groups_and k (o.two (o.grouped names) (tree_at h gs) (o.kept (o.higher (capped (height s))) (tree_at (height s) (tree s))))) (max-capped h (height s + 1))
-    ∙ ap (λ x. groups_and (capped (max h (height s + 1))) (o.two (o.grouped names) (tree_at h gs) x)) (kept_at (height s) (tree s))
+    ap (λ k. groups_and (max (capped h) k) (o.map2 (o.grouped names) (tree_at h gs) (o.kept (o.higher (capped (height s))) (tree_at (height s) (tree s))))) (higher-capped (height s))
+    ∙ ap (λ k. groups_and k (o.map2 (o.grouped names) (tree_at h gs) (o.kept (o.higher (capped (height s))) (tree_at (height s) (tree s))))) (max-capped h (height s + 1))
+    ∙ ap (λ x. groups_and (capped (max h (height s + 1))) (o.map2 (o.grouped names) (tree_at h gs) x)) (kept_at (height s) (tree s))
     ∙ ap (groups_and (capped (max h (height s + 1)))) (two_at (o.grouped names) h (height s + 1) gs (tree s))
 
-pub ready-whole : (h : ℕ) (gs : List (Group Expr)) → o.ready_of (groups_at h gs) ≡ ready_at h (record { groups = gs; condition = None })
-ready-whole h gs = ap (ready_and (capped h)) (one_at (λ g. index_and g None) h gs)
+pub index-whole : (h : ℕ) (gs : List (Group Expr)) → o.whole_index_of (groups_at h gs) ≡ index_at h (record { groups = gs; condition = None })
+index-whole h gs = ap (ready_and (capped h)) (one_at (λ g. index_and g None) h gs)
 
-pub such-whole : (h : ℕ) (gs : List (Group Expr)) (s : Syntax) → o.such_of (groups_at h gs) (whole s) ≡ ready_at (max h (height s)) (record { groups = gs; condition = Some (tree s) })
-such-whole h gs s =
-    ap (λ k. ready_and k (o.two o.conditioned (tree_at h gs) (tree_at (height s) (tree s)))) (max-capped h (height s))
+pub conditioned-whole : (h : ℕ) (gs : List (Group Expr)) (s : Syntax) → o.conditioned_index_of (groups_at h gs) (whole s) ≡ index_at (max h (height s)) (record { groups = gs; condition = Some (tree s) })
+conditioned-whole h gs s =
+    ap (λ k. ready_and k (o.map2 o.conditioned (tree_at h gs) (tree_at (height s) (tree s)))) (max-capped h (height s))
     ∙ ap (ready_and (capped (max h (height s)))) (two_at o.conditioned h (height s) gs (tree s))

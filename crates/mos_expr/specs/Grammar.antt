@@ -1,3 +1,6 @@
+-- Expressions as they are written: which ones there are, how they are grouped, how they are spelled, how high they are,
+-- and what tree each one has.
+
 use Rattle.std.specs.Prelude.{◌≡◌, ℕ, ℤ, ◌+◌, ◌≤◌, max, Bool, true, false, ◌&&◌, ◌||◌, nat_le, List, [], ◌∷◌, ◌++◌, Option, Some, None}
 use Rattle.mos_tree.specs.declared.expr.Expr.{Expr}
 use Rattle.mos_tree.specs.declared.expr.Expr.TheVariants as e
@@ -15,9 +18,6 @@ use Rattle.mos_scan.specs.declared.token.TokenKind.{TokenKind}
 use Rattle.mos_scan.specs.declared.token.TokenKind.TheVariants as t
 use Rattle.mos_scan.specs.declared.reading.Word.{Word}
 use Rattle.mos_scan.specs.declared.reading.Word.TheVariants as w
-
--- Expressions as they are written: which ones there are, how they are grouped, how they are spelled, how high they are,
--- and what tree each one has.
 
 -- ---- what is written
 
@@ -44,7 +44,7 @@ mutual
     set : Written → Syntax
     list : Written → Syntax
     bracket : Syntax → Syntax
-    choice : Syntax → Syntax → Syntax → Syntax
+    if_expr : Syntax → Syntax → Syntax → Syntax
     convert : Conversion → Syntax → Syntax
     before : UnaryOperator → Syntax → Syntax
     between : BinaryOperator → Syntax → Syntax → Syntax
@@ -64,6 +64,7 @@ mutual
 
 -- ---- levels: the smaller binds tighter
 
+-- the level of an operator
 abbrev pub binds : BinaryOperator → ℕ
 binds b.Times = 3
 binds b.Div = 3
@@ -146,7 +147,16 @@ level_body g.Or = 6
 abbrev pub level : Syntax → ℕ
 level (before op s) = level_before op
 level (between op s x) = binds op
-level _ = 1
+level (leaf x) = 1
+level (call n xs) = 1
+level (call_field n xs f) = 1
+level (set xs) = 1
+level (list xs) = 1
+level (bracket s) = 1
+level (if_expr x y z) = 1
+level (convert c s) = 1
+level (aggregate g i s) = 1
+level (counted i) = 1
 
 -- whether what stands at the right end would take the operator that comes next: an operand or a body takes all that it can
 abbrev mutual
@@ -157,7 +167,7 @@ abbrev mutual
   takes (set xs) op = false
   takes (list xs) op = false
   takes (bracket s) op = false
-  takes (choice s x y) op = false
+  takes (if_expr s x y) op = false
   takes (convert c s) op = false
   takes (before p s) op = (nat_le (binds op) (level_before p) && nat_le (level s) (left_of op)) || takes s op
   takes (between o a s) op = (nat_le (binds op) (right_of o) && nat_le (level s) (left_of op)) || takes s op
@@ -166,6 +176,7 @@ abbrev mutual
 
 -- each operand is tight enough, and none leaves an operator that it would take
 abbrev mutual
+  -- an expression
   pub IsGrouped : Syntax → Type 0
   IsGrouped (leaf x) = Unit {0}
   IsGrouped (call n xs) = AreGrouped xs
@@ -173,17 +184,19 @@ abbrev mutual
   IsGrouped (set xs) = AreGrouped xs
   IsGrouped (list xs) = AreGrouped xs
   IsGrouped (bracket s) = IsGrouped s
-  IsGrouped (choice a b c) = IsGrouped a × IsGrouped b × IsGrouped c
+  IsGrouped (if_expr a b c) = IsGrouped a × IsGrouped b × IsGrouped c
   IsGrouped (convert c s) = IsGrouped s
   IsGrouped (before p s) = (level s ≤ level_before p) × IsGrouped s
   IsGrouped (between op a b) = (level a ≤ left_of op) × (level b ≤ right_of op) × IsGrouped a × IsGrouped b × (takes a op ≡ false)
   IsGrouped (aggregate g i s) = (level s ≤ level_body g) × IsGroupedOver i × IsGrouped s
   IsGrouped (counted i) = IsGroupedOver i
 
+  -- expressions with commas between them
   pub AreGrouped : Written → Type 0
   AreGrouped no_more = Unit {0}
   AreGrouped (one_more s ss) = IsGrouped s × AreGrouped ss
 
+  -- an index, whose sets are tighter than a relation
   pub IsGroupedOver : Over → Type 0
   IsGroupedOver (last_set ns s) = (level s ≤ 5) × IsGrouped s
   IsGroupedOver (such_that ns s c) = (level s ≤ 5) × IsGrouped s × IsGrouped c
@@ -191,9 +204,11 @@ abbrev mutual
 
 -- ---- how it is spelled
 
+-- one token
 abbrev pub key : TokenKind → List Word
 key k = w.Key k ∷ []
 
+-- the words of an expression without parts
 abbrev pub spell_leaf : Leaf → List Word
 spell_leaf (number n) = w.Number n ∷ []
 spell_leaf (text x) = w.Text x ∷ []
@@ -203,11 +218,13 @@ spell_leaf (name n) = w.Name n ∷ []
 spell_leaf returned = key t.Returned
 spell_leaf (field n f) = w.Name n ∷ w.Key t.Dot ∷ w.Name f ∷ []
 
+-- the word of a prefix operator
 abbrev pub spell_before : UnaryOperator → Word
 spell_before u.Minus = w.Key t.Minus
 spell_before u.Plus = w.Key t.Plus
 spell_before u.Not = w.Key t.Not
 
+-- the words of an operator between two operands
 abbrev pub spell_between : BinaryOperator → List Word
 spell_between b.Times = key t.Times
 spell_between b.Div = key t.Div
@@ -228,6 +245,7 @@ spell_between b.NotIn = w.Key t.Not ∷ w.Key t.In ∷ []
 spell_between b.And = key t.And
 spell_between b.Or = key t.Or
 
+-- the word of an aggregate
 abbrev pub spell_aggregate : AggregateOperator → Word
 spell_aggregate g.Sum = w.Key t.Sum
 spell_aggregate g.Prod = w.Key t.Prod
@@ -237,15 +255,18 @@ spell_aggregate g.Union = w.Key t.Union
 spell_aggregate g.And = w.Key t.And
 spell_aggregate g.Or = w.Key t.Or
 
+-- the word of a conversion
 abbrev pub spell_conversion : Conversion → Word
 spell_conversion c.Integer = w.Key t.Integer
 spell_conversion c.Text = w.Key t.StringWord
 
+-- names with commas between them
 abbrev pub spell_names : Names → List Word
 spell_names (one_name n) = w.Name n ∷ []
 spell_names (and_name n ns) = w.Name n ∷ w.Key t.Comma ∷ spell_names ns
 
 abbrev mutual
+  -- the words of an expression
   pub spell : Syntax → List Word
   spell (leaf x) = spell_leaf x
   spell (call n xs) = w.Name n ∷ w.Key t.OpenRound ∷ (spell_list xs ++ key t.CloseRound)
@@ -253,7 +274,7 @@ abbrev mutual
   spell (set xs) = w.Key t.OpenCurly ∷ (spell_list xs ++ key t.CloseCurly)
   spell (list xs) = w.Key t.OpenSquare ∷ (spell_list xs ++ key t.CloseSquare)
   spell (bracket s) = w.Key t.OpenRound ∷ (spell s ++ key t.CloseRound)
-  spell (choice x y z) = w.Key t.If ∷ w.Key t.OpenRound ∷ (spell x ++ w.Key t.Comma ∷ (spell y ++ w.Key t.Comma ∷ (spell z ++ key t.CloseRound)))
+  spell (if_expr x y z) = w.Key t.If ∷ w.Key t.OpenRound ∷ (spell x ++ w.Key t.Comma ∷ (spell y ++ w.Key t.Comma ∷ (spell z ++ key t.CloseRound)))
   spell (convert c s) = spell_conversion c ∷ w.Key t.OpenRound ∷ (spell s ++ key t.CloseRound)
   spell (before p s) = spell_before p ∷ spell s
   spell (between op x y) = spell x ++ (spell_between op ++ spell y)
@@ -294,6 +315,7 @@ pub record IsIndexSpelled (words : List Word) (i : Over) : Type 0 where
 -- ---- how high it is: a node is one more than its highest part, and so is a pair of brackets
 
 abbrev mutual
+  -- the height of an expression
   pub height : Syntax → ℕ
   height (leaf x) = 1
   height (call n xs) = heights xs + 1
@@ -301,13 +323,14 @@ abbrev mutual
   height (set xs) = heights xs + 1
   height (list xs) = heights xs + 1
   height (bracket s) = height s + 1
-  height (choice x y z) = max (height x) (max (height y) (height z)) + 1
+  height (if_expr x y z) = max (height x) (max (height y) (height z)) + 1
   height (convert c s) = height s + 1
   height (before p s) = height s + 1
   height (between op x y) = max (height x) (height y) + 1
   height (aggregate g i s) = max (height_over i) (height s) + 1
   height (counted i) = height_over i + 1
 
+  -- the height of the highest of several
   pub heights : Written → ℕ
   heights no_more = 0
   heights (one_more s ss) = max (height s) (heights ss)
@@ -324,6 +347,7 @@ limit = 500
 
 -- ---- its tree
 
+-- the tree of an expression without parts
 abbrev pub tree_of_leaf : Leaf → Expr
 tree_of_leaf (number n) = e.Integer n
 tree_of_leaf (text x) = e.Text x
@@ -332,11 +356,13 @@ tree_of_leaf (name n) = e.Name n
 tree_of_leaf returned = e.Returned
 tree_of_leaf (field n f) = e.Field n f
 
+-- the names, in order
 abbrev pub list_of_names : Names → List (List ℕ)
 list_of_names (one_name n) = n ∷ []
 list_of_names (and_name n ns) = n ∷ list_of_names ns
 
 abbrev mutual
+  -- the tree of an expression: its brackets are gone
   pub tree : Syntax → Expr
   tree (leaf x) = tree_of_leaf x
   tree (call n xs) = e.Call n (trees xs)
@@ -344,26 +370,30 @@ abbrev mutual
   tree (set xs) = e.Set (trees xs)
   tree (list xs) = e.List (trees xs)
   tree (bracket s) = tree s
-  tree (choice x y z) = e.If (tree x) (tree y) (tree z)
+  tree (if_expr x y z) = e.If (tree x) (tree y) (tree z)
   tree (convert c s) = e.Convert c (tree s)
   tree (before p s) = e.Unary p (tree s)
   tree (between op x y) = e.Binary op (tree x) (tree y)
   tree (aggregate g i s) = e.Aggregate g (record { groups = groups_of i; condition = condition_of i }) (tree s)
   tree (counted i) = e.Count (record { groups = groups_of i; condition = condition_of i })
 
+  -- the trees of several, in order
   pub trees : Written → List Expr
   trees no_more = []
   trees (one_more s ss) = tree s ∷ trees ss
 
+  -- the sets of an index, each with its names
   pub groups_of : Over → List (Group Expr)
   groups_of (last_set ns s) = record { names = list_of_names ns; set = tree s } ∷ []
   groups_of (such_that ns s c) = record { names = list_of_names ns; set = tree s } ∷ []
   groups_of (another ns s i) = record { names = list_of_names ns; set = tree s } ∷ groups_of i
 
+  -- the condition of an index, where it has one
   pub condition_of : Over → Option Expr
   condition_of (last_set ns s) = None
   condition_of (such_that ns s c) = Some (tree c)
   condition_of (another ns s i) = condition_of i
 
+-- the index as the tree has it
 abbrev pub index_of : Over → Index Expr
 index_of i = record { groups = groups_of i; condition = condition_of i }

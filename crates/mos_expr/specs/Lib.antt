@@ -2,5 +2,6 @@ pub mod Grammar
 pub mod Laws
 pub mod Machine
 pub mod Operands
-pub mod Outcome
 pub mod Reader
+pub mod Said
+pub mod Sizes

@@ -1,4 +1,7 @@
-use Rattle.std.specs.Prelude.{ℕ, Bool, true, false, ◌&&◌, if◌then◌else◌, nat_le, List, [], ◌∷◌, reverse, Option, Some, None}
+-- As the code reads, apart from what the public clauses say: which open frames an operand ends, and what the frame that is
+-- then innermost makes of it. The innermost frame stands first.
+
+use Rattle.std.specs.Prelude.{◌≡◌, ℕ, Bool, true, false, ◌&&◌, if◌then◌else◌, nat_le, List, [], ◌∷◌, reverse, Option, Some, None, MatchOption}
 use Rattle.mos_tree.specs.declared.expr.BinaryOperator.{BinaryOperator}
 use Rattle.mos_tree.specs.declared.expr.BinaryOperator.TheVariants as b
 use Rattle.mos_scan.specs.declared.token.TokenKind.{TokenKind}
@@ -7,7 +10,7 @@ use Rattle.mos_expr.specs.Grammar.{binds, left_of, right_of, level_before, level
 use Rattle.mos_expr.specs.Operands as o
 use Rattle.mos_expr.specs.declared.operand.Operand.{Operand}
 use Rattle.mos_expr.specs.declared.operand.Groups.{Groups}
-use Rattle.mos_expr.specs.declared.operand.Ready.{Ready}
+use Rattle.mos_expr.specs.declared.operand.WholeIndex.{WholeIndex}
 use Rattle.mos_expr.specs.declared.frame.IndexKind.{IndexKind}
 use Rattle.mos_expr.specs.declared.frame.IndexKind.TheVariants as i
 use Rattle.mos_expr.specs.declared.frame.Frame.{Frame}
@@ -15,38 +18,47 @@ use Rattle.mos_expr.specs.declared.frame.Frame.TheVariants as f
 use Rattle.mos_expr.specs.declared.frame.Mode.{Mode}
 use Rattle.mos_expr.specs.declared.frame.Mode.TheVariants as m
 
--- The reader on lists, behind an operand: which open frames it ends, and what the frame that is then innermost makes of it.
--- The innermost frame stands first.
-
-abbrev pub FrameType : Type 0
-FrameType = Frame
-
+-- the frames of the code, whose innermost stands last
 abbrev pub stack_of : List Frame → List Frame
 stack_of frames = reverse frames
+
+-- the frame that is taken off a stack
+abbrev pub IsPopped : List Frame → List Frame → Option Frame → Type 0
+IsPopped old new popped =
+    MatchOption popped ((stack_of old ≡ []) × (stack_of new ≡ [])) (λ frame. stack_of old ≡ frame ∷ stack_of new)
 
 -- what comes next, in which frames; none where the words so far begin nothing
 abbrev pub State : Type 0
 State = Option (Mode × List Frame)
 
-abbrev pub nothing : State
-nothing = None
+-- what comes next, with the frames that are open
+abbrev pub state_of : Option Mode → List Frame → State
+state_of None fs = None
+state_of (Some mode) fs = Some (mode, fs)
 
-abbrev pub on : Option Mode → List Frame → State
-on None fs = None
-on (Some mode) fs = Some (mode, fs)
+-- the stacks before and after a step, and what comes next, are those of this step on lists
+abbrev pub IsStep : (List Frame → State) → List Frame → List Frame → Option Mode → Type 0
+IsStep step old new next = step (stack_of old) ≡ state_of next (stack_of new)
+
+-- a step that leaves the frames as they are, whichever they are
+abbrev pub IsStepAnywhere : (List Frame → State) → Option Mode → Type 0
+IsStepAnywhere step next = (frames : List Frame) → step frames ≡ state_of next frames
 
 -- an operand, in which frames
 abbrev pub Settled : Type 0
 Settled = Option (Operand × List Frame)
 
-abbrev pub beside : Option Operand → List Frame → Settled
-beside None fs = None
-beside (Some x) fs = Some (x, fs)
+-- an operand, with the frames that are open
+abbrev pub settled_of : Option Operand → List Frame → Settled
+settled_of None fs = None
+settled_of (Some x) fs = Some (x, fs)
 
-abbrev pub when : Bool → List Frame → Option (List Frame)
-when true fs = Some fs
-when false fs = None
+-- the frames, where the test holds
+abbrev pub frames_if : Bool → List Frame → Option (List Frame)
+frames_if true fs = Some fs
+frames_if false fs = None
 
+-- what is done with what there is
 abbrev pub and_then : {A B : Type 0} → Option A → (A → Option B) → Option B
 and_then None go = None
 and_then (Some x) go = go x
@@ -60,6 +72,7 @@ folds (f.Between op a) = true
 folds (f.Body op index) = true
 folds _ = false
 
+-- whether an operand ends the innermost frame
 abbrev pub top_folds : List Frame → Bool
 top_folds [] = false
 top_folds (g ∷ fs) = folds g
@@ -69,7 +82,7 @@ abbrev pub room : Frame → ℕ
 room (f.Before op) = level_before op
 room (f.Between op a) = right_of op
 room (f.Body op index) = level_body op
-room (f.Within kind groups names) = 5
+room (f.IndexSet kind groups names) = 5
 room _ = 9
 
 -- what the frame makes of an operand that ends it
@@ -79,6 +92,7 @@ folded (f.Between op a) x = Some (o.between_of op a x)
 folded (f.Body op index) x = Some (o.aggregate_of op index x)
 folded _ x = None
 
+-- the same, where the operand is tight enough
 abbrev pub fold : Frame → Operand → Option Operand
 fold g x = if nat_le x.level (room g) then folded g x else None
 
@@ -101,11 +115,12 @@ placed op x (g ∷ fs) =
 
 -- ---- the innermost frame takes the operand at a bracket, a comma or a bar
 
+-- an operand comes next, in one more frame
 abbrev pub want_with : Frame → List Frame → State
 want_with g fs = Some (m.Want, g ∷ fs)
 
 -- a whole index, behind its closing bracket
-abbrev pub index_read : IndexKind → Ready → List Frame → State
+abbrev pub index_read : IndexKind → WholeIndex → List Frame → State
 index_read (i.Aggregate op) ready fs = want_with (f.Body op ready) fs
 index_read i.Count ready fs = Some (m.After (o.counted_of ready), fs)
 index_read i.Loop ready fs = None
@@ -114,53 +129,62 @@ index_read i.Loop ready fs = None
 abbrev pub if_set : {A : Type 0} → Operand → Option A → Option A
 if_set x next = if nat_le x.level 5 then next else None
 
-abbrev pub round_within : IndexKind → Groups → List (List ℕ) → Operand → List Frame → State
-round_within kind groups names x fs = if_set x (index_read kind (o.ready_of (o.groups_with groups names x)) fs)
+-- the last set of an index, at the closing bracket
+abbrev pub set_at_round : IndexKind → Groups → List (List ℕ) → Operand → List Frame → State
+set_at_round kind groups names x fs = if_set x (index_read kind (o.whole_index_of (o.groups_with groups names x)) fs)
 
-abbrev pub bar_within : IndexKind → Groups → List (List ℕ) → Operand → List Frame → State
-bar_within kind groups names x fs = if_set x (want_with (f.Such kind (o.groups_with groups names x)) fs)
+-- the last set of an index, at the bar before its condition
+abbrev pub set_at_bar : IndexKind → Groups → List (List ℕ) → Operand → List Frame → State
+set_at_bar kind groups names x fs = if_set x (want_with (f.IndexCondition kind (o.groups_with groups names x)) fs)
 
-abbrev pub comma_within : IndexKind → Groups → List (List ℕ) → Operand → List Frame → State
-comma_within kind groups names x fs = if_set x (Some (m.WantName kind (o.groups_with groups names x) [], fs))
+-- a set of an index, at the comma before more names
+abbrev pub set_at_comma : IndexKind → Groups → List (List ℕ) → Operand → List Frame → State
+set_at_comma kind groups names x fs = if_set x (Some (m.WantName kind (o.groups_with groups names x) [], fs))
 
-abbrev pub round : Frame → Operand → List Frame → State
-round f.Bracket x fs = Some (m.After (o.bracketed x), fs)
-round (f.Call n ps) x fs = Some (m.Called n (o.parts_with ps x), fs)
-round (f.ChoiceTwo p q) x fs = Some (m.After (o.choice_of p q x), fs)
-round (f.Convert to) x fs = Some (m.After (o.convert_of to x), fs)
-round (f.Within kind groups names) x fs = round_within kind groups names x fs
-round (f.Such kind groups) x fs = index_read kind (o.such_of groups x) fs
-round _ x fs = None
+-- at a closing round bracket
+abbrev pub at_round : Frame → Operand → List Frame → State
+at_round f.Bracket x fs = Some (m.After (o.bracketed x), fs)
+at_round (f.Call n ps) x fs = Some (m.Called n (o.parts_with ps x), fs)
+at_round (f.IfSecond p q) x fs = Some (m.After (o.if_expr_of p q x), fs)
+at_round (f.Convert to) x fs = Some (m.After (o.convert_of to x), fs)
+at_round (f.IndexSet kind groups names) x fs = set_at_round kind groups names x fs
+at_round (f.IndexCondition kind groups) x fs = index_read kind (o.conditioned_index_of groups x) fs
+at_round _ x fs = None
 
-abbrev pub curly : Frame → Operand → Option Mode
-curly (f.Set ps) x = Some (m.After (o.set_of (o.parts_with ps x)))
-curly _ x = None
+-- at a closing curly bracket
+abbrev pub at_curly : Frame → Operand → Option Mode
+at_curly (f.Set ps) x = Some (m.After (o.set_of (o.parts_with ps x)))
+at_curly _ x = None
 
-abbrev pub square : Frame → Operand → Option Mode
-square (f.List ps) x = Some (m.After (o.list_of (o.parts_with ps x)))
-square _ x = None
+-- at a closing square bracket
+abbrev pub at_square : Frame → Operand → Option Mode
+at_square (f.List ps) x = Some (m.After (o.list_of (o.parts_with ps x)))
+at_square _ x = None
 
-abbrev pub comma : Frame → Operand → List Frame → State
-comma (f.Call n ps) x fs = want_with (f.Call n (o.parts_with ps x)) fs
-comma (f.Set ps) x fs = want_with (f.Set (o.parts_with ps x)) fs
-comma (f.List ps) x fs = want_with (f.List (o.parts_with ps x)) fs
-comma (f.Listed ps) x fs = want_with (f.Listed (o.parts_with ps x)) fs
-comma f.Choice x fs = want_with (f.ChoiceOne x) fs
-comma (f.ChoiceOne p) x fs = want_with (f.ChoiceTwo p x) fs
-comma (f.Within kind groups names) x fs = comma_within kind groups names x fs
-comma _ x fs = None
+-- at a comma
+abbrev pub at_comma : Frame → Operand → List Frame → State
+at_comma (f.Call n ps) x fs = want_with (f.Call n (o.parts_with ps x)) fs
+at_comma (f.Set ps) x fs = want_with (f.Set (o.parts_with ps x)) fs
+at_comma (f.List ps) x fs = want_with (f.List (o.parts_with ps x)) fs
+at_comma (f.BareList ps) x fs = want_with (f.BareList (o.parts_with ps x)) fs
+at_comma f.IfExpr x fs = want_with (f.IfFirst x) fs
+at_comma (f.IfFirst p) x fs = want_with (f.IfSecond p x) fs
+at_comma (f.IndexSet kind groups names) x fs = set_at_comma kind groups names x fs
+at_comma _ x fs = None
 
-abbrev pub bar : Frame → Operand → List Frame → State
-bar (f.Within kind groups names) x fs = bar_within kind groups names x fs
-bar _ x fs = None
+-- at the bar of an index
+abbrev pub at_bar : Frame → Operand → List Frame → State
+at_bar (f.IndexSet kind groups names) x fs = set_at_bar kind groups names x fs
+at_bar _ x fs = None
 
+-- at any of these
 abbrev pub at_frame : TokenKind → Operand → List Frame → State
 at_frame k x [] = None
-at_frame t.CloseRound x (g ∷ fs) = round g x fs
-at_frame t.CloseCurly x (g ∷ fs) = on (curly g x) fs
-at_frame t.CloseSquare x (g ∷ fs) = on (square g x) fs
-at_frame t.Comma x (g ∷ fs) = comma g x fs
-at_frame t.Bar x (g ∷ fs) = bar g x fs
+at_frame t.CloseRound x (g ∷ fs) = at_round g x fs
+at_frame t.CloseCurly x (g ∷ fs) = state_of (at_curly g x) fs
+at_frame t.CloseSquare x (g ∷ fs) = state_of (at_square g x) fs
+at_frame t.Comma x (g ∷ fs) = at_comma g x fs
+at_frame t.Bar x (g ∷ fs) = at_bar g x fs
 at_frame _ x (g ∷ fs) = None
 
 -- ---- what may follow an operand
@@ -192,15 +216,19 @@ abbrev pub mode_behind : BinaryOperator → Mode
 mode_behind b.NotIn = m.WantIn
 mode_behind _ = m.Want
 
+-- a bracket, a comma or a bar behind an operand
 abbrev pub close : TokenKind → Operand → List Frame → State
 close k x fs = and_then (settled x fs) (λ y. at_frame k y.0 y.1)
 
+-- an operator behind an operand
 abbrev pub infix_at : BinaryOperator → Operand → List Frame → State
 infix_at op x fs = and_then (placed op x fs) (λ gs. Some (mode_behind op, gs))
 
+-- what a token behind an operand does, by the operator that it begins
 abbrev pub by_operator : Option BinaryOperator → TokenKind → Operand → List Frame → State
 by_operator None k x fs = close k x fs
 by_operator (Some op) k x fs = infix_at op x fs
 
+-- what a token behind an operand does
 unfoldable pub after_key : TokenKind → Operand → List Frame → State
 after_key k x fs = by_operator (operator_of k) k x fs

@@ -1,3 +1,6 @@
+-- As the code reads, apart from what the public clauses say: what has been read of an operand, which is its level, its height,
+-- up to 501, and its tree, unless it is too high.
+
 use Rattle.std.specs.Prelude.{ℕ, ◌+◌, min, max, if◌then◌else◌, nat_le, List, [], ◌∷◌, ◌++◌, Option, Some, None}
 use Rattle.mos_tree.specs.declared.expr.Expr.{Expr}
 use Rattle.mos_tree.specs.declared.expr.Expr.TheVariants as e
@@ -11,22 +14,22 @@ use Rattle.mos_expr.specs.Grammar.{binds, level_before}
 use Rattle.mos_expr.specs.declared.operand.Operand.{Operand}
 use Rattle.mos_expr.specs.declared.operand.Parts.{Parts}
 use Rattle.mos_expr.specs.declared.operand.Groups.{Groups}
-use Rattle.mos_expr.specs.declared.operand.Ready.{Ready}
-
--- What has been read of an operand: its level, its height, up to 501, and its tree, unless it is too high.
+use Rattle.mos_expr.specs.declared.operand.WholeIndex.{WholeIndex}
 
 -- what is made of parts that are all there
-abbrev pub one : {A B : Type 0} → (A → B) → Option A → Option B
-one f None = None
-one f (Some x) = Some (f x)
+abbrev pub map1 : {A B : Type 0} → (A → B) → Option A → Option B
+map1 f None = None
+map1 f (Some x) = Some (f x)
 
-abbrev pub two : {A B C : Type 0} → (A → B → C) → Option A → Option B → Option C
-two f None y = None
-two f (Some x) y = one (f x) y
+-- the same of two parts
+abbrev pub map2 : {A B C : Type 0} → (A → B → C) → Option A → Option B → Option C
+map2 f None y = None
+map2 f (Some x) y = map1 (f x) y
 
-abbrev pub three : {A B C D : Type 0} → (A → B → C → D) → Option A → Option B → Option C → Option D
-three f None y z = None
-three f (Some x) y z = two (f x) y z
+-- the same of three parts
+abbrev pub map3 : {A B C D : Type 0} → (A → B → C → D) → Option A → Option B → Option C → Option D
+map3 f None y z = None
+map3 f (Some x) y z = map2 (f x) y z
 
 -- a height, up to 501
 abbrev pub higher : ℕ → ℕ
@@ -36,102 +39,138 @@ higher height = min (height + 1) 501
 abbrev pub kept : ℕ → Option Expr → Option Expr
 kept height made = if nat_le height 500 then made else None
 
+-- a prefix operator and its operand
 abbrev pub unary : UnaryOperator → Expr → Expr
 unary op x = e.Unary op x
 
+-- a conversion
 abbrev pub converted : Conversion → Expr → Expr
 converted to x = e.Convert to x
 
+-- an operator between two operands
 abbrev pub binary : BinaryOperator → Expr → Expr → Expr
 binary op x y = e.Binary op x y
 
-abbrev pub choice : Expr → Expr → Expr → Expr
-choice a b c = e.If a b c
+-- `if` with its three parts
+abbrev pub if_expr : Expr → Expr → Expr → Expr
+if_expr a b c = e.If a b c
 
+-- an aggregate with its index and its body
 abbrev pub aggregate : AggregateOperator → Index Expr → Expr → Expr
 aggregate op index x = e.Aggregate op index x
 
+-- the count of an index
 abbrev pub count : Option (Index Expr) → Option Expr
-count index = one (λ i. e.Count i) index
+count index = map1 (λ i. e.Count i) index
 
+-- a call, or a cell
 abbrev pub call : List ℕ → Option (List Expr) → Option Expr
-call name items = one (λ xs. e.Call name xs) items
+call name items = map1 (λ xs. e.Call name xs) items
 
+-- a field of what a call gives
 abbrev pub call_field : List ℕ → Option (List Expr) → List ℕ → Option Expr
-call_field name items field = one (λ xs. e.CallField name xs field) items
+call_field name items field = map1 (λ xs. e.CallField name xs field) items
 
+-- a set of its members
 abbrev pub set : Option (List Expr) → Option Expr
-set items = one (λ xs. e.Set xs) items
+set items = map1 (λ xs. e.Set xs) items
 
+-- a list of its items
 abbrev pub list : Option (List Expr) → Option Expr
-list items = one (λ xs. e.List xs) items
+list items = map1 (λ xs. e.List xs) items
 
+-- an operand without parts
 abbrev pub leaf_of : Expr → Operand
 leaf_of x = record { level = 1; height = 1; expr = Some x }
 
-abbrev pub node : ℕ → Option Expr → Operand
-node height made = record { level = 1; height = higher height; expr = kept (higher height) made }
+-- a node of this level over parts of this height
+abbrev pub node_at : ℕ → ℕ → Option Expr → Operand
+node_at level height made = record { level = level; height = higher height; expr = kept (higher height) made }
 
+-- a node that binds tightest
+abbrev pub node : ℕ → Option Expr → Operand
+node height made = node_at 1 height made
+
+-- an operand in brackets
 abbrev pub bracketed : Operand → Operand
 bracketed x = node x.height x.expr
 
+-- the operand that a conversion is
 abbrev pub convert_of : Conversion → Operand → Operand
-convert_of to x = node x.height (one (converted to) x.expr)
+convert_of to x = node x.height (map1 (converted to) x.expr)
 
-abbrev pub choice_of : Operand → Operand → Operand → Operand
-choice_of a b c = node (max a.height (max b.height c.height)) (three choice a.expr b.expr c.expr)
+-- the operand that an `if` is
+abbrev pub if_expr_of : Operand → Operand → Operand → Operand
+if_expr_of a b c = node (max a.height (max b.height c.height)) (map3 if_expr a.expr b.expr c.expr)
 
+-- the operand that a prefix operator makes
 abbrev pub before_of : UnaryOperator → Operand → Operand
-before_of op x = record { level = level_before op; height = higher x.height; expr = kept (higher x.height) (one (unary op) x.expr) }
+before_of op x = node_at (level_before op) x.height (map1 (unary op) x.expr)
 
+-- the operand that an operator makes of two
 abbrev pub between_of : BinaryOperator → Operand → Operand → Operand
-between_of op a b = record { level = binds op; height = higher (max a.height b.height); expr = kept (higher (max a.height b.height)) (two (binary op) a.expr b.expr) }
+between_of op a b = node_at (binds op) (max a.height b.height) (map2 (binary op) a.expr b.expr)
 
-abbrev pub aggregate_of : AggregateOperator → Ready → Operand → Operand
-aggregate_of op index x = node (max index.height x.height) (two (aggregate op) index.index x.expr)
+-- the operand that an aggregate is
+abbrev pub aggregate_of : AggregateOperator → WholeIndex → Operand → Operand
+aggregate_of op index x = node (max index.height x.height) (map2 (aggregate op) index.index x.expr)
 
-abbrev pub counted_of : Ready → Operand
+-- the operand that a count is
+abbrev pub counted_of : WholeIndex → Operand
 counted_of index = node index.height (count index.index)
 
+-- nothing between the brackets yet
 abbrev pub no_parts : Parts
 no_parts = record { height = 0; items = Some [] }
 
+-- one more tree
 abbrev pub pushed : List Expr → Expr → List Expr
 pushed xs x = xs ++ x ∷ []
 
+-- one more operand between the brackets
 abbrev pub parts_with : Parts → Operand → Parts
-parts_with parts x = record { height = max parts.height x.height; items = two pushed parts.items x.expr }
+parts_with parts x = record { height = max parts.height x.height; items = map2 pushed parts.items x.expr }
 
+-- the operand that a call is
 abbrev pub call_of : List ℕ → Parts → Operand
 call_of name parts = node parts.height (call name parts.items)
 
+-- the operand that a field of a call is
 abbrev pub call_field_of : List ℕ → Parts → List ℕ → Operand
 call_field_of name parts field = node parts.height (call_field name parts.items field)
 
+-- the operand that a set is
 abbrev pub set_of : Parts → Operand
 set_of parts = node parts.height (set parts.items)
 
+-- the operand that a list is
 abbrev pub list_of : Parts → Operand
 list_of parts = node parts.height (list parts.items)
 
+-- no set of an index yet
 abbrev pub no_groups : Groups
 no_groups = record { height = 0; items = Some [] }
 
+-- one more set with its names
 abbrev pub grouped : List (List ℕ) → List (Group Expr) → Expr → List (Group Expr)
 grouped names groups x = groups ++ record { names = names; set = x } ∷ []
 
 -- names with their set are one node
 abbrev pub groups_with : Groups → List (List ℕ) → Operand → Groups
-groups_with groups names x = record { height = max groups.height (higher x.height); items = two (grouped names) groups.items (kept (higher x.height) x.expr) }
+groups_with groups names x = record { height = max groups.height (higher x.height); items = map2 (grouped names) groups.items (kept (higher x.height) x.expr) }
 
+-- an index without a condition
 abbrev pub index_of : Option (List (Group Expr)) → Option (Index Expr)
-index_of groups = one (λ gs. record { groups = gs; condition = None }) groups
+index_of groups = map1 (λ gs. record { groups = gs; condition = None }) groups
 
-abbrev pub ready_of : Groups → Ready
-ready_of groups = record { height = groups.height; index = index_of groups.items }
+-- a whole index without a condition
+abbrev pub whole_index_of : Groups → WholeIndex
+whole_index_of groups = record { height = groups.height; index = index_of groups.items }
 
+-- an index with a condition
 abbrev pub conditioned : List (Group Expr) → Expr → Index Expr
 conditioned groups x = record { groups = groups; condition = Some x }
 
-abbrev pub such_of : Groups → Operand → Ready
-such_of groups x = record { height = max groups.height x.height; index = two conditioned groups.items x.expr }
+-- a whole index with a condition
+abbrev pub conditioned_index_of : Groups → Operand → WholeIndex
+conditioned_index_of groups x = record { height = max groups.height x.height; index = map2 conditioned groups.items x.expr }

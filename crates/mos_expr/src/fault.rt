@@ -1,3 +1,4 @@
+//! Why words have no tree.
 use mos_text::NoMemory;
 
 /// Why words have no tree.

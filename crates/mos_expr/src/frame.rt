@@ -1,10 +1,11 @@
-use crate::operand::{Groups, Operand, Parts, Ready};
-use mos_text::Text;
+//! What is open round the operand that is read, and what comes next.
+use crate::operand::{Groups, Operand, Parts, WholeIndex};
+use mos_text::SourceText;
 use mos_tree::{AggregateOperator, BinaryOperator, Conversion, UnaryOperator};
 use sqlite_items::Items;
 
 /// Whose index is read.
-#[derive(Clone, Copy, Debug)]
+#[derive(Clone, Copy)]
 pub(crate) enum IndexKind {
     Aggregate(AggregateOperator),
     Count,
@@ -13,31 +14,31 @@ pub(crate) enum IndexKind {
 }
 
 /// What is open round the operand that is read.
-#[derive(Debug, Drop)]
+#[derive(Drop)]
 pub(crate) enum Frame {
     Bracket,
-    Call(Text, Parts),
+    Call(SourceText, Parts),
     Set(Parts),
     List(Parts),
     /// Expressions with no bracket round them.
-    Listed(Parts),
+    BareList(Parts),
     /// `if`, with no, one or two of its parts.
-    Choice,
-    ChoiceOne(Operand),
-    ChoiceTwo(Operand, Operand),
+    IfExpr,
+    IfFirst(Operand),
+    IfSecond(Operand, Operand),
     Convert(Conversion),
     Before(UnaryOperator),
     Between(BinaryOperator, Operand),
     /// The set of these names.
-    Within(IndexKind, Groups, Items<Text>),
+    IndexSet(IndexKind, Groups, Items<SourceText>),
     /// The condition of an index.
-    Such(IndexKind, Groups),
+    IndexCondition(IndexKind, Groups),
     /// The body of an aggregate.
-    Body(AggregateOperator, Ready),
+    Body(AggregateOperator, WholeIndex),
 }
 
 /// What comes next.
-#[derive(Debug, Drop)]
+#[derive(Drop)]
 pub(crate) enum Mode {
     /// An operand.
     Want,
@@ -48,18 +49,18 @@ pub(crate) enum Mode {
     /// The opening bracket of an index.
     WantIndex(IndexKind),
     /// What may follow a name.
-    Named(Text),
+    Named(SourceText),
     /// What may follow a call.
-    Called(Text, Parts),
+    Called(SourceText, Parts),
     /// A field of this name, or of this call.
-    Dotted(Text),
-    DottedCall(Text, Parts),
+    Dotted(SourceText),
+    DottedCall(SourceText, Parts),
     /// What may follow an operand.
     After(Operand),
     /// `in`, behind `not`.
     WantIn,
     /// A name of an index.
-    WantName(IndexKind, Groups, Items<Text>),
+    WantName(IndexKind, Groups, Items<SourceText>),
     /// What may follow a name of an index.
-    AfterName(IndexKind, Groups, Items<Text>),
+    AfterName(IndexKind, Groups, Items<SourceText>),
 }

@@ -1,3 +1,4 @@
+//! How tightly operators bind.
 ghost use Rattle.std.specs.Prelude.{◌≡◌};
 ghost use Rattle.mos_expr.specs.Grammar as grammar;
 

@@ -1,17 +1,14 @@
-ghost use Rattle.std.specs.Prelude.{◌≡◌, IfOk, Some, None, List};
+//! Operands and the frames that they end: operators by how tightly they bind.
+ghost use Rattle.std.specs.Prelude.{◌≡◌, IfOk};
 ghost use Rattle.mos_expr.specs.Machine as spec;
 
-use crate::frame::{Frame, IndexKind, Mode};
+use crate::frame::Frame;
 use crate::level::{binds, left_of, level_before, level_body, right_of};
-use crate::operand::{
-    Groups, Operand, Ready, aggregate_of, before_of, between_of, bracketed, choice_of, convert_of,
-    counted_of, groups_with, list_of, parts_with, ready_of, set_of, such_of,
-};
+use crate::operand::{Operand, aggregate_of, before_of, between_of};
 use crate::stack::{pop, push};
 use mos_scan::TokenKind;
-use mos_text::{NoMemory, Text};
+use mos_text::{NoMemory, let_go};
 use mos_tree::BinaryOperator;
-use sqlite_items::Items;
 use std::alloc::Global;
 
 /// Whether an operand ends the frame.
@@ -32,13 +29,16 @@ fn room(frame: &Frame) -> u32
         Frame::Before(op) => level_before(*op),
         Frame::Between(op, _) => right_of(*op),
         Frame::Body(op, _) => level_body(*op),
-        Frame::Within(_, _, _) => 5,
+        Frame::IndexSet(_, _, _) => 5,
         _ => 9,
     }
 }
 
 /// Lets go of what spells no expression.
-pub(crate) fn refuse(_frame: Frame, _x: Operand) {}
+pub(crate) fn refuse(frame: Frame, x: Operand) {
+    let_go(frame);
+    let_go(x);
+}
 
 /// What the frame makes of an operand that ends it.
 fn folded(alloc: Global, frame: Frame, x: Operand) -> Result<Option<Operand>, NoMemory>
@@ -89,7 +89,7 @@ pub(crate) fn settle(
     stack: &mut Vec<Frame>,
     x: Operand,
 ) -> Result<Option<Operand>, NoMemory>
-    ensures { IfOk result (λ made. spec.settled x (spec.stack_of stack.old.items) ≡ spec.beside made (spec.stack_of stack.new.items)) }
+    ensures { IfOk result (λ made. spec.settled x (spec.stack_of stack.old.items) ≡ spec.settled_of made (spec.stack_of stack.new.items)) }
 {
     let mut x = x;
     while top_folds(stack) {
@@ -102,93 +102,6 @@ pub(crate) fn settle(
         }
     }
     Ok(Some(x))
-}
-
-/// What comes behind the closing bracket of an index.
-fn index_read(
-    stack: &mut Vec<Frame>,
-    kind: IndexKind,
-    ready: Ready,
-) -> Result<Option<Mode>, NoMemory>
-    ensures { IfOk result (λ next. spec.index_read kind ready (spec.stack_of stack.old.items) ≡ spec.on next (spec.stack_of stack.new.items)) }
-{
-    match kind {
-        IndexKind::Count => Ok(Some(Mode::After(counted_of(ready)))),
-        IndexKind::Aggregate(op) => {
-            push(stack, Frame::Body(op, ready))?;
-            Ok(Some(Mode::Want))
-        }
-        IndexKind::Loop => Ok(None),
-    }
-}
-
-fn refuse_names(_groups: Groups, _names: Items<Text>, _x: Operand) {}
-
-/// The names that come behind a whole set of an index.
-fn name_behind(
-    alloc: Global,
-    stack: &[Frame],
-    kind: IndexKind,
-    groups: Groups,
-    names: Items<Text>,
-    x: Operand,
-) -> Result<Option<Mode>, NoMemory>
-    ensures { IfOk result (λ next. spec.comma_within kind groups names x (spec.stack_of stack.now) ≡ spec.on next (spec.stack_of stack.now)) }
-{
-    if 5 < x.level {
-        refuse_names(groups, names, x);
-        return Ok(None);
-    }
-    Ok(Some(Mode::WantName(kind, groups_with(groups, names, x)?, Items::new(alloc))))
-}
-
-/// The innermost frame takes the operand at a comma.
-pub(crate) fn comma(
-    alloc: Global,
-    stack: &mut Vec<Frame>,
-    frame: Frame,
-    x: Operand,
-) -> Result<Option<Mode>, NoMemory>
-    ensures { IfOk result (λ next. spec.comma frame x (spec.stack_of stack.old.items) ≡ spec.on next (spec.stack_of stack.new.items)) }
-{
-    match frame {
-        Frame::Call(name, parts) => {
-            push(stack, Frame::Call(name, parts_with(parts, x)?))?;
-            Ok(Some(Mode::Want))
-        }
-        Frame::Set(parts) => {
-            push(stack, Frame::Set(parts_with(parts, x)?))?;
-            Ok(Some(Mode::Want))
-        }
-        Frame::List(parts) => {
-            push(stack, Frame::List(parts_with(parts, x)?))?;
-            Ok(Some(Mode::Want))
-        }
-        Frame::Listed(parts) => {
-            push(stack, Frame::Listed(parts_with(parts, x)?))?;
-            Ok(Some(Mode::Want))
-        }
-        Frame::Choice => {
-            push(stack, Frame::ChoiceOne(x))?;
-            Ok(Some(Mode::Want))
-        }
-        Frame::ChoiceOne(first) => {
-            push(stack, Frame::ChoiceTwo(first, x))?;
-            Ok(Some(Mode::Want))
-        }
-        Frame::Within(kind, groups, names) => name_behind(
-            alloc,
-            stack.as_slice(),
-            kind,
-            groups,
-            names,
-            x,
-        ),
-        other => {
-            refuse(other, x);
-            Ok(None)
-        }
-    }
 }
 
 /// The operator that begins with this token, behind an operand.
@@ -225,14 +138,16 @@ pub(crate) fn place(
     op: BinaryOperator,
     x: Operand,
 ) -> Result<bool, NoMemory>
-    ensures { IfOk result (λ placed. spec.placed op x (spec.stack_of stack.old.items) ≡ spec.when placed (spec.stack_of stack.new.items)) }
+    ensures { IfOk result (λ placed. spec.placed op x (spec.stack_of stack.old.items) ≡ spec.frames_if placed (spec.stack_of stack.new.items)) }
 {
     let mut x = x;
     while !stays(op, x.level, stack.as_slice()) {
         if !top_folds(stack.as_slice()) {
+            let_go(x);
             return Ok(false);
         }
         let Some(frame) = pop(stack) else {
+            let_go(x);
             return Ok(false);
         };
         match fold(alloc, frame, x)? {
@@ -240,107 +155,8 @@ pub(crate) fn place(
             Some(y) => x = y,
         }
     }
-    push(stack, Frame::Between(op, x))?;
-    Ok(true)
-}
-
-/// A closing bracket behind the last set of an index.
-fn set_read(
-    stack: &mut Vec<Frame>,
-    kind: IndexKind,
-    groups: Groups,
-    names: Items<Text>,
-    x: Operand,
-) -> Result<Option<Mode>, NoMemory>
-    ensures { IfOk result (λ next. spec.round_within kind groups names x (spec.stack_of stack.old.items) ≡ spec.on next (spec.stack_of stack.new.items)) }
-{
-    if 5 < x.level {
-        refuse_names(groups, names, x);
-        return Ok(None);
-    }
-    index_read(stack, kind, ready_of(groups_with(groups, names, x)?))
-}
-
-/// The innermost frame takes the operand at a closing bracket.
-pub(crate) fn round(
-    alloc: Global,
-    stack: &mut Vec<Frame>,
-    frame: Frame,
-    x: Operand,
-) -> Result<Option<Mode>, NoMemory>
-    ensures { IfOk result (λ next. spec.round frame x (spec.stack_of stack.old.items) ≡ spec.on next (spec.stack_of stack.new.items)) }
-{
-    match frame {
-        Frame::Bracket => Ok(Some(Mode::After(bracketed(x)))),
-        Frame::Call(name, parts) => Ok(Some(Mode::Called(name, parts_with(parts, x)?))),
-        Frame::ChoiceTwo(a, b) => Ok(Some(Mode::After(choice_of(alloc, a, b, x)?))),
-        Frame::Convert(to) => Ok(Some(Mode::After(convert_of(alloc, to, x)?))),
-        Frame::Within(kind, groups, names) => set_read(stack, kind, groups, names, x),
-        Frame::Such(kind, groups) => index_read(stack, kind, such_of(alloc, groups, x)?),
-        other => {
-            refuse(other, x);
-            Ok(None)
-        }
-    }
-}
-
-/// The innermost frame takes the operand at a closing curly bracket.
-pub(crate) fn curly(frame: Frame, x: Operand) -> Result<Option<Mode>, NoMemory>
-    ensures { IfOk result (λ next. next ≡ spec.curly frame x) }
-{
-    match frame {
-        Frame::Set(parts) => Ok(Some(Mode::After(set_of(parts_with(parts, x)?)))),
-        other => {
-            refuse(other, x);
-            Ok(None)
-        }
-    }
-}
-
-/// The innermost frame takes the operand at a closing square bracket.
-pub(crate) fn square(frame: Frame, x: Operand) -> Result<Option<Mode>, NoMemory>
-    ensures { IfOk result (λ next. next ≡ spec.square frame x) }
-{
-    match frame {
-        Frame::List(parts) => Ok(Some(Mode::After(list_of(parts_with(parts, x)?)))),
-        other => {
-            refuse(other, x);
-            Ok(None)
-        }
-    }
-}
-
-/// A bar behind the last set of an index.
-fn condition_behind(
-    stack: &mut Vec<Frame>,
-    kind: IndexKind,
-    groups: Groups,
-    names: Items<Text>,
-    x: Operand,
-) -> Result<Option<Mode>, NoMemory>
-    ensures { IfOk result (λ next. spec.bar_within kind groups names x (spec.stack_of stack.old.items) ≡ spec.on next (spec.stack_of stack.new.items)) }
-{
-    if 5 < x.level {
-        refuse_names(groups, names, x);
-        return Ok(None);
-    }
-    push(stack, Frame::Such(kind, groups_with(groups, names, x)?))?;
-    Ok(Some(Mode::Want))
-}
-
-/// The innermost frame takes the operand at a bar.
-pub(crate) fn bar(
-    stack: &mut Vec<Frame>,
-    frame: Frame,
-    x: Operand,
-) -> Result<Option<Mode>, NoMemory>
-    ensures { IfOk result (λ next. spec.bar frame x (spec.stack_of stack.old.items) ≡ spec.on next (spec.stack_of stack.new.items)) }
-{
-    match frame {
-        Frame::Within(kind, groups, names) => condition_behind(stack, kind, groups, names, x),
-        other => {
-            refuse(other, x);
-            Ok(None)
-        }
+    match push(stack, Frame::Between(op, x)) {
+        Ok(()) => Ok(true),
+        Err(refused) => Err(refused),
     }
 }

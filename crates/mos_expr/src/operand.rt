@@ -1,15 +1,17 @@
-ghost use Rattle.std.specs.Prelude.{◌≡◌, ◌≤◌, IfOk};
+//! What has been read of an operand, and the operand that an operator makes of its own.
+ghost use Rattle.std.specs.Prelude.{◌≡◌, IfOk, Some};
 ghost use Rattle.mos_expr.specs.Operands as spec;
 
+use crate::building::boxed;
 use crate::level::{binds, level_before};
-use mos_text::{NoMemory, Text};
+use mos_text::{NoMemory, let_go};
 use mos_tree::{AggregateOperator, BinaryOperator, Conversion, Expr, Group, Index, UnaryOperator};
 use sqlite_items::{Boxed, Items};
 use std::alloc::Global;
 
 /// What has been read of an operand: how loosely it binds, how high it is, up to 501, and its tree,
 /// unless it is too high.
-#[derive(Debug, Drop)]
+#[derive(Drop)]
 pub(crate) struct Operand {
     pub level: u32,
     pub height: u32,
@@ -17,22 +19,22 @@ pub(crate) struct Operand {
 }
 
 /// What stands between brackets, so far.
-#[derive(Debug, Drop)]
+#[derive(Drop)]
 pub(crate) struct Parts {
     pub height: u32,
     pub items: Option<Items<Expr>>,
 }
 
 /// The sets of an index, so far.
-#[derive(Debug, Drop)]
+#[derive(Drop)]
 pub(crate) struct Groups {
     pub height: u32,
     pub items: Option<Items<Group<Expr>>>,
 }
 
 /// A whole index.
-#[derive(Debug, Drop)]
-pub(crate) struct Ready {
+#[derive(Drop)]
+pub(crate) struct WholeIndex {
     pub height: u32,
     pub index: Option<Index<Expr>>,
 }
@@ -44,129 +46,15 @@ pub(crate) fn higher(height: u32) -> u32
     height.saturating_add(1).min(501)
 }
 
-fn keep(height: u32, expr: Option<Expr>) -> Option<Expr>
+/// The tree, unless it is too high.
+pub(crate) fn keep(height: u32, expr: Option<Expr>) -> Option<Expr>
     ensures { result ≡ spec.kept height expr }
 {
-    if height <= 500 { expr } else { None }
-}
-
-fn unary(alloc: Global, op: UnaryOperator, part: Option<Expr>) -> Result<Option<Expr>, NoMemory>
-    ensures { IfOk result (λ made. made ≡ spec.one (spec.unary op) part) }
-{
-    match part {
-        None => Ok(None),
-        Some(part) => Ok(Some(Expr::Unary(op, Boxed::new(alloc, part)?))),
+    if height <= 500 {
+        return expr;
     }
-}
-
-fn converted(alloc: Global, to: Conversion, part: Option<Expr>) -> Result<Option<Expr>, NoMemory>
-    ensures { IfOk result (λ made. made ≡ spec.one (spec.converted to) part) }
-{
-    match part {
-        None => Ok(None),
-        Some(part) => Ok(Some(Expr::Convert(to, Boxed::new(alloc, part)?))),
-    }
-}
-
-fn binary(
-    alloc: Global,
-    op: BinaryOperator,
-    left: Expr,
-    right: Option<Expr>,
-) -> Result<Option<Expr>, NoMemory>
-    ensures { IfOk result (λ made. made ≡ spec.one (spec.binary op left) right) }
-{
-    match right {
-        None => Ok(None),
-        Some(right) => Ok(Some(Expr::Binary(
-            op,
-            Boxed::new(alloc, left)?,
-            Boxed::new(alloc, right)?,
-        ))),
-    }
-}
-
-fn both(
-    alloc: Global,
-    op: BinaryOperator,
-    left: Option<Expr>,
-    right: Option<Expr>,
-) -> Result<Option<Expr>, NoMemory>
-    ensures { IfOk result (λ made. made ≡ spec.two (spec.binary op) left right) }
-{
-    match left {
-        None => Ok(None),
-        Some(left) => binary(alloc, op, left, right),
-    }
-}
-
-fn third(alloc: Global, a: Expr, b: Expr, c: Option<Expr>) -> Result<Option<Expr>, NoMemory>
-    ensures { IfOk result (λ made. made ≡ spec.one (spec.choice a b) c) }
-{
-    match c {
-        None => Ok(None),
-        Some(c) => {
-            let a = Boxed::new(alloc, a)?;
-            let b = Boxed::new(alloc, b)?;
-            Ok(Some(Expr::If(a, b, Boxed::new(alloc, c)?)))
-        }
-    }
-}
-
-fn second(
-    alloc: Global,
-    a: Expr,
-    b: Option<Expr>,
-    c: Option<Expr>,
-) -> Result<Option<Expr>, NoMemory>
-    ensures { IfOk result (λ made. made ≡ spec.two (spec.choice a) b c) }
-{
-    match b {
-        None => Ok(None),
-        Some(b) => third(alloc, a, b, c),
-    }
-}
-
-fn choice(
-    alloc: Global,
-    a: Option<Expr>,
-    b: Option<Expr>,
-    c: Option<Expr>,
-) -> Result<Option<Expr>, NoMemory>
-    ensures { IfOk result (λ made. made ≡ spec.three spec.choice a b c) }
-{
-    match a {
-        None => Ok(None),
-        Some(a) => second(alloc, a, b, c),
-    }
-}
-
-fn totalled(
-    alloc: Global,
-    op: AggregateOperator,
-    index: Index<Expr>,
-    body: Option<Expr>,
-) -> Result<Option<Expr>, NoMemory>
-    ensures { IfOk result (λ made. made ≡ spec.one (spec.aggregate op index) body) }
-{
-    match body {
-        None => Ok(None),
-        Some(body) => Ok(Some(Expr::Aggregate(op, index, Boxed::new(alloc, body)?))),
-    }
-}
-
-fn aggregate(
-    alloc: Global,
-    op: AggregateOperator,
-    index: Option<Index<Expr>>,
-    body: Option<Expr>,
-) -> Result<Option<Expr>, NoMemory>
-    ensures { IfOk result (λ made. made ≡ spec.two (spec.aggregate op) index body) }
-{
-    match index {
-        None => Ok(None),
-        Some(index) => totalled(alloc, op, index, body),
-    }
+    let_go(expr);
+    None
 }
 
 /// An operand without parts.
@@ -180,54 +68,141 @@ pub(crate) fn leaf_of(expr: Expr) -> Operand
     }
 }
 
-/// An operand that binds tightest, one higher than its parts.
-fn node(height: u32, expr: Option<Expr>) -> Operand
-    ensures { result ≡ spec.node height expr }
+/// An operand of this level, one higher than its parts.
+fn node_at(level: u32, height: u32, expr: Option<Expr>) -> Operand
+    ensures { result ≡ spec.node_at level height expr }
 {
     let height = higher(height);
     Operand {
-        level: 1,
+        level,
         height,
         expr: keep(height, expr),
     }
 }
 
+/// An operand that binds tightest, one higher than its parts.
+pub(crate) fn node(height: u32, expr: Option<Expr>) -> Operand
+    ensures { result ≡ spec.node height expr }
+{
+    node_at(1, height, expr)
+}
+
+/// An operand in brackets.
 pub(crate) fn bracketed(x: Operand) -> Operand
     ensures { result ≡ spec.bracketed x }
 {
     node(x.height, x.expr)
 }
 
-pub(crate) fn convert_of(alloc: Global, to: Conversion, x: Operand) -> Result<Operand, NoMemory>
-    ensures { IfOk result (λ made. made ≡ spec.convert_of to x) }
+fn unary(alloc: Global, op: UnaryOperator, part: Option<Expr>) -> Result<Option<Expr>, NoMemory>
+    ensures { IfOk result (λ made. made ≡ spec.map1 (spec.unary op) part) }
 {
-    Ok(node(x.height, converted(alloc, to, x.expr)?))
+    match part {
+        None => Ok(None),
+        Some(part) => match boxed(alloc, part, ()) {
+            Ok((part, _)) => Ok(Some(Expr::Unary(op, part))),
+            Err(refused) => Err(refused),
+        },
+    }
 }
 
-pub(crate) fn choice_of(
-    alloc: Global,
-    a: Operand,
-    b: Operand,
-    c: Operand,
-) -> Result<Operand, NoMemory>
-    ensures { IfOk result (λ made. made ≡ spec.choice_of a b c) }
-{
-    let height = a.height.max(b.height.max(c.height));
-    Ok(node(height, choice(alloc, a.expr, b.expr, c.expr)?))
-}
-
+/// A prefix operator and its operand.
 pub(crate) fn before_of(alloc: Global, op: UnaryOperator, x: Operand) -> Result<Operand, NoMemory>
     ensures { IfOk result (λ made. made ≡ spec.before_of op x) }
 {
-    let height = higher(x.height);
-    let expr = keep(height, unary(alloc, op, x.expr)?);
-    Ok(Operand {
-        level: level_before(op),
-        height,
-        expr,
-    })
+    let height = x.height;
+    match unary(alloc, op, x.expr) {
+        Ok(made) => Ok(node_at(level_before(op), height, made)),
+        Err(refused) => Err(refused),
+    }
 }
 
+fn converted(alloc: Global, to: Conversion, part: Option<Expr>) -> Result<Option<Expr>, NoMemory>
+    ensures { IfOk result (λ made. made ≡ spec.map1 (spec.converted to) part) }
+{
+    match part {
+        None => Ok(None),
+        Some(part) => match boxed(alloc, part, ()) {
+            Ok((part, _)) => Ok(Some(Expr::Convert(to, part))),
+            Err(refused) => Err(refused),
+        },
+    }
+}
+
+/// A conversion.
+pub(crate) fn convert_of(alloc: Global, to: Conversion, x: Operand) -> Result<Operand, NoMemory>
+    ensures { IfOk result (λ made. made ≡ spec.convert_of to x) }
+{
+    let height = x.height;
+    match converted(alloc, to, x.expr) {
+        Ok(made) => Ok(node(height, made)),
+        Err(refused) => Err(refused),
+    }
+}
+
+fn binary_over(
+    alloc: Global,
+    op: BinaryOperator,
+    left: Boxed<Expr>,
+    right: Expr,
+) -> Result<Option<Expr>, NoMemory>
+    ensures { IfOk result (λ made. made ≡ Some (spec.binary op left right)) }
+{
+    match boxed(alloc, right, left) {
+        Ok((right, left)) => Ok(Some(Expr::Binary(op, left, right))),
+        Err(refused) => Err(refused),
+    }
+}
+
+fn binary(
+    alloc: Global,
+    op: BinaryOperator,
+    left: Expr,
+    right: Expr,
+) -> Result<Option<Expr>, NoMemory>
+    ensures { IfOk result (λ made. made ≡ Some (spec.binary op left right)) }
+{
+    match boxed(alloc, left, right) {
+        Ok((left, right)) => binary_over(alloc, op, left, right),
+        Err(refused) => Err(refused),
+    }
+}
+
+fn binary_of(
+    alloc: Global,
+    op: BinaryOperator,
+    left: Expr,
+    right: Option<Expr>,
+) -> Result<Option<Expr>, NoMemory>
+    ensures { IfOk result (λ made. made ≡ spec.map1 (spec.binary op left) right) }
+{
+    match right {
+        None => {
+            let_go(left);
+            Ok(None)
+        }
+        Some(right) => binary(alloc, op, left, right),
+    }
+}
+
+fn both(
+    alloc: Global,
+    op: BinaryOperator,
+    left: Option<Expr>,
+    right: Option<Expr>,
+) -> Result<Option<Expr>, NoMemory>
+    ensures { IfOk result (λ made. made ≡ spec.map2 (spec.binary op) left right) }
+{
+    match left {
+        None => {
+            let_go(right);
+            Ok(None)
+        }
+        Some(left) => binary_of(alloc, op, left, right),
+    }
+}
+
+/// An operator between its operands.
 pub(crate) fn between_of(
     alloc: Global,
     op: BinaryOperator,
@@ -236,254 +211,165 @@ pub(crate) fn between_of(
 ) -> Result<Operand, NoMemory>
     ensures { IfOk result (λ made. made ≡ spec.between_of op a b) }
 {
-    let height = higher(a.height.max(b.height));
-    let expr = keep(height, both(alloc, op, a.expr, b.expr)?);
-    Ok(Operand {
-        level: binds(op),
-        height,
-        expr,
-    })
+    let height = a.height.max(b.height);
+    match both(alloc, op, a.expr, b.expr) {
+        Ok(made) => Ok(node_at(binds(op), height, made)),
+        Err(refused) => Err(refused),
+    }
 }
 
+fn if_over(alloc: Global, a: Boxed<Expr>, b: Boxed<Expr>, c: Expr) -> Result<Option<Expr>, NoMemory>
+    ensures { IfOk result (λ made. made ≡ Some (spec.if_expr a b c)) }
+{
+    match boxed(alloc, c, (a, b)) {
+        Ok((c, (a, b))) => Ok(Some(Expr::If(a, b, c))),
+        Err(refused) => Err(refused),
+    }
+}
+
+fn if_second(alloc: Global, a: Boxed<Expr>, b: Expr, c: Expr) -> Result<Option<Expr>, NoMemory>
+    ensures { IfOk result (λ made. made ≡ Some (spec.if_expr a b c)) }
+{
+    match boxed(alloc, b, (a, c)) {
+        Ok((b, (a, c))) => if_over(alloc, a, b, c),
+        Err(refused) => Err(refused),
+    }
+}
+
+fn if_first(alloc: Global, a: Expr, b: Expr, c: Expr) -> Result<Option<Expr>, NoMemory>
+    ensures { IfOk result (λ made. made ≡ Some (spec.if_expr a b c)) }
+{
+    match boxed(alloc, a, (b, c)) {
+        Ok((a, (b, c))) => if_second(alloc, a, b, c),
+        Err(refused) => Err(refused),
+    }
+}
+
+fn if_third(alloc: Global, a: Expr, b: Expr, c: Option<Expr>) -> Result<Option<Expr>, NoMemory>
+    ensures { IfOk result (λ made. made ≡ spec.map1 (spec.if_expr a b) c) }
+{
+    match c {
+        None => {
+            let_go(a);
+            let_go(b);
+            Ok(None)
+        }
+        Some(c) => if_first(alloc, a, b, c),
+    }
+}
+
+fn if_behind(
+    alloc: Global,
+    a: Expr,
+    b: Option<Expr>,
+    c: Option<Expr>,
+) -> Result<Option<Expr>, NoMemory>
+    ensures { IfOk result (λ made. made ≡ spec.map2 (spec.if_expr a) b c) }
+{
+    match b {
+        None => {
+            let_go(a);
+            let_go(c);
+            Ok(None)
+        }
+        Some(b) => if_third(alloc, a, b, c),
+    }
+}
+
+fn if_expr(
+    alloc: Global,
+    a: Option<Expr>,
+    b: Option<Expr>,
+    c: Option<Expr>,
+) -> Result<Option<Expr>, NoMemory>
+    ensures { IfOk result (λ made. made ≡ spec.map3 spec.if_expr a b c) }
+{
+    match a {
+        None => {
+            let_go(b);
+            let_go(c);
+            Ok(None)
+        }
+        Some(a) => if_behind(alloc, a, b, c),
+    }
+}
+
+/// `if` with its three parts.
+pub(crate) fn if_expr_of(
+    alloc: Global,
+    a: Operand,
+    b: Operand,
+    c: Operand,
+) -> Result<Operand, NoMemory>
+    ensures { IfOk result (λ made. made ≡ spec.if_expr_of a b c) }
+{
+    let height = a.height.max(b.height.max(c.height));
+    match if_expr(alloc, a.expr, b.expr, c.expr) {
+        Ok(made) => Ok(node(height, made)),
+        Err(refused) => Err(refused),
+    }
+}
+
+fn aggregate(
+    alloc: Global,
+    op: AggregateOperator,
+    index: Index<Expr>,
+    body: Expr,
+) -> Result<Option<Expr>, NoMemory>
+    ensures { IfOk result (λ made. made ≡ Some (spec.aggregate op index body)) }
+{
+    match boxed(alloc, body, index) {
+        Ok((body, index)) => Ok(Some(Expr::Aggregate(op, index, body))),
+        Err(refused) => Err(refused),
+    }
+}
+
+fn aggregate_over(
+    alloc: Global,
+    op: AggregateOperator,
+    index: Index<Expr>,
+    body: Option<Expr>,
+) -> Result<Option<Expr>, NoMemory>
+    ensures { IfOk result (λ made. made ≡ spec.map1 (spec.aggregate op index) body) }
+{
+    match body {
+        None => {
+            let_go(index);
+            Ok(None)
+        }
+        Some(body) => aggregate(alloc, op, index, body),
+    }
+}
+
+fn aggregate_from(
+    alloc: Global,
+    op: AggregateOperator,
+    index: Option<Index<Expr>>,
+    body: Option<Expr>,
+) -> Result<Option<Expr>, NoMemory>
+    ensures { IfOk result (λ made. made ≡ spec.map2 (spec.aggregate op) index body) }
+{
+    match index {
+        None => {
+            let_go(body);
+            Ok(None)
+        }
+        Some(index) => aggregate_over(alloc, op, index, body),
+    }
+}
+
+/// An aggregate with its index and its body.
 pub(crate) fn aggregate_of(
     alloc: Global,
     op: AggregateOperator,
-    index: Ready,
+    index: WholeIndex,
     x: Operand,
 ) -> Result<Operand, NoMemory>
     ensures { IfOk result (λ made. made ≡ spec.aggregate_of op index x) }
 {
     let height = index.height.max(x.height);
-    Ok(node(height, aggregate(alloc, op, index.index, x.expr)?))
-}
-
-fn count(index: Option<Index<Expr>>) -> Option<Expr>
-    ensures { result ≡ spec.count index }
-{
-    match index {
-        None => None,
-        Some(index) => Some(Expr::Count(index)),
+    match aggregate_from(alloc, op, index.index, x.expr) {
+        Ok(made) => Ok(node(height, made)),
+        Err(refused) => Err(refused),
     }
-}
-
-pub(crate) fn counted_of(index: Ready) -> Operand
-    ensures { result ≡ spec.counted_of index }
-{
-    node(index.height, count(index.index))
-}
-
-pub(crate) fn no_parts(alloc: Global) -> Parts
-    ensures { result ≡ spec.no_parts }
-{
-    Parts {
-        height: 0,
-        items: Some(Items::new(alloc)),
-    }
-}
-
-fn item_added(items: Items<Expr>, expr: Option<Expr>) -> Result<Option<Items<Expr>>, NoMemory>
-    ensures { IfOk result (λ made. made ≡ spec.one (spec.pushed items) expr) }
-{
-    match expr {
-        None => Ok(None),
-        Some(expr) => {
-            let mut items = items;
-            items.push(expr)?;
-            Ok(Some(items))
-        }
-    }
-}
-
-fn items_with(
-    items: Option<Items<Expr>>,
-    expr: Option<Expr>,
-) -> Result<Option<Items<Expr>>, NoMemory>
-    ensures { IfOk result (λ made. made ≡ spec.two spec.pushed items expr) }
-{
-    match items {
-        None => Ok(None),
-        Some(items) => item_added(items, expr),
-    }
-}
-
-pub(crate) fn parts_with(parts: Parts, x: Operand) -> Result<Parts, NoMemory>
-    ensures { IfOk result (λ made. made ≡ spec.parts_with parts x) }
-{
-    Ok(Parts {
-        height: parts.height.max(x.height),
-        items: items_with(parts.items, x.expr)?,
-    })
-}
-
-fn call(name: Text, items: Option<Items<Expr>>) -> Option<Expr>
-    ensures { result ≡ spec.call name items }
-{
-    match items {
-        None => None,
-        Some(items) => Some(Expr::Call(name, items)),
-    }
-}
-
-fn call_field(name: Text, items: Option<Items<Expr>>, field: Text) -> Option<Expr>
-    ensures { result ≡ spec.call_field name items field }
-{
-    match items {
-        None => None,
-        Some(items) => Some(Expr::CallField(name, items, field)),
-    }
-}
-
-fn set(items: Option<Items<Expr>>) -> Option<Expr>
-    ensures { result ≡ spec.set items }
-{
-    match items {
-        None => None,
-        Some(items) => Some(Expr::Set(items)),
-    }
-}
-
-fn list(items: Option<Items<Expr>>) -> Option<Expr>
-    ensures { result ≡ spec.list items }
-{
-    match items {
-        None => None,
-        Some(items) => Some(Expr::List(items)),
-    }
-}
-
-pub(crate) fn call_of(name: Text, parts: Parts) -> Operand
-    ensures { result ≡ spec.call_of name parts }
-{
-    node(parts.height, call(name, parts.items))
-}
-
-pub(crate) fn call_field_of(name: Text, parts: Parts, field: Text) -> Operand
-    ensures { result ≡ spec.call_field_of name parts field }
-{
-    node(parts.height, call_field(name, parts.items, field))
-}
-
-pub(crate) fn set_of(parts: Parts) -> Operand
-    ensures { result ≡ spec.set_of parts }
-{
-    node(parts.height, set(parts.items))
-}
-
-pub(crate) fn list_of(parts: Parts) -> Operand
-    ensures { result ≡ spec.list_of parts }
-{
-    node(parts.height, list(parts.items))
-}
-
-pub(crate) fn no_groups(alloc: Global) -> Groups
-    ensures { result ≡ spec.no_groups }
-{
-    Groups {
-        height: 0,
-        items: Some(Items::new(alloc)),
-    }
-}
-
-fn group_added(
-    items: Items<Group<Expr>>,
-    names: Items<Text>,
-    set: Option<Expr>,
-) -> Result<Option<Items<Group<Expr>>>, NoMemory>
-    ensures { IfOk result (λ made. made ≡ spec.one (spec.grouped names items) set) }
-{
-    match set {
-        None => Ok(None),
-        Some(set) => {
-            let mut items = items;
-            items.push(Group { names, set })?;
-            Ok(Some(items))
-        }
-    }
-}
-
-fn items_with_group(
-    items: Option<Items<Group<Expr>>>,
-    names: Items<Text>,
-    set: Option<Expr>,
-) -> Result<Option<Items<Group<Expr>>>, NoMemory>
-    ensures { IfOk result (λ made. made ≡ spec.two (spec.grouped names) items set) }
-{
-    match items {
-        None => Ok(None),
-        Some(items) => group_added(items, names, set),
-    }
-}
-
-/// The sets with one more, which its names make a node.
-pub(crate) fn groups_with(
-    groups: Groups,
-    names: Items<Text>,
-    x: Operand,
-) -> Result<Groups, NoMemory>
-    ensures { IfOk result (λ made. made ≡ spec.groups_with groups names x) }
-{
-    let height = higher(x.height);
-    Ok(Groups {
-        height: groups.height.max(height),
-        items: items_with_group(groups.items, names, keep(height, x.expr))?,
-    })
-}
-
-fn index_of(groups: Option<Items<Group<Expr>>>) -> Option<Index<Expr>>
-    ensures { result ≡ spec.index_of groups }
-{
-    match groups {
-        None => None,
-        Some(groups) => Some(Index {
-            groups,
-            condition: None,
-        }),
-    }
-}
-
-pub(crate) fn ready_of(groups: Groups) -> Ready
-    ensures { result ≡ spec.ready_of groups }
-{
-    Ready {
-        height: groups.height,
-        index: index_of(groups.items),
-    }
-}
-
-fn conditioned(
-    alloc: Global,
-    groups: Items<Group<Expr>>,
-    condition: Option<Expr>,
-) -> Result<Option<Index<Expr>>, NoMemory>
-    ensures { IfOk result (λ made. made ≡ spec.one (spec.conditioned groups) condition) }
-{
-    match condition {
-        None => Ok(None),
-        Some(condition) => {
-            let condition = Some(Boxed::new(alloc, condition)?);
-            Ok(Some(Index { groups, condition }))
-        }
-    }
-}
-
-fn index_with(
-    alloc: Global,
-    groups: Option<Items<Group<Expr>>>,
-    condition: Option<Expr>,
-) -> Result<Option<Index<Expr>>, NoMemory>
-    ensures { IfOk result (λ made. made ≡ spec.two spec.conditioned groups condition) }
-{
-    match groups {
-        None => Ok(None),
-        Some(groups) => conditioned(alloc, groups, condition),
-    }
-}
-
-pub(crate) fn such_of(alloc: Global, groups: Groups, x: Operand) -> Result<Ready, NoMemory>
-    ensures { IfOk result (λ made. made ≡ spec.such_of groups x) }
-{
-    Ok(Ready {
-        height: groups.height.max(x.height),
-        index: index_with(alloc, groups.items, x.expr)?,
-    })
 }

@@ -1,17 +1,19 @@
-ghost use Rattle.std.specs.Prelude.{◌≡◌, IfOk, MatchOption};
+//! What all words come to.
+ghost use Rattle.std.specs.Prelude.{◌≡◌, [], Some, IfOk};
 ghost use Rattle.mos_expr.specs.Machine as spec;
+ghost use Rattle.mos_expr.specs.Operands as operands;
 ghost use Rattle.mos_expr.specs.Reader as reads;
 
 use crate::frame::{Frame, IndexKind, Mode};
 use crate::machine::{refuse, settle};
-use crate::operand::{
-    Groups, Operand, Parts, Ready, call_of, groups_with, leaf_of, no_groups, no_parts, parts_with,
-    ready_of, such_of,
+use crate::operand::{Groups, Operand, Parts, WholeIndex, leaf_of};
+use crate::parts::{
+    call_of, conditioned_index_of, groups_with, no_groups, no_parts, parts_with, whole_index_of,
 };
 use crate::reader::step;
 use crate::stack::{pop, push};
 use mos_scan::Word;
-use mos_text::{NoMemory, Text};
+use mos_text::{NoMemory, SourceText, let_go};
 use mos_tree::Expr;
 use sqlite_items::Items;
 use std::alloc::Global;
@@ -24,12 +26,15 @@ fn ended(mode: Mode) -> Option<Operand>
         Mode::After(x) => Some(x),
         Mode::Named(name) => Some(leaf_of(Expr::Name(name))),
         Mode::Called(name, parts) => Some(call_of(name, parts)),
-        _ => None,
+        other => {
+            let_go(other);
+            None
+        }
     }
 }
 
 fn at_end(alloc: Global, stack: &mut Vec<Frame>, mode: Mode) -> Result<Option<Operand>, NoMemory>
-    ensures { IfOk result (λ x. reads.at_end mode (spec.stack_of stack.old.items) ≡ spec.beside x (spec.stack_of stack.new.items)) }
+    ensures { IfOk result (λ x. reads.at_end mode (spec.stack_of stack.old.items) ≡ spec.settled_of x (spec.stack_of stack.new.items)) }
 {
     match ended(mode) {
         None => Ok(None),
@@ -44,14 +49,15 @@ fn read(
     mode: Mode,
     words: &[Word],
 ) -> Result<Option<Operand>, NoMemory>
-    ensures { IfOk result (λ x. reads.read mode (spec.stack_of stack.old.items) words.now ≡ spec.beside x (spec.stack_of stack.new.items)) }
+    ensures { IfOk result (λ x. reads.read mode (spec.stack_of stack.old.items) words.now ≡ spec.settled_of x (spec.stack_of stack.new.items)) }
 {
     let mut mode = mode;
     let mut rest = words;
     while let [word, after @ ..] = rest {
-        match step(alloc, stack, mode, word)? {
-            None => return Ok(None),
-            Some(next) => mode = next,
+        match step(alloc, stack, mode, word) {
+            Err(refused) => return Err(refused),
+            Ok(None) => return Ok(None),
+            Ok(Some(next)) => mode = next,
         }
         rest = after;
     }
@@ -63,7 +69,24 @@ fn alone(x: Operand, stack: &[Frame]) -> Option<Operand>
 {
     match stack {
         [] => Some(x),
-        [.., _] => None,
+        [.., _] => {
+            let_go(x);
+            None
+        }
+    }
+}
+
+fn alone_in(
+    alloc: Global,
+    stack: &mut Vec<Frame>,
+    words: &[Word],
+) -> Result<Option<Operand>, NoMemory>
+    ensures { stack.old.items ≡ [] → IfOk result (λ x. reads.operand_of words.now ≡ x) }
+{
+    match read(alloc, stack, Mode::Want, words) {
+        Ok(None) => Ok(None),
+        Ok(Some(x)) => Ok(alone(x, stack.as_slice())),
+        Err(refused) => Err(refused),
     }
 }
 
@@ -72,10 +95,9 @@ pub(crate) fn operand_of(alloc: Global, words: &[Word]) -> Result<Option<Operand
     ensures { IfOk result (λ x. reads.operand_of words.now ≡ x) }
 {
     let mut stack = Vec::new(alloc);
-    match read(alloc, &mut stack, Mode::Want, words)? {
-        None => Ok(None),
-        Some(x) => Ok(alone(x, stack.as_slice())),
-    }
+    let operand = alone_in(alloc, &mut stack, words);
+    let_go(stack);
+    operand
 }
 
 fn last(frame: Frame, outer: &[Frame]) -> Option<Frame>
@@ -83,7 +105,10 @@ fn last(frame: Frame, outer: &[Frame]) -> Option<Frame>
 {
     match outer {
         [] => Some(frame),
-        [.., _] => None,
+        [.., _] => {
+            let_go(frame);
+            None
+        }
     }
 }
 
@@ -91,15 +116,17 @@ fn last(frame: Frame, outer: &[Frame]) -> Option<Frame>
 fn only_frame(stack: &mut Vec<Frame>) -> Option<Frame>
     ensures { result ≡ reads.only_frame (spec.stack_of stack.old.items) }
 {
-    let frame = pop(stack)?;
-    last(frame, stack.as_slice())
+    match pop(stack) {
+        None => None,
+        Some(frame) => last(frame, stack.as_slice()),
+    }
 }
 
-fn last_listed(x: Operand, frame: Frame) -> Result<Option<Parts>, NoMemory>
-    ensures { IfOk result (λ parts. reads.last_listed x frame ≡ parts) }
+fn last_of_list(x: Operand, frame: Frame) -> Result<Option<Parts>, NoMemory>
+    ensures { IfOk result (λ parts. reads.last_of_list x frame ≡ parts) }
 {
     match frame {
-        Frame::Listed(parts) => Ok(Some(parts_with(parts, x)?)),
+        Frame::BareList(parts) => Ok(Some(parts_with(parts, x)?)),
         other => {
             refuse(other, x);
             Ok(None)
@@ -107,18 +134,42 @@ fn last_listed(x: Operand, frame: Frame) -> Result<Option<Parts>, NoMemory>
     }
 }
 
+fn parts_at_end(stack: &mut Vec<Frame>, x: Operand) -> Result<Option<Parts>, NoMemory>
+    ensures { IfOk result (λ parts. reads.list_at_end x (spec.stack_of stack.old.items) ≡ parts) }
+{
+    match only_frame(stack) {
+        None => {
+            let_go(x);
+            Ok(None)
+        }
+        Some(frame) => last_of_list(x, frame),
+    }
+}
+
+fn parts_in(
+    alloc: Global,
+    stack: &mut Vec<Frame>,
+    words: &[Word],
+) -> Result<Option<Parts>, NoMemory>
+    ensures { spec.stack_of stack.old.items ≡ reads.open_list → IfOk result (λ parts. reads.some_parts_of words.now ≡ parts) }
+{
+    match read(alloc, stack, Mode::Want, words) {
+        Ok(None) => Ok(None),
+        Ok(Some(x)) => parts_at_end(stack, x),
+        Err(refused) => Err(refused),
+    }
+}
+
 fn some_parts_of(alloc: Global, words: &[Word]) -> Result<Option<Parts>, NoMemory>
     ensures { IfOk result (λ parts. reads.some_parts_of words.now ≡ parts) }
 {
     let mut stack = Vec::new(alloc);
-    push(&mut stack, Frame::Listed(no_parts(alloc)))?;
-    match read(alloc, &mut stack, Mode::Want, words)? {
-        None => Ok(None),
-        Some(x) => match only_frame(&mut stack) {
-            None => Ok(None),
-            Some(frame) => last_listed(x, frame),
-        },
-    }
+    let parts = match push(&mut stack, Frame::BareList(no_parts(alloc))) {
+        Ok(()) => parts_in(alloc, &mut stack, words),
+        Err(refused) => Err(refused),
+    };
+    let_go(stack);
+    parts
 }
 
 /// The expressions that the words are, with commas between them.
@@ -131,40 +182,81 @@ pub(crate) fn parts_of(alloc: Global, words: &[Word]) -> Result<Option<Parts>, N
     }
 }
 
-fn loop_within(
-    kind: IndexKind,
+fn set_of_loop(
     groups: Groups,
-    names: Items<Text>,
+    names: Items<SourceText>,
     x: Operand,
-) -> Result<Option<Ready>, NoMemory>
-    ensures { IfOk result (λ ready. reads.loop_within kind groups names x ≡ ready) }
+) -> Result<Option<WholeIndex>, NoMemory>
+    ensures { IfOk result (λ whole. reads.set_of_loop groups names x ≡ whole) }
 {
-    match kind {
-        IndexKind::Loop if x.level <= 5 => Ok(Some(ready_of(groups_with(groups, names, x)?))),
-        _ => Ok(None),
+    if 5 < x.level {
+        let_go(groups);
+        let_go(names);
+        let_go(x);
+        return Ok(None);
+    }
+    match groups_with(groups, names, x) {
+        Ok(groups) => Ok(Some(whole_index_of(groups))),
+        Err(refused) => Err(refused),
     }
 }
 
-fn loop_such(
+fn loop_set(
+    kind: IndexKind,
+    groups: Groups,
+    names: Items<SourceText>,
+    x: Operand,
+) -> Result<Option<WholeIndex>, NoMemory>
+    ensures { IfOk result (λ whole. reads.loop_set kind groups names x ≡ whole) }
+{
+    match kind {
+        IndexKind::Loop => set_of_loop(groups, names, x),
+        _ => {
+            let_go(groups);
+            let_go(names);
+            let_go(x);
+            Ok(None)
+        }
+    }
+}
+
+fn condition_of_loop(
+    alloc: Global,
+    groups: Groups,
+    x: Operand,
+) -> Result<Option<WholeIndex>, NoMemory>
+    ensures { IfOk result (λ whole. Some (operands.conditioned_index_of groups x) ≡ whole) }
+{
+    match conditioned_index_of(alloc, groups, x) {
+        Ok(whole) => Ok(Some(whole)),
+        Err(refused) => Err(refused),
+    }
+}
+
+fn loop_condition(
     alloc: Global,
     kind: IndexKind,
     groups: Groups,
     x: Operand,
-) -> Result<Option<Ready>, NoMemory>
-    ensures { IfOk result (λ ready. reads.loop_such kind groups x ≡ ready) }
+) -> Result<Option<WholeIndex>, NoMemory>
+    ensures { IfOk result (λ whole. reads.loop_condition kind groups x ≡ whole) }
 {
     match kind {
-        IndexKind::Loop => Ok(Some(such_of(alloc, groups, x)?)),
-        _ => Ok(None),
+        IndexKind::Loop => condition_of_loop(alloc, groups, x),
+        _ => {
+            let_go(groups);
+            let_go(x);
+            Ok(None)
+        }
     }
 }
 
-fn last_of_index(alloc: Global, x: Operand, frame: Frame) -> Result<Option<Ready>, NoMemory>
-    ensures { IfOk result (λ ready. reads.last_of_index x frame ≡ ready) }
+fn last_of_index(alloc: Global, x: Operand, frame: Frame) -> Result<Option<WholeIndex>, NoMemory>
+    ensures { IfOk result (λ whole. reads.last_of_index x frame ≡ whole) }
 {
     match frame {
-        Frame::Within(kind, groups, names) => loop_within(kind, groups, names, x),
-        Frame::Such(kind, groups) => loop_such(alloc, kind, groups, x),
+        Frame::IndexSet(kind, groups, names) => loop_set(kind, groups, names, x),
+        Frame::IndexCondition(kind, groups) => loop_condition(alloc, kind, groups, x),
         other => {
             refuse(other, x);
             Ok(None)
@@ -172,17 +264,46 @@ fn last_of_index(alloc: Global, x: Operand, frame: Frame) -> Result<Option<Ready
     }
 }
 
+fn index_at_end(
+    alloc: Global,
+    stack: &mut Vec<Frame>,
+    x: Operand,
+) -> Result<Option<WholeIndex>, NoMemory>
+    ensures { IfOk result (λ whole. reads.index_at_end x (spec.stack_of stack.old.items) ≡ whole) }
+{
+    match only_frame(stack) {
+        None => {
+            let_go(x);
+            Ok(None)
+        }
+        Some(frame) => last_of_index(alloc, x, frame),
+    }
+}
+
+fn index_in(
+    alloc: Global,
+    stack: &mut Vec<Frame>,
+    words: &[Word],
+) -> Result<Option<WholeIndex>, NoMemory>
+    ensures { stack.old.items ≡ [] → IfOk result (λ whole. reads.whole_index_of_words words.now ≡ whole) }
+{
+    let mode = Mode::WantName(IndexKind::Loop, no_groups(alloc), Items::new(alloc));
+    match read(alloc, stack, mode, words) {
+        Ok(None) => Ok(None),
+        Ok(Some(x)) => index_at_end(alloc, stack, x),
+        Err(refused) => Err(refused),
+    }
+}
+
 /// The index that the words are.
-pub(crate) fn ready_of_words(alloc: Global, words: &[Word]) -> Result<Option<Ready>, NoMemory>
-    ensures { IfOk result (λ ready. reads.ready_of_words words.now ≡ ready) }
+pub(crate) fn whole_index_of_words(
+    alloc: Global,
+    words: &[Word],
+) -> Result<Option<WholeIndex>, NoMemory>
+    ensures { IfOk result (λ whole. reads.whole_index_of_words words.now ≡ whole) }
 {
     let mut stack = Vec::new(alloc);
-    let mode = Mode::WantName(IndexKind::Loop, no_groups(alloc), Items::new(alloc));
-    match read(alloc, &mut stack, mode, words)? {
-        None => Ok(None),
-        Some(x) => match only_frame(&mut stack) {
-            None => Ok(None),
-            Some(frame) => last_of_index(alloc, x, frame),
-        },
-    }
+    let whole = index_in(alloc, &mut stack, words);
+    let_go(stack);
+    whole
 }

@@ -1,27 +1,20 @@
-ghost use Rattle.std.specs.Prelude.{◌≡◌, true, false, Some, List, IfOk};
+//! What one word does.
+ghost use Rattle.std.specs.Prelude.{◌≡◌, IfOk};
 ghost use Rattle.mos_expr.specs.Machine as spec;
 ghost use Rattle.mos_expr.specs.Reader as reads;
 
+use crate::building::with_name;
 use crate::frame::{Frame, IndexKind, Mode};
-use crate::machine::{bar, comma, curly, operator_of, place, round, settle, square};
-use crate::operand::{
-    Groups, Operand, Parts, call_field_of, call_of, leaf_of, list_of, no_groups, no_parts, set_of,
-};
+use crate::machine::{operator_of, place, refuse, settle};
+use crate::operand::{Groups, Operand, Parts, leaf_of};
+use crate::parts::{call_field_of, call_of, list_of, no_groups, no_parts, set_of};
 use crate::stack::{opened, pop};
+use crate::taking::{at_bar, at_comma, at_curly, at_round, at_square};
 use mos_scan::{TokenKind, Word};
-use mos_text::{NoMemory, Text};
+use mos_text::{NoMemory, SourceText, let_go};
 use mos_tree::{AggregateOperator, BinaryOperator, Conversion, Expr, UnaryOperator};
 use sqlite_items::Items;
 use std::alloc::Global;
-
-fn refuse_operand(_x: Operand) {}
-
-/// Nothing comes next: the words so far begin no expression.
-fn refuse_all(_frame: Frame, _x: Operand) -> Option<Mode>
-    ensures { (fs : List spec.FrameType) → spec.on result fs ≡ spec.nothing }
-{
-    None
-}
 
 /// The innermost frame takes the operand at a bracket, a comma or a bar.
 fn at_frame(
@@ -30,19 +23,22 @@ fn at_frame(
     kind: TokenKind,
     x: Operand,
 ) -> Result<Option<Mode>, NoMemory>
-    ensures { IfOk result (λ next. spec.at_frame kind x (spec.stack_of stack.old.items) ≡ spec.on next (spec.stack_of stack.new.items)) }
+    ensures { IfOk result (spec.IsStep (spec.at_frame kind x) stack.old.items stack.new.items) }
 {
     let Some(frame) = pop(stack) else {
-        refuse_operand(x);
+        let_go(x);
         return Ok(None);
     };
     match kind {
-        TokenKind::CloseRound => round(alloc, stack, frame, x),
-        TokenKind::CloseCurly => curly(frame, x),
-        TokenKind::CloseSquare => square(frame, x),
-        TokenKind::Comma => comma(alloc, stack, frame, x),
-        TokenKind::Bar => bar(stack, frame, x),
-        _ => Ok(refuse_all(frame, x)),
+        TokenKind::CloseRound => at_round(alloc, stack, frame, x),
+        TokenKind::CloseCurly => at_curly(frame, x),
+        TokenKind::CloseSquare => at_square(frame, x),
+        TokenKind::Comma => at_comma(alloc, stack, frame, x),
+        TokenKind::Bar => at_bar(stack, frame, x),
+        _ => {
+            refuse(frame, x);
+            Ok(None)
+        }
     }
 }
 
@@ -63,12 +59,12 @@ fn infix(
     op: BinaryOperator,
     x: Operand,
 ) -> Result<Option<Mode>, NoMemory>
-    ensures { IfOk result (λ next. spec.infix_at op x (spec.stack_of stack.old.items) ≡ spec.on next (spec.stack_of stack.new.items)) }
+    ensures { IfOk result (spec.IsStep (spec.infix_at op x) stack.old.items stack.new.items) }
 {
-    if place(alloc, stack, op, x)? {
-        Ok(Some(mode_behind(op)))
-    } else {
-        Ok(None)
+    match place(alloc, stack, op, x) {
+        Ok(true) => Ok(Some(mode_behind(op))),
+        Ok(false) => Ok(None),
+        Err(refused) => Err(refused),
     }
 }
 
@@ -79,11 +75,12 @@ fn close(
     kind: TokenKind,
     x: Operand,
 ) -> Result<Option<Mode>, NoMemory>
-    ensures { IfOk result (λ next. spec.close kind x (spec.stack_of stack.old.items) ≡ spec.on next (spec.stack_of stack.new.items)) }
+    ensures { IfOk result (spec.IsStep (spec.close kind x) stack.old.items stack.new.items) }
 {
-    match settle(alloc, stack, x)? {
-        None => Ok(None),
-        Some(y) => at_frame(alloc, stack, kind, y),
+    match settle(alloc, stack, x) {
+        Ok(None) => Ok(None),
+        Ok(Some(y)) => at_frame(alloc, stack, kind, y),
+        Err(refused) => Err(refused),
     }
 }
 
@@ -94,7 +91,7 @@ fn after_key(
     kind: TokenKind,
     x: Operand,
 ) -> Result<Option<Mode>, NoMemory>
-    ensures { IfOk result (λ next. spec.after_key kind x (spec.stack_of stack.old.items) ≡ spec.on next (spec.stack_of stack.new.items)) }
+    ensures { IfOk result (spec.IsStep (spec.after_key kind x) stack.old.items stack.new.items) }
 {
     match operator_of(kind) {
         Some(op) => infix(alloc, stack, op, x),
@@ -109,12 +106,12 @@ fn after(
     x: Operand,
     word: &Word,
 ) -> Result<Option<Mode>, NoMemory>
-    ensures { IfOk result (λ next. reads.after x word.now (spec.stack_of stack.old.items) ≡ spec.on next (spec.stack_of stack.new.items)) }
+    ensures { IfOk result (spec.IsStep (reads.after x word.now) stack.old.items stack.new.items) }
 {
     match word {
         Word::Key(kind) => after_key(alloc, stack, *kind, x),
         _ => {
-            refuse_operand(x);
+            let_go(x);
             Ok(None)
         }
     }
@@ -124,10 +121,10 @@ fn after(
 fn named(
     alloc: Global,
     stack: &mut Vec<Frame>,
-    name: Text,
+    name: SourceText,
     word: &Word,
 ) -> Result<Option<Mode>, NoMemory>
-    ensures { IfOk result (λ next. reads.named name word.now (spec.stack_of stack.old.items) ≡ spec.on next (spec.stack_of stack.new.items)) }
+    ensures { IfOk result (spec.IsStep (reads.named name word.now) stack.old.items stack.new.items) }
 {
     match word {
         Word::Key(TokenKind::OpenRound) => {
@@ -142,11 +139,11 @@ fn named(
 fn called(
     alloc: Global,
     stack: &mut Vec<Frame>,
-    name: Text,
+    name: SourceText,
     parts: Parts,
     word: &Word,
 ) -> Result<Option<Mode>, NoMemory>
-    ensures { IfOk result (λ next. reads.called name parts word.now (spec.stack_of stack.old.items) ≡ spec.on next (spec.stack_of stack.new.items)) }
+    ensures { IfOk result (spec.IsStep (reads.called name parts word.now) stack.old.items stack.new.items) }
 {
     match word {
         Word::Key(TokenKind::Dot) => Ok(Some(Mode::DottedCall(name, parts))),
@@ -154,18 +151,20 @@ fn called(
     }
 }
 
-fn refuse_name(_name: Text) {}
-
-fn refuse_call(_name: Text, _parts: Parts) {}
-
 /// A word behind a name and a dot.
-fn dotted(alloc: Global, name: Text, word: &Word) -> Result<Option<Mode>, NoMemory>
-    ensures { IfOk result (λ next. (fs : List spec.FrameType) → reads.dotted name word.now fs ≡ spec.on next fs) }
+fn dotted(alloc: Global, name: SourceText, word: &Word) -> Result<Option<Mode>, NoMemory>
+    ensures { IfOk result (spec.IsStepAnywhere (reads.dotted name word.now)) }
 {
     match word {
-        Word::Name(field) => Ok(Some(Mode::After(leaf_of(Expr::Field(name, field.copy(alloc)?))))),
+        Word::Name(field) => match field.copy(alloc) {
+            Ok(field) => Ok(Some(Mode::After(leaf_of(Expr::Field(name, field))))),
+            Err(refused) => {
+                let_go(name);
+                Err(refused)
+            }
+        },
         _ => {
-            refuse_name(name);
+            let_go(name);
             Ok(None)
         }
     }
@@ -174,16 +173,24 @@ fn dotted(alloc: Global, name: Text, word: &Word) -> Result<Option<Mode>, NoMemo
 /// A word behind a call and a dot.
 fn dotted_call(
     alloc: Global,
-    name: Text,
+    name: SourceText,
     parts: Parts,
     word: &Word,
 ) -> Result<Option<Mode>, NoMemory>
-    ensures { IfOk result (λ next. (fs : List spec.FrameType) → reads.dotted_call name parts word.now fs ≡ spec.on next fs) }
+    ensures { IfOk result (spec.IsStepAnywhere (reads.dotted_call name parts word.now)) }
 {
     match word {
-        Word::Name(field) => Ok(Some(Mode::After(call_field_of(name, parts, field.copy(alloc)?)))),
+        Word::Name(field) => match field.copy(alloc) {
+            Ok(field) => Ok(Some(Mode::After(call_field_of(name, parts, field)))),
+            Err(refused) => {
+                let_go(name);
+                let_go(parts);
+                Err(refused)
+            }
+        },
         _ => {
-            refuse_call(name, parts);
+            let_go(name);
+            let_go(parts);
             Ok(None)
         }
     }
@@ -208,7 +215,7 @@ fn aggregate_key(kind: TokenKind) -> Option<IndexKind>
 }
 
 fn index_wanted(kind: Option<IndexKind>) -> Option<Mode>
-    ensures { (fs : List spec.FrameType) → reads.index_wanted kind fs ≡ spec.on result fs }
+    ensures { spec.IsStepAnywhere (reads.index_wanted kind) result }
 {
     match kind {
         None => None,
@@ -223,7 +230,7 @@ fn want_key(
     stack: &mut Vec<Frame>,
     kind: TokenKind,
 ) -> Result<Option<Mode>, NoMemory>
-    ensures { IfOk result (λ next. reads.want_key kind (spec.stack_of stack.old.items) ≡ spec.on next (spec.stack_of stack.new.items)) }
+    ensures { IfOk result (spec.IsStep (reads.want_key kind) stack.old.items stack.new.items) }
 {
     match kind {
         TokenKind::True => Ok(Some(Mode::After(leaf_of(Expr::Truth(true))))),
@@ -232,7 +239,7 @@ fn want_key(
         TokenKind::OpenRound => opened(stack, Frame::Bracket, Mode::Want),
         TokenKind::OpenCurly => opened(stack, Frame::Set(no_parts(alloc)), Mode::WantFirst),
         TokenKind::OpenSquare => opened(stack, Frame::List(no_parts(alloc)), Mode::WantFirst),
-        TokenKind::If => opened(stack, Frame::Choice, Mode::WantOpen),
+        TokenKind::If => opened(stack, Frame::IfExpr, Mode::WantOpen),
         TokenKind::Integer => opened(stack, Frame::Convert(Conversion::Integer), Mode::WantOpen),
         TokenKind::StringWord => opened(stack, Frame::Convert(Conversion::Text), Mode::WantOpen),
         TokenKind::Minus => opened(stack, Frame::Before(UnaryOperator::Minus), Mode::Want),
@@ -244,7 +251,7 @@ fn want_key(
 
 /// A word where an operand is wanted.
 fn want(alloc: Global, stack: &mut Vec<Frame>, word: &Word) -> Result<Option<Mode>, NoMemory>
-    ensures { IfOk result (λ next. reads.want word.now (spec.stack_of stack.old.items) ≡ spec.on next (spec.stack_of stack.new.items)) }
+    ensures { IfOk result (spec.IsStep (reads.want word.now) stack.old.items stack.new.items) }
 {
     match word {
         Word::Number(value) => Ok(Some(Mode::After(leaf_of(Expr::Integer(*value))))),
@@ -254,49 +261,57 @@ fn want(alloc: Global, stack: &mut Vec<Frame>, word: &Word) -> Result<Option<Mod
     }
 }
 
-fn refuse_frame(_frame: Frame) -> Option<Mode>
-    ensures { (fs : List spec.FrameType) → spec.on result fs ≡ spec.nothing }
-{
-    None
-}
-
 fn round_empty(frame: Frame) -> Option<Mode>
-    ensures { (fs : List spec.FrameType) → reads.round_empty frame fs ≡ spec.on result fs }
+    ensures { spec.IsStepAnywhere (reads.round_empty frame) result }
 {
     match frame {
         Frame::Call(name, parts) => Some(Mode::Called(name, parts)),
-        other => refuse_frame(other),
+        other => {
+            let_go(other);
+            None
+        }
     }
 }
 
 fn curly_empty(frame: Frame) -> Option<Mode>
-    ensures { (fs : List spec.FrameType) → reads.curly_empty frame fs ≡ spec.on result fs }
+    ensures { spec.IsStepAnywhere (reads.curly_empty frame) result }
 {
     match frame {
         Frame::Set(parts) => Some(Mode::After(set_of(parts))),
-        other => refuse_frame(other),
+        other => {
+            let_go(other);
+            None
+        }
     }
 }
 
 fn square_empty(frame: Frame) -> Option<Mode>
-    ensures { (fs : List spec.FrameType) → reads.square_empty frame fs ≡ spec.on result fs }
+    ensures { spec.IsStepAnywhere (reads.square_empty frame) result }
 {
     match frame {
         Frame::List(parts) => Some(Mode::After(list_of(parts))),
-        other => refuse_frame(other),
+        other => {
+            let_go(other);
+            None
+        }
     }
 }
 
 /// A bracket that closes what has no parts.
 fn close_empty(stack: &mut Vec<Frame>, kind: TokenKind) -> Option<Mode>
-    ensures { reads.close_empty kind (spec.stack_of stack.old.items) ≡ spec.on result (spec.stack_of stack.new.items) }
+    ensures { spec.IsStep (reads.close_empty kind) stack.old.items stack.new.items result }
 {
-    let frame = pop(stack)?;
+    let Some(frame) = pop(stack) else {
+        return None;
+    };
     match kind {
         TokenKind::CloseRound => round_empty(frame),
         TokenKind::CloseCurly => curly_empty(frame),
         TokenKind::CloseSquare => square_empty(frame),
-        _ => None,
+        _ => {
+            let_go(frame);
+            None
+        }
     }
 }
 
@@ -306,7 +321,7 @@ fn first_key(
     stack: &mut Vec<Frame>,
     kind: TokenKind,
 ) -> Result<Option<Mode>, NoMemory>
-    ensures { IfOk result (λ next. reads.first_key kind (spec.stack_of stack.old.items) ≡ spec.on next (spec.stack_of stack.new.items)) }
+    ensures { IfOk result (spec.IsStep (reads.first_key kind) stack.old.items stack.new.items) }
 {
     match kind {
         TokenKind::CloseRound | TokenKind::CloseCurly | TokenKind::CloseSquare => {
@@ -318,7 +333,7 @@ fn first_key(
 
 /// A word behind an opening bracket.
 fn want_first(alloc: Global, stack: &mut Vec<Frame>, word: &Word) -> Result<Option<Mode>, NoMemory>
-    ensures { IfOk result (λ next. reads.want_first word.now (spec.stack_of stack.old.items) ≡ spec.on next (spec.stack_of stack.new.items)) }
+    ensures { IfOk result (spec.IsStep (reads.want_first word.now) stack.old.items stack.new.items) }
 {
     match word {
         Word::Key(kind) => first_key(alloc, stack, *kind),
@@ -327,7 +342,7 @@ fn want_first(alloc: Global, stack: &mut Vec<Frame>, word: &Word) -> Result<Opti
 }
 
 fn want_open(word: &Word) -> Option<Mode>
-    ensures { (fs : List spec.FrameType) → reads.want_open word.now fs ≡ spec.on result fs }
+    ensures { spec.IsStepAnywhere (reads.want_open word.now) result }
 {
     match word {
         Word::Key(TokenKind::OpenRound) => Some(Mode::Want),
@@ -336,7 +351,7 @@ fn want_open(word: &Word) -> Option<Mode>
 }
 
 fn open_index(alloc: Global, kind: IndexKind, word: &Word) -> Option<Mode>
-    ensures { (fs : List spec.FrameType) → reads.open_index kind word.now fs ≡ spec.on result fs }
+    ensures { spec.IsStepAnywhere (reads.open_index kind word.now) result }
 {
     match word {
         Word::Key(TokenKind::OpenRound) => {
@@ -347,7 +362,7 @@ fn open_index(alloc: Global, kind: IndexKind, word: &Word) -> Option<Mode>
 }
 
 fn want_in(word: &Word) -> Option<Mode>
-    ensures { (fs : List spec.FrameType) → reads.want_in word.now fs ≡ spec.on result fs }
+    ensures { spec.IsStepAnywhere (reads.want_in word.now) result }
 {
     match word {
         Word::Key(TokenKind::In) => Some(Mode::Want),
@@ -355,26 +370,27 @@ fn want_in(word: &Word) -> Option<Mode>
     }
 }
 
-fn refuse_names(_groups: Groups, _names: Items<Text>) {}
-
 /// A word where a name of an index is wanted.
 fn want_name(
     alloc: Global,
     kind: IndexKind,
     groups: Groups,
-    names: Items<Text>,
+    names: Items<SourceText>,
     word: &Word,
 ) -> Result<Option<Mode>, NoMemory>
-    ensures { IfOk result (λ next. (fs : List spec.FrameType) → reads.want_name kind groups names word.now fs ≡ spec.on next fs) }
+    ensures { IfOk result (spec.IsStepAnywhere (reads.want_name kind groups names word.now)) }
 {
     match word {
-        Word::Name(name) => {
-            let mut names = names;
-            names.push(name.copy(alloc)?)?;
-            Ok(Some(Mode::AfterName(kind, groups, names)))
-        }
+        Word::Name(name) => match with_name(alloc, names, name) {
+            Ok(names) => Ok(Some(Mode::AfterName(kind, groups, names))),
+            Err(refused) => {
+                let_go(groups);
+                Err(refused)
+            }
+        },
         _ => {
-            refuse_names(groups, names);
+            let_go(groups);
+            let_go(names);
             Ok(None)
         }
     }
@@ -385,16 +401,17 @@ fn after_name(
     stack: &mut Vec<Frame>,
     kind: IndexKind,
     groups: Groups,
-    names: Items<Text>,
+    names: Items<SourceText>,
     word: &Word,
 ) -> Result<Option<Mode>, NoMemory>
-    ensures { IfOk result (λ next. reads.after_name kind groups names word.now (spec.stack_of stack.old.items) ≡ spec.on next (spec.stack_of stack.new.items)) }
+    ensures { IfOk result (spec.IsStep (reads.after_name kind groups names word.now) stack.old.items stack.new.items) }
 {
     match word {
         Word::Key(TokenKind::Comma) => Ok(Some(Mode::WantName(kind, groups, names))),
-        Word::Key(TokenKind::In) => opened(stack, Frame::Within(kind, groups, names), Mode::Want),
+        Word::Key(TokenKind::In) => opened(stack, Frame::IndexSet(kind, groups, names), Mode::Want),
         _ => {
-            refuse_names(groups, names);
+            let_go(groups);
+            let_go(names);
             Ok(None)
         }
     }
@@ -408,7 +425,7 @@ pub(crate) fn step(
     mode: Mode,
     word: &Word,
 ) -> Result<Option<Mode>, NoMemory>
-    ensures { IfOk result (λ next. reads.step mode word.now (spec.stack_of stack.old.items) ≡ spec.on next (spec.stack_of stack.new.items)) }
+    ensures { IfOk result (spec.IsStep (reads.step mode word.now) stack.old.items stack.new.items) }
 {
     match mode {
         Mode::Want => want(alloc, stack, word),

@@ -1,20 +1,26 @@
-ghost use Rattle.std.specs.Prelude.{◌≡◌, [], ◌∷◌, Some, MatchOption, OnOk, IfOk};
-ghost use Rattle.mos_expr.specs.Machine.{stack_of, on};
+//! The stack of open frames.
+ghost use Rattle.std.specs.Prelude.{◌≡◌, ◌∷◌, Some, OnOk, IfOk};
+ghost use Rattle.mos_expr.specs.Machine.{stack_of, state_of, IsPopped};
 
 use crate::frame::{Frame, Mode};
-use mos_text::NoMemory;
+use mos_text::{NoMemory, let_go};
 
 /// Opens a frame.
 pub(crate) fn push(stack: &mut Vec<Frame>, frame: Frame) -> Result<(), NoMemory>
     ensures { OnOk result (stack_of stack.new.items ≡ frame ∷ stack_of stack.old.items) }
 {
-    stack.push(frame)?;
-    Ok(())
+    match stack.push(frame) {
+        Ok(()) => Ok(()),
+        Err(refused) => {
+            let_go(refused);
+            Err(NoMemory)
+        }
+    }
 }
 
 /// Takes off the innermost frame.
 pub(crate) fn pop(stack: &mut Vec<Frame>) -> Option<Frame>
-    ensures { MatchOption result ((stack_of stack.old.items ≡ []) × (stack_of stack.new.items ≡ [])) (λ frame. stack_of stack.old.items ≡ frame ∷ stack_of stack.new.items) }
+    ensures { IsPopped stack.old.items stack.new.items result }
 {
     stack.pop()
 }
@@ -25,8 +31,13 @@ pub(crate) fn opened(
     frame: Frame,
     mode: Mode,
 ) -> Result<Option<Mode>, NoMemory>
-    ensures { IfOk result (λ next. Some (mode, frame ∷ stack_of stack.old.items) ≡ on next (stack_of stack.new.items)) }
+    ensures { IfOk result (λ next. Some (mode, frame ∷ stack_of stack.old.items) ≡ state_of next (stack_of stack.new.items)) }
 {
-    push(stack, frame)?;
-    Ok(Some(mode))
+    match push(stack, frame) {
+        Ok(()) => Ok(Some(mode)),
+        Err(refused) => {
+            let_go(mode);
+            Err(refused)
+        }
+    }
 }

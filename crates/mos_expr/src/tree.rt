@@ -1,14 +1,15 @@
-ghost use Rattle.std.specs.Prelude.{◌≡◌, ◌≤◌, length, IfOk, IsErrOf};
+//! The calls: the tree of words that spell an expression, expressions with commas, or an index.
+ghost use Rattle.std.specs.Prelude.{◌≡◌, ◌≤◌, length};
+ghost use Rattle.mos_text.specs.Limits.{source_limit};
 ghost use Rattle.mos_scan.specs.Reading.{words_of};
-ghost use Rattle.mos_expr.specs.Grammar as grammar;
-ghost use Rattle.mos_expr.specs.Outcome as outcome;
 ghost use Rattle.mos_expr.specs.Reader as reads;
-ghost use Rattle.mos_expr.specs.declared.fault.ExprFault.TheVariants as fault;
+ghost use Rattle.mos_expr.specs.Said.{Says, IsExpression, AreExpressions, AreSomeExpressions, IsIndex};
 
 use crate::ExprFault;
-use crate::operand::{Operand, Parts, Ready};
-use crate::read::{operand_of, parts_of, ready_of_words};
+use crate::operand::{Operand, Parts, WholeIndex};
+use crate::read::{operand_of, parts_of, whole_index_of_words};
 use mos_scan::{Token, Word, words};
+use mos_text::let_go;
 use mos_tree::{Expr, Index};
 use sqlite_items::Items;
 use std::alloc::Global;
@@ -31,54 +32,68 @@ fn trees_of(parts: Option<Parts>) -> Result<Items<Expr>, ExprFault>
     }
 }
 
-fn index_of(ready: Option<Ready>) -> Result<Index<Expr>, ExprFault>
-    ensures { result ≡ reads.outcome_of_index ready }
+fn index_of(whole: Option<WholeIndex>) -> Result<Index<Expr>, ExprFault>
+    ensures { result ≡ reads.outcome_of_index whole }
 {
-    match ready {
+    match whole {
         None => Err(ExprFault::NoExpr),
-        Some(ready) => ready.index.ok_or(ExprFault::Deep),
+        Some(whole) => whole.index.ok_or(ExprFault::Deep),
     }
 }
 
 /// The one tree of the words, which are all of one expression.
 pub fn expression_of_words(alloc: Global, words: &[Word]) -> Result<Expr, ExprFault>
-    ensures found { IfOk result (outcome.IsTree words.now) }
-    ensures deep { IsErrOf result fault.Deep → outcome.IsTooHigh words.now }
-    ensures only { (s : grammar.Syntax) → grammar.IsSpelled words.now s → outcome.Gives result (outcome.answer s) }
+    ensures { Says (IsExpression words.now) result }
 {
-    let operand = operand_of(alloc, words)?;
-    tree_of(operand)
+    match operand_of(alloc, words) {
+        Ok(operand) => tree_of(operand),
+        Err(_) => Err(ExprFault::NoMemory),
+    }
 }
 
 /// The trees of expressions with commas between them; none where there are no words.
 pub fn expressions_of_words(alloc: Global, words: &[Word]) -> Result<Items<Expr>, ExprFault>
-    ensures found { IfOk result (outcome.AreTrees words.now) }
-    ensures deep { IsErrOf result fault.Deep → outcome.AreTooHigh words.now }
-    ensures only { (ss : grammar.Written) → grammar.AreSpelled words.now ss → outcome.Gives result (outcome.answer_of_list ss) }
+    ensures { Says (AreExpressions words.now) result }
 {
-    let parts = parts_of(alloc, words)?;
-    trees_of(parts)
+    match parts_of(alloc, words) {
+        Ok(parts) => trees_of(parts),
+        Err(_) => Err(ExprFault::NoMemory),
+    }
+}
+
+/// The trees of expressions with commas between them, at least one.
+pub fn some_expressions_of_words(alloc: Global, words: &[Word]) -> Result<Items<Expr>, ExprFault>
+    ensures { Says (AreSomeExpressions words.now) result }
+{
+    match words {
+        [] => Err(ExprFault::NoExpr),
+        [_, ..] => expressions_of_words(alloc, words),
+    }
 }
 
 /// What a loop goes over: names with their sets, perhaps a condition, without the brackets round
 /// them.
 pub fn index_of_words(alloc: Global, words: &[Word]) -> Result<Index<Expr>, ExprFault>
-    ensures found { IfOk result (outcome.IsIndex words.now) }
-    ensures deep { IsErrOf result fault.Deep → outcome.IsIndexTooHigh words.now }
-    ensures only { (i : grammar.Over) → grammar.IsIndexSpelled words.now i → outcome.Gives result (outcome.answer_of_index i) }
+    ensures { Says (IsIndex words.now) result }
 {
-    let ready = ready_of_words(alloc, words)?;
-    index_of(ready)
+    match whole_index_of_words(alloc, words) {
+        Ok(whole) => index_of(whole),
+        Err(_) => Err(ExprFault::NoMemory),
+    }
 }
 
 /// The one tree of tokens of a source, which are all of one expression; the tokens are neighbours
-/// in the list that `scan` gives for the source.
+/// in the list that `scan` gives for the source, and newlines among them are passed over.
 pub fn expression(alloc: Global, source: &[u8], tokens: &[Token]) -> Result<Expr, ExprFault>
-    requires { length tokens.now ≤ 1048576 }
-    ensures found { IfOk result (outcome.IsTree (words_of source.now tokens.now)) }
-    ensures deep { IsErrOf result fault.Deep → outcome.IsTooHigh (words_of source.now tokens.now) }
-    ensures only { (s : grammar.Syntax) → grammar.IsSpelled (words_of source.now tokens.now) s → outcome.Gives result (outcome.answer s) }
+    requires { length source.now ≤ source_limit }
+    ensures { Says (IsExpression (words_of source.now tokens.now)) result }
 {
-    let words = words(alloc, source, tokens)?;
-    expression_of_words(alloc, words.as_slice())
+    match words(alloc, source, tokens) {
+        Ok(words) => {
+            let tree = expression_of_words(alloc, words.as_slice());
+            let_go(words);
+            tree
+        }
+        Err(_) => Err(ExprFault::NoMemory),
+    }
 }

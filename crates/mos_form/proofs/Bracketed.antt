@@ -9,8 +9,8 @@ use Rattle.mos_scan.specs.declared.reading.Word.TheVariants as w
 use Rattle.mos_expr.specs.Grammar.{Syntax, Written, no_more, AreSpelled, IsGrouped, AreGrouped, spell, spell_list, height, heights, tree, trees}
 use Rattle.mos_typing.specs.Typing.{in_brackets}
 use Rattle.mos_typing.specs.Words.{is_plain, ArePlain, ListIsPlain}
-use Rattle.mos_form.specs.declared.form.Form.{Form}
-use Rattle.mos_form.specs.declared.form.Form.TheVariants as f
+use Rattle.mos_tree.specs.declared.form.Form.{Form}
+use Rattle.mos_tree.specs.declared.form.Form.TheVariants as f
 use Rattle.mos_form.specs.declared.head.Next.TheVariants as next
 use Rattle.mos_form.specs.Cuts.{operator_of}
 use Rattle.mos_form.specs.Cells.{cell, cell_target, AreParts, parts_height, parts_trees, with_parts, TellsCell}

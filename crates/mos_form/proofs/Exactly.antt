@@ -8,15 +8,15 @@ use Rattle.mos_scan.specs.declared.token.TokenKind.TheVariants as t
 use Rattle.mos_scan.specs.declared.reading.Word.{Word}
 use Rattle.mos_scan.specs.declared.reading.Word.TheVariants as w
 use Rattle.mos_expr.specs.Grammar.{Names, one_name, and_name, list_of_names}
-use Rattle.mos_form.specs.declared.form.Form.{Form}
-use Rattle.mos_form.specs.declared.form.Form.TheVariants as f
-use Rattle.mos_form.specs.declared.form.Keyword.{Keyword}
-use Rattle.mos_form.specs.declared.form.Keyword.TheVariants as keyword
+use Rattle.mos_tree.specs.declared.form.Form.{Form}
+use Rattle.mos_tree.specs.declared.form.Form.TheVariants as f
+use Rattle.mos_tree.specs.declared.form.Keyword.{Keyword}
+use Rattle.mos_tree.specs.declared.form.Keyword.TheVariants as keyword
 use Rattle.mos_form.specs.declared.head.Head.TheVariants as h
 use Rattle.mos_form.specs.declared.lists.TextMode.TheVariants as x
 use Rattle.mos_form.specs.declared.lists.LabelMode.TheVariants as l
 use Rattle.mos_form.specs.Fixed as fixed
-use Rattle.mos_form.specs.Forms.{mould_of}
+use Rattle.mos_tree.specs.Forms.{piece_kind_of}
 use Rattle.mos_form.specs.Heads.{head_of}
 use Rattle.mos_form.specs.Lists.{read_texts, read_labels, uses, uses_of}
 use Rattle.mos_form.specs.Lists as lists
@@ -60,7 +60,7 @@ form_known (labels a) e = cc
 pub known : (p : Phrase) → answer p ≡ f.Unknown → ⊥
 known p e = on_bool (nat_le (tallest p) 500)
     (λ b. let q : form_of p ≡ f.Unknown = sym (rw b refl) ∙ e in form_known p q)
-    (λ b. let q : f.TooHigh (mould_of (form_of p)) ≡ f.Unknown = sym (rw b refl) ∙ e in cc)
+    (λ b. let q : f.TooHigh (piece_kind_of (form_of p)) ≡ f.Unknown = sym (rw b refl) ∙ e in cc)
 
 -- a piece with this form, or the form of none
 pub data Exists (Is : Phrase → Type 0) (form : Form) : Type 0 where

@@ -11,14 +11,14 @@ use Rattle.mos_scan.specs.declared.reading.Word.{Word}
 use Rattle.mos_scan.specs.declared.reading.Word.TheVariants as w
 use Rattle.mos_expr.specs.Grammar.{Syntax, Over, IsSpelled, IsIndexSpelled, IsGrouped, spell, spell_over, height, height_over, tree, index_of}
 use Rattle.mos_typing.specs.Typing.{key, in_brackets}
-use Rattle.mos_form.specs.declared.form.Form.{Form}
-use Rattle.mos_form.specs.declared.form.Form.TheVariants as f
-use Rattle.mos_form.specs.declared.form.Guard.{Guard}
-use Rattle.mos_form.specs.declared.form.Guard.TheVariants as guard
+use Rattle.mos_tree.specs.declared.form.Form.{Form}
+use Rattle.mos_tree.specs.declared.form.Form.TheVariants as f
+use Rattle.mos_tree.specs.declared.form.ConditionKeyword.{ConditionKeyword}
+use Rattle.mos_tree.specs.declared.form.ConditionKeyword.TheVariants as condition
 use Rattle.mos_form.specs.declared.head.Head.TheVariants as h
 use Rattle.mos_form.specs.Heads.{head_of}
 use Rattle.mos_form.specs.Cuts.{direction_of, operator_of}
-use Rattle.mos_form.specs.Fixed.{guard_word, around}
+use Rattle.mos_form.specs.Fixed.{condition_word, around}
 use Rattle.mos_form.specs.Phrases.{to_result, Phrase, assign, if_then, elif_then, case_of, forall_in, while_so, until_so, initializations, direction_word, operator_word, words_of, IsWell, IsPhrase, answer}
 use Rattle.mos_form.specs.Telling.{untold, by_height, IsAlternative, IsOther, TellsOne, TellsIndex, TellsPiece, assigned}
 use Rattle.mos_form.proofs.Telling.{embed_ok}
@@ -42,92 +42,92 @@ same_words a b r e k = subst (λ z. IfOk r (TellsPiece z)) (sym e) k
 pub same_words_form : (a b : List Word) (form : Form) → a ≡ b → TellsPiece b form → TellsPiece a form
 same_words_form a b form e k = subst (λ z. TellsPiece z form) (sym e) k
 
--- ---- a guard and its condition
+-- ---- a keyword and its condition
 
-abbrev guard_phrase : Guard → Syntax → Phrase
-guard_phrase guard.If s = if_then s
-guard_phrase guard.Elif s = elif_then s
-guard_phrase guard.Case s = case_of s
-guard_phrase guard.While s = while_so s
-guard_phrase guard.Until s = until_so s
+abbrev guard_phrase : ConditionKeyword → Syntax → Phrase
+guard_phrase condition.If s = if_then s
+guard_phrase condition.Elif s = elif_then s
+guard_phrase condition.Case s = case_of s
+guard_phrase condition.While s = while_so s
+guard_phrase condition.Until s = until_so s
 
-guard_words : (g : Guard) (s : Syntax) → words_of (guard_phrase g s) ≡ w.Key (guard_word g) ∷ around g (spell s)
-guard_words guard.If s = refl
-guard_words guard.Elif s = refl
-guard_words guard.Case s = refl
-guard_words guard.While s = refl
-guard_words guard.Until s = refl
+guard_words : (g : ConditionKeyword) (s : Syntax) → words_of (guard_phrase g s) ≡ w.Key (condition_word g) ∷ around g (spell s)
+guard_words condition.If s = refl
+guard_words condition.Elif s = refl
+guard_words condition.Case s = refl
+guard_words condition.While s = refl
+guard_words condition.Until s = refl
 
-guard_answer : (g : Guard) (s : Syntax) → answer (guard_phrase g s) ≡ by_height (height s) (f.Guarded g (tree s))
-guard_answer guard.If s = refl
-guard_answer guard.Elif s = refl
-guard_answer guard.Case s = refl
-guard_answer guard.While s = refl
-guard_answer guard.Until s = refl
+guard_answer : (g : ConditionKeyword) (s : Syntax) → answer (guard_phrase g s) ≡ by_height (height s) (f.Guarded g (tree s))
+guard_answer condition.If s = refl
+guard_answer condition.Elif s = refl
+guard_answer condition.Case s = refl
+guard_answer condition.While s = refl
+guard_answer condition.Until s = refl
 
-guard_well : (g : Guard) (s : Syntax) → IsGrouped s → IsWell (guard_phrase g s)
-guard_well guard.If s k = k
-guard_well guard.Elif s k = k
-guard_well guard.Case s k = k
-guard_well guard.While s k = k
-guard_well guard.Until s k = k
+guard_well : (g : ConditionKeyword) (s : Syntax) → IsGrouped s → IsWell (guard_phrase g s)
+guard_well condition.If s k = k
+guard_well condition.Elif s k = k
+guard_well condition.Case s k = k
+guard_well condition.While s k = k
+guard_well condition.Until s k = k
 
-guard_grouped : (g : Guard) (s : Syntax) → IsWell (guard_phrase g s) → IsGrouped s
-guard_grouped guard.If s k = k
-guard_grouped guard.Elif s k = k
-guard_grouped guard.Case s k = k
-guard_grouped guard.While s k = k
-guard_grouped guard.Until s k = k
+guard_grouped : (g : ConditionKeyword) (s : Syntax) → IsWell (guard_phrase g s) → IsGrouped s
+guard_grouped condition.If s k = k
+guard_grouped condition.Elif s k = k
+guard_grouped condition.Case s k = k
+guard_grouped condition.While s k = k
+guard_grouped condition.Until s k = k
 
-guard_other : (g : Guard) (s : Syntax) → IsAlternative (guard_phrase g s) → ⊥
-guard_other guard.If s k = k
-guard_other guard.Elif s k = k
-guard_other guard.Case s k = k
-guard_other guard.While s k = k
-guard_other guard.Until s k = k
+guard_other : (g : ConditionKeyword) (s : Syntax) → IsAlternative (guard_phrase g s) → ⊥
+guard_other condition.If s k = k
+guard_other condition.Elif s k = k
+guard_other condition.Case s k = k
+guard_other condition.While s k = k
+guard_other condition.Until s k = k
 
-guard_head : (g : Guard) → Some (head_of (guard_word g)) ≡ Some (h.Guarded g)
-guard_head guard.If = refl
-guard_head guard.Elif = refl
-guard_head guard.Case = refl
-guard_head guard.While = refl
-guard_head guard.Until = refl
+guard_head : (g : ConditionKeyword) → Some (head_of (condition_word g)) ≡ Some (h.Guarded g)
+guard_head condition.If = refl
+guard_head condition.Elif = refl
+guard_head condition.Case = refl
+guard_head condition.While = refl
+guard_head condition.Until = refl
 
-around_same : (g : Guard) (a b : List Word) → around g a ≡ around g b → a ≡ b
-around_same guard.If a b e = append_cancel_right a b (key t.Then) e
-around_same guard.Elif a b e = append_cancel_right a b (key t.Then) e
-around_same guard.Case a b e = append_cancel_right a b (key t.Of) e
-around_same guard.While a b e = brackets_same a b e
-around_same guard.Until a b e = e
+around_same : (g : ConditionKeyword) (a b : List Word) → around g a ≡ around g b → a ≡ b
+around_same condition.If a b e = append_cancel_right a b (key t.Then) e
+around_same condition.Elif a b e = append_cancel_right a b (key t.Then) e
+around_same condition.Case a b e = append_cancel_right a b (key t.Of) e
+around_same condition.While a b e = brackets_same a b e
+around_same condition.Until a b e = e
 
-abbrev IsGuard : Guard → Phrase → Type 0
+abbrev IsGuard : ConditionKeyword → Phrase → Type 0
 IsGuard g p = (s : Syntax) × (p ≡ guard_phrase g s)
 
-guard_back : (g : Guard) (p : Phrase) → head_is p ≡ Some (h.Guarded g) → IsGuard g p
-guard_back g (if_then s) e = let q : guard.If ≡ g = cc in (s, subst (λ z. if_then s ≡ guard_phrase z s) q refl)
-guard_back g (elif_then s) e = let q : guard.Elif ≡ g = cc in (s, subst (λ z. elif_then s ≡ guard_phrase z s) q refl)
-guard_back g (case_of s) e = let q : guard.Case ≡ g = cc in (s, subst (λ z. case_of s ≡ guard_phrase z s) q refl)
-guard_back g (while_so s) e = let q : guard.While ≡ g = cc in (s, subst (λ z. while_so s ≡ guard_phrase z s) q refl)
-guard_back g (until_so s) e = let q : guard.Until ≡ g = cc in (s, subst (λ z. until_so s ≡ guard_phrase z s) q refl)
+guard_back : (g : ConditionKeyword) (p : Phrase) → head_is p ≡ Some (h.Guarded g) → IsGuard g p
+guard_back g (if_then s) e = let q : condition.If ≡ g = cc in (s, subst (λ z. if_then s ≡ guard_phrase z s) q refl)
+guard_back g (elif_then s) e = let q : condition.Elif ≡ g = cc in (s, subst (λ z. elif_then s ≡ guard_phrase z s) q refl)
+guard_back g (case_of s) e = let q : condition.Case ≡ g = cc in (s, subst (λ z. case_of s ≡ guard_phrase z s) q refl)
+guard_back g (while_so s) e = let q : condition.While ≡ g = cc in (s, subst (λ z. while_so s ≡ guard_phrase z s) q refl)
+guard_back g (until_so s) e = let q : condition.Until ≡ g = cc in (s, subst (λ z. until_so s ≡ guard_phrase z s) q refl)
 guard_back g (assign to_result op s) e = absurd cc
 guard_back g _ e = absurd cc
 
 -- a piece with this guard has a condition
-guard_spelled : (g : Guard) (rest : List Word) (p : Phrase) → IsOther (w.Key (guard_word g) ∷ rest) p → (s : Syntax) × IsGrouped s × (rest ≡ around g (spell s)) × (p ≡ guard_phrase g s)
+guard_spelled : (g : ConditionKeyword) (rest : List Word) (p : Phrase) → IsOther (w.Key (condition_word g) ∷ rest) p → (s : Syntax) × IsGrouped s × (rest ≡ around g (spell s)) × (p ≡ guard_phrase g s)
 guard_spelled g rest p k =
-    let q = guard_back g p (key_head (guard_word g) rest p k.1 k.0.exact ∙ guard_head g) in
-    let m = subst (IsPhrase (w.Key (guard_word g) ∷ rest)) q.1 k.0 in
-    (q.0, guard_grouped g q.0 m.well, tail_same (w.Key (guard_word g)) (w.Key (guard_word g)) rest (around g (spell q.0)) (m.exact ∙ guard_words g q.0), q.1)
+    let q = guard_back g p (key_head (condition_word g) rest p k.1 k.0.exact ∙ guard_head g) in
+    let m = subst (IsPhrase (w.Key (condition_word g) ∷ rest)) q.1 k.0 in
+    (q.0, guard_grouped g q.0 m.well, tail_same (w.Key (condition_word g)) (w.Key (condition_word g)) rest (around g (spell q.0)) (m.exact ∙ guard_words g q.0), q.1)
 
-pub guard_piece : {E : Type 0} (g : Guard) (rest inside : List Word) → rest ≡ around g inside → (r : Result Form E) → IfOk r (TellsOne (λ x. f.Guarded g x) inside) → IfOk r (TellsPiece (w.Key (guard_word g) ∷ rest))
-guard_piece g rest inside e r k =
-    embed_ok (IsSpelled inside) (λ s. by_height (height s) (f.Guarded g (tree s))) (IsOther (w.Key (guard_word g) ∷ rest)) answer (guard_phrase g)
-    (λ s m. (record { well = guard_well g s m.grouped; exact = ap (λ z. w.Key (guard_word g) ∷ z) (e ∙ ap (around g) m.exact) ∙ sym (guard_words g s) }, guard_other g s))
+pub condition_piece : {E : Type 0} (g : ConditionKeyword) (rest inside : List Word) → rest ≡ around g inside → (r : Result Form E) → IfOk r (TellsOne (λ x. f.Guarded g x) inside) → IfOk r (TellsPiece (w.Key (condition_word g) ∷ rest))
+condition_piece g rest inside e r k =
+    embed_ok (IsSpelled inside) (λ s. by_height (height s) (f.Guarded g (tree s))) (IsOther (w.Key (condition_word g) ∷ rest)) answer (guard_phrase g)
+    (λ s m. (record { well = guard_well g s m.grouped; exact = ap (λ z. w.Key (condition_word g) ∷ z) (e ∙ ap (around g) m.exact) ∙ sym (guard_words g s) }, guard_other g s))
     (λ p m. let q = guard_spelled g rest p m in (q.0, record { grouped = q.1; exact = around_same g inside (spell q.0) (sym e ∙ q.2) }, q.3))
     (guard_answer g) r k
 
-pub no_guard : (g : Guard) (rest : List Word) → ((inside : List Word) → rest ≡ around g inside → ⊥) → TellsPiece (w.Key (guard_word g) ∷ rest) f.Unknown
-no_guard g rest none = no_piece (w.Key (guard_word g) ∷ rest) (λ p m. let q = guard_spelled g rest p m in none (spell q.0) q.2)
+pub no_condition : (g : ConditionKeyword) (rest : List Word) → ((inside : List Word) → rest ≡ around g inside → ⊥) → TellsPiece (w.Key (condition_word g) ∷ rest) f.Unknown
+no_condition g rest none = no_piece (w.Key (condition_word g) ∷ rest) (λ p m. let q = guard_spelled g rest p m in none (spell q.0) q.2)
 
 -- ---- `forall`
 

@@ -1,4 +1,3 @@
-pub mod Both
 pub mod Bracketed
 pub mod Exactly
 pub mod Keyed
@@ -7,6 +6,7 @@ pub mod Named
 pub mod Opening
 pub mod Parting
 pub mod Routines
+pub mod Sizes
+pub mod Spelled
 pub mod Telling
-pub mod Texts
 pub mod Whole

@@ -9,8 +9,8 @@ use Rattle.mos_scan.specs.declared.reading.Word.TheVariants as w
 use Rattle.mos_expr.specs.Grammar.{Names, one_name, and_name, list_of_names, spell_names}
 use Rattle.mos_typing.specs.Typing.{Typing, IsTyping, typing_words, type_of, tallest_type}
 use Rattle.mos_typing.specs.Words.{is_plain, ArePlain}
-use Rattle.mos_form.specs.declared.form.Form.{Form}
-use Rattle.mos_form.specs.declared.form.Form.TheVariants as f
+use Rattle.mos_tree.specs.declared.form.Form.{Form}
+use Rattle.mos_tree.specs.declared.form.Form.TheVariants as f
 use Rattle.mos_form.specs.declared.head.Next.TheVariants as next
 use Rattle.mos_form.specs.Heads.{next_of}
 use Rattle.mos_form.specs.Phrases.{to_name, Labels, last_label, and_label, Phrase, typed, assign, alternative, labels, label_words, IsPhrase, answer}

@@ -12,8 +12,8 @@ use Rattle.mos_scan.specs.declared.reading.Word.TheVariants as w
 use Rattle.mos_expr.specs.Grammar.{one_name, and_name, Syntax, Written, IsSpelled, AreSpelled, IsGrouped, AreGrouped, spell, spell_list, height, heights, tree, trees}
 use Rattle.mos_typing.specs.Typing.{key}
 use Rattle.mos_typing.specs.Words.{is_plain, SyntaxIsPlain}
-use Rattle.mos_form.specs.declared.form.Form.{Form}
-use Rattle.mos_form.specs.declared.form.Form.TheVariants as f
+use Rattle.mos_tree.specs.declared.form.Form.{Form}
+use Rattle.mos_tree.specs.declared.form.Form.TheVariants as f
 use Rattle.mos_form.specs.declared.head.Next.TheVariants as next
 use Rattle.mos_form.specs.Heads.{next_of}
 use Rattle.mos_form.specs.Cuts.{operator_of, is_record}

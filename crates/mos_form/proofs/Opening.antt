@@ -8,9 +8,9 @@ use Rattle.mos_scan.specs.declared.token.TokenKind.TheVariants as t
 use Rattle.mos_scan.specs.declared.reading.Word.{Word}
 use Rattle.mos_scan.specs.declared.reading.Word.TheVariants as w
 use Rattle.mos_expr.specs.Grammar.{one_name, and_name}
-use Rattle.mos_form.specs.declared.form.Guard.TheVariants as guard
-use Rattle.mos_form.specs.declared.form.Keyword.{Keyword}
-use Rattle.mos_form.specs.declared.form.Keyword.TheVariants as keyword
+use Rattle.mos_tree.specs.declared.form.ConditionKeyword.TheVariants as condition
+use Rattle.mos_tree.specs.declared.form.Keyword.{Keyword}
+use Rattle.mos_tree.specs.declared.form.Keyword.TheVariants as keyword
 use Rattle.mos_form.specs.declared.head.Head.{Head}
 use Rattle.mos_form.specs.declared.head.Head.TheVariants as h
 use Rattle.mos_form.specs.declared.head.Next.{Next}
@@ -33,12 +33,12 @@ head_is (function n xs b) = Some h.Function
 head_is (forward_procedure n xs) = Some h.Forward
 head_is (forward_function n xs b) = Some h.Forward
 head_is (assign to_result op s) = Some h.Returned
-head_is (if_then s) = Some (h.Guarded guard.If)
-head_is (elif_then s) = Some (h.Guarded guard.Elif)
-head_is (case_of s) = Some (h.Guarded guard.Case)
+head_is (if_then s) = Some (h.Guarded condition.If)
+head_is (elif_then s) = Some (h.Guarded condition.Elif)
+head_is (case_of s) = Some (h.Guarded condition.Case)
 head_is (forall_in i) = Some h.Forall
-head_is (while_so s) = Some (h.Guarded guard.While)
-head_is (until_so s) = Some (h.Guarded guard.Until)
+head_is (while_so s) = Some (h.Guarded condition.While)
+head_is (until_so s) = Some (h.Guarded condition.Until)
 head_is (initializations d s) = Some h.Initializations
 head_is _ = None
 
@@ -103,13 +103,13 @@ key_head kind rest (assign to_result op s) a e = said (Some h.Returned) kind t.R
 key_head kind rest (fill n xs) a e = absurd cc
 key_head kind rest (call n xs) a e = absurd cc
 key_head kind rest (bare n) a e = absurd cc
-key_head kind rest (if_then s) a e = said (Some (h.Guarded guard.If)) kind t.If (cc) refl
-key_head kind rest (elif_then s) a e = said (Some (h.Guarded guard.Elif)) kind t.Elif (cc) refl
-key_head kind rest (case_of s) a e = said (Some (h.Guarded guard.Case)) kind t.Case (cc) refl
+key_head kind rest (if_then s) a e = said (Some (h.Guarded condition.If)) kind t.If (cc) refl
+key_head kind rest (elif_then s) a e = said (Some (h.Guarded condition.Elif)) kind t.Elif (cc) refl
+key_head kind rest (case_of s) a e = said (Some (h.Guarded condition.Case)) kind t.Case (cc) refl
 key_head kind rest (alternative xs) a e = absurd (a tt)
 key_head kind rest (forall_in i) a e = said (Some h.Forall) kind t.Forall (cc) refl
-key_head kind rest (while_so s) a e = said (Some (h.Guarded guard.While)) kind t.While (cc) refl
-key_head kind rest (until_so s) a e = said (Some (h.Guarded guard.Until)) kind t.Until (cc) refl
+key_head kind rest (while_so s) a e = said (Some (h.Guarded condition.While)) kind t.While (cc) refl
+key_head kind rest (until_so s) a e = said (Some (h.Guarded condition.Until)) kind t.Until (cc) refl
 key_head kind rest (initializations d s) a e = said (Some h.Initializations) kind t.Initializations (cc) refl
 key_head kind rest (labels (last_label n shown)) a e = absurd cc
 key_head kind rest (labels (and_label n shown xs)) a e = absurd cc

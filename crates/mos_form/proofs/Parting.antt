@@ -11,7 +11,7 @@ use Rattle.mos_tree.specs.declared.statement.Assignment.TheVariants as assignmen
 use Rattle.mos_scan.specs.declared.token.TokenKind.TheVariants as t
 use Rattle.mos_scan.specs.declared.reading.Word.{Word}
 use Rattle.mos_scan.specs.declared.reading.Word.TheVariants as w
-use Rattle.mos_expr.specs.Grammar.{Leaf, number, text, truth, name, returned, field, Syntax, leaf, call, call_field, set, list, bracket, choice, convert, before, between, aggregate, counted, Written, no_more, one_more, spell, spell_rest, spell_between}
+use Rattle.mos_expr.specs.Grammar.{Leaf, number, text, truth, name, returned, field, Syntax, leaf, call, call_field, set, list, bracket, if_expr, convert, before, between, aggregate, counted, Written, no_more, one_more, spell, spell_rest, spell_between}
 use Rattle.mos_typing.specs.Words.{is_plain, ArePlain}
 use Rattle.mos_form.specs.Cuts.{operator_of}
 use Rattle.mos_form.specs.Phrases.{operator_word}
@@ -40,7 +40,7 @@ full (call_field n xs f) rest e = cc
 full (set xs) rest e = cc
 full (list xs) rest e = cc
 full (bracket s) rest e = cc
-full (choice x y z) rest e = cc
+full (if_expr x y z) rest e = cc
 full (convert c s) rest e = cc
 full (before p s) rest e = cc
 full (between op x y) rest e = full x ((spell_between op ++ spell y) ++ rest) (sym (append_assoc (spell x) (spell_between op ++ spell y) rest) ∙ e)

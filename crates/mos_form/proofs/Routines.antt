@@ -9,12 +9,12 @@ use Rattle.mos_scan.specs.declared.token.TokenKind.TheVariants as t
 use Rattle.mos_scan.specs.declared.reading.Word.{Word}
 use Rattle.mos_scan.specs.declared.reading.Word.TheVariants as w
 use Rattle.mos_typing.specs.Typing.{Formals, AreFormals, FormalsAreGrouped, formal_words, formals_of, tallest_formals, base_words}
-use Rattle.mos_form.specs.declared.form.Form.{Form}
-use Rattle.mos_form.specs.declared.form.Form.TheVariants as f
-use Rattle.mos_form.specs.declared.form.Mould.TheVariants as m
+use Rattle.mos_tree.specs.declared.form.Form.{Form}
+use Rattle.mos_tree.specs.declared.form.Form.TheVariants as f
+use Rattle.mos_tree.specs.declared.form.PieceKind.TheVariants as m
 use Rattle.mos_form.specs.declared.head.Head.TheVariants as h
-use Rattle.mos_form.specs.Fixed.{heading, heading_mould, lead}
-use Rattle.mos_form.specs.Forms.{mould_of}
+use Rattle.mos_form.specs.Fixed.{heading, heading_kind, lead}
+use Rattle.mos_tree.specs.Forms.{piece_kind_of}
 use Rattle.mos_form.specs.Phrases.{to_result, Phrase, procedure, function, forward_procedure, forward_function, assign, IsPhrase, answer}
 use Rattle.mos_form.specs.Telling.{by_height, IsOther, TellsFormals, TellsPiece}
 use Rattle.mos_form.proofs.Telling.{embed_ok}
@@ -22,13 +22,13 @@ use Rattle.mos_form.proofs.Opening.{head_is, key_head}
 use Rattle.mos_form.proofs.Parting.{snoc_same, regroup}
 use Rattle.mos_form.proofs.Keyed.{tail_same, no_piece}
 
-pub procedure_mould : (forward : Bool) (n : List ℕ) (xs : List FormalGroup) → mould_of (heading forward n xs None) ≡ heading_mould forward m.Procedure
-procedure_mould true n xs = refl
-procedure_mould false n xs = refl
+pub procedure_kind : (forward : Bool) (n : List ℕ) (xs : List FormalGroup) → piece_kind_of (heading forward n xs None) ≡ heading_kind forward m.Procedure
+procedure_kind true n xs = refl
+procedure_kind false n xs = refl
 
-pub function_mould : (forward : Bool) (n : List ℕ) (xs : List FormalGroup) (b : BaseType) → mould_of (heading forward n xs (Some b)) ≡ heading_mould forward m.Function
-function_mould true n xs b = refl
-function_mould false n xs b = refl
+pub function_kind : (forward : Bool) (n : List ℕ) (xs : List FormalGroup) (b : BaseType) → piece_kind_of (heading forward n xs (Some b)) ≡ heading_kind forward m.Function
+function_kind true n xs b = refl
+function_kind false n xs b = refl
 
 -- ---- procedures
 

@@ -11,8 +11,8 @@ use Rattle.mos_scan.specs.declared.reading.Word.TheVariants as w
 use Rattle.mos_expr.specs.Grammar.{Names, one_name, and_name, spell_names, Written, spell, spell_list, heights, trees}
 use Rattle.mos_typing.specs.Typing.{Typing, key, typing_words}
 use Rattle.mos_typing.specs.Words.{is_plain, ArePlain, SyntaxIsPlain}
-use Rattle.mos_form.specs.declared.form.Form.{Form}
-use Rattle.mos_form.specs.declared.form.Form.TheVariants as f
+use Rattle.mos_tree.specs.declared.form.Form.{Form}
+use Rattle.mos_tree.specs.declared.form.Form.TheVariants as f
 use Rattle.mos_form.specs.Phrases.{to_name, to_cell, to_field, to_cell_field, to_result, Labels, last_label, and_label, Phrase, word, break_word, next_word, model_text, model_name, uses_modules, options_name, definition, typed, record_of, procedure, function, forward_procedure, forward_function, assign, fill, call, bare, if_then, elif_then, case_of, alternative, forall_in, while_so, until_so, initializations, labels, token_of, text_words, label_words, target_words, operator_word, words_of, IsPhrase, answer}
 use Rattle.mos_form.specs.Telling.{Tells, told, untold, by_height, IsAlternative, IsOther, TellsPiece, AreSome}
 use Rattle.mos_form.proofs.Telling.{embed_ok}
@@ -24,8 +24,8 @@ use Rattle.mos_tree.specs.declared.declaration.BaseType.TheVariants as base
 use Rattle.mos_tree.specs.declared.statement.Direction.{Direction}
 use Rattle.mos_tree.specs.declared.statement.Direction.TheVariants as direction
 use Rattle.mos_expr.specs.Grammar.{spell_over}
-use Rattle.mos_form.specs.declared.form.Keyword.{Keyword}
-use Rattle.mos_form.specs.declared.form.Keyword.TheVariants as keyword
+use Rattle.mos_tree.specs.declared.form.Keyword.{Keyword}
+use Rattle.mos_tree.specs.declared.form.Keyword.TheVariants as keyword
 use Rattle.mos_form.specs.Phrases.{direction_word, IsFormOf, is_phrase, no_phrase}
 use Rattle.mos_form.specs.Telling.{TellsSome}
 use Rattle.mos_form.proofs.Parting.{plain_tail}

@@ -1,40 +1,18 @@
--- Assignments to cells: indexes and a value.
+-- As the code reads, apart from what the public clauses say: assignments to cells: indexes and a
+-- value.
 
-use Rattle.std.specs.Prelude.{ℕ, max, List, Option, Some, None, Result, Ok, Err}
+use Rattle.std.specs.Prelude.{ℕ, max, List, Option, Some, None}
 use Rattle.mos_tree.specs.declared.expr.Expr.{Expr}
 use Rattle.mos_tree.specs.declared.statement.Assignment.{Assignment}
 use Rattle.mos_tree.specs.declared.statement.Reference.{Reference}
 use Rattle.mos_tree.specs.declared.statement.Reference.TheVariants as reference
 use Rattle.mos_scan.specs.declared.reading.Word.{Word}
 use Rattle.mos_expr.specs.Grammar.{Syntax, Written, IsSpelled, height, heights, tree, trees}
-use Rattle.mos_expr.specs.declared.fault.ExprFault.{ExprFault}
-use Rattle.mos_expr.specs.declared.fault.ExprFault.TheVariants as x
-use Rattle.mos_form.specs.declared.form.Form.{Form}
+use Rattle.mos_tree.specs.declared.form.Form.{Form}
 use Rattle.mos_form.specs.Phrases.{Target, to_cell, to_cell_field}
 use Rattle.mos_form.specs.Telling.{Tells, by_height, AreSome, assigned}
 
--- a part that is none comes before one that is too high
-abbrev pub worse : ExprFault → ExprFault → ExprFault
-worse x.NoMemory other = x.NoMemory
-worse x.Deep other = other
-worse x.NoExpr x.NoMemory = x.NoMemory
-worse x.NoExpr _ = x.NoExpr
-
-abbrev pub fault_beside : ExprFault → Result Expr ExprFault → ExprFault
-fault_beside fault (Ok value) = fault
-fault_beside fault (Err other) = worse fault other
-
-abbrev pub Both : Type 0
-Both = Result (List Expr × Expr) ExprFault
-
-abbrev pub value_beside : List Expr → Result Expr ExprFault → Both
-value_beside indexes (Ok value) = Ok (indexes, value)
-value_beside indexes (Err fault) = Err fault
-
-abbrev pub both : Result (List Expr) ExprFault → Result Expr ExprFault → Both
-both (Ok indexes) value = value_beside indexes value
-both (Err fault) value = Err (fault_beside fault value)
-
+-- a cell, or a field of the record in it
 abbrev pub cell : List ℕ → List Expr → Option (List ℕ) → Reference
 cell name indexes None = reference.Cell name indexes
 cell name indexes (Some field) = reference.CellField name indexes field
@@ -48,14 +26,18 @@ cell_target name indexes (Some field) = to_cell_field name indexes field
 abbrev pub AreParts : List Word → List Word → Written × Syntax → Type 0
 AreParts indexes value p = AreSome indexes p.0 × IsSpelled value p.1
 
+-- the height of the highest of them
 abbrev pub parts_height : Written × Syntax → ℕ
 parts_height p = max (heights p.0) (height p.1)
 
+-- their trees
 abbrev pub parts_trees : Written × Syntax → List Expr × Expr
 parts_trees p = (trees p.0, tree p.1)
 
+-- the assignment that they make
 abbrev pub with_parts : List ℕ → Option (List ℕ) → Assignment → List Expr × Expr → Form
 with_parts name field operator q = assigned (cell name q.0 field) operator q.1
 
+-- an assignment to a cell with these indexes and this value
 abbrev pub TellsCell : List ℕ → Option (List ℕ) → Assignment → List Word → List Word → Form → Type 0
 TellsCell name field operator indexes value = Tells (Written × Syntax) (AreParts indexes value) (λ p. by_height (parts_height p) (with_parts name field operator (parts_trees p)))

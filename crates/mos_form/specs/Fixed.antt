@@ -1,4 +1,5 @@
--- Pieces that have no expressions, or that differ by a word alone.
+-- As the code reads, apart from what the public clauses say: pieces that have no expressions, or
+-- that differ by a word alone.
 
 use Rattle.std.specs.Prelude.{ℕ, Bool, true, false, List, [], ◌∷◌, ◌++◌, Option, Some, None}
 use Rattle.mos_tree.specs.declared.declaration.BaseType.{BaseType}
@@ -8,14 +9,14 @@ use Rattle.mos_scan.specs.declared.token.TokenKind.{TokenKind}
 use Rattle.mos_scan.specs.declared.token.TokenKind.TheVariants as t
 use Rattle.mos_scan.specs.declared.reading.Word.{Word}
 use Rattle.mos_scan.specs.declared.reading.Word.TheVariants as w
-use Rattle.mos_form.specs.declared.form.Form.{Form}
-use Rattle.mos_form.specs.declared.form.Form.TheVariants as f
-use Rattle.mos_form.specs.declared.form.Guard.{Guard}
-use Rattle.mos_form.specs.declared.form.Guard.TheVariants as guard
-use Rattle.mos_form.specs.declared.form.Keyword.{Keyword}
-use Rattle.mos_form.specs.declared.form.Mould.{Mould}
-use Rattle.mos_form.specs.declared.form.Mould.TheVariants as m
-use Rattle.mos_form.specs.declared.form.Simple.TheVariants as simple
+use Rattle.mos_tree.specs.declared.form.Form.{Form}
+use Rattle.mos_tree.specs.declared.form.Form.TheVariants as f
+use Rattle.mos_tree.specs.declared.form.ConditionKeyword.{ConditionKeyword}
+use Rattle.mos_tree.specs.declared.form.ConditionKeyword.TheVariants as condition
+use Rattle.mos_tree.specs.declared.form.Keyword.{Keyword}
+use Rattle.mos_tree.specs.declared.form.PieceKind.{PieceKind}
+use Rattle.mos_tree.specs.declared.form.PieceKind.TheVariants as m
+use Rattle.mos_tree.specs.declared.form.Simple.TheVariants as simple
 use Rattle.mos_typing.specs.Typing.{key, in_brackets}
 use Rattle.mos_form.specs.Heads.{keyword_of}
 
@@ -30,28 +31,33 @@ abbrev pub options : List Word → Form
 options (w.Name n ∷ []) = f.Options n
 options _ = f.Unknown
 
+-- the heading of a routine, behind `forward` or not
 abbrev pub heading : Bool → List ℕ → List FormalGroup → Option BaseType → Form
 heading true n xs typ = f.Forward n xs typ
 heading false n xs typ = f.Routine n xs typ
 
-abbrev pub heading_mould : Bool → Mould → Mould
-heading_mould true routine = m.Forward
-heading_mould false routine = routine
+-- its kind
+abbrev pub heading_kind : Bool → PieceKind → PieceKind
+heading_kind true routine = m.Forward
+heading_kind false routine = routine
 
 -- the first words of a heading
 abbrev pub lead : Bool → TokenKind → List Word → List Word
 lead true kind words = w.Key t.Forward ∷ w.Key kind ∷ words
 lead false kind words = w.Key kind ∷ words
 
+-- the statements of one word
 abbrev pub other_word : TokenKind → Form
 other_word t.Break = f.Simple simple.Break
 other_word t.Next = f.Simple simple.Next
 other_word _ = f.Unknown
 
+-- the keyword, or else this
 abbrev pub keyword_or : Option Keyword → Form → Form
 keyword_or None other = other
 keyword_or (Some x) other = f.Keyword x
 
+-- the piece that is this token alone
 abbrev pub single_word : TokenKind → Form
 single_word kind = keyword_or (keyword_of kind) (other_word kind)
 
@@ -60,17 +66,18 @@ abbrev pub single : TokenKind → List Word → Form
 single kind [] = single_word kind
 single kind (word ∷ rest) = f.Unknown
 
-abbrev pub guard_word : Guard → TokenKind
-guard_word guard.If = t.If
-guard_word guard.Elif = t.Elif
-guard_word guard.Case = t.Case
-guard_word guard.While = t.While
-guard_word guard.Until = t.Until
+-- the token of a keyword with a condition
+abbrev pub condition_word : ConditionKeyword → TokenKind
+condition_word condition.If = t.If
+condition_word condition.Elif = t.Elif
+condition_word condition.Case = t.Case
+condition_word condition.While = t.While
+condition_word condition.Until = t.Until
 
--- the words behind a guard with these words in its condition
-abbrev pub around : Guard → List Word → List Word
-around guard.If inside = inside ++ key t.Then
-around guard.Elif inside = inside ++ key t.Then
-around guard.Case inside = inside ++ key t.Of
-around guard.While inside = in_brackets inside
-around guard.Until inside = inside
+-- the words behind a keyword with these words in its condition
+abbrev pub around : ConditionKeyword → List Word → List Word
+around condition.If inside = inside ++ key t.Then
+around condition.Elif inside = inside ++ key t.Then
+around condition.Case inside = inside ++ key t.Of
+around condition.While inside = in_brackets inside
+around condition.Until inside = inside

@@ -1,4 +1,5 @@
--- What the first words of a piece say of it.
+-- As the code reads, apart from what the public clauses say: what the first words of a piece say of
+-- it.
 
 use Rattle.std.specs.Prelude.{Option, Some, None}
 use Rattle.mos_tree.specs.declared.statement.Assignment.TheVariants as assignment
@@ -6,21 +7,22 @@ use Rattle.mos_scan.specs.declared.token.TokenKind.{TokenKind}
 use Rattle.mos_scan.specs.declared.token.TokenKind.TheVariants as t
 use Rattle.mos_scan.specs.declared.reading.Word.{Word}
 use Rattle.mos_scan.specs.declared.reading.Word.TheVariants as w
-use Rattle.mos_form.specs.declared.form.Guard.TheVariants as guard
-use Rattle.mos_form.specs.declared.form.Keyword.{Keyword}
-use Rattle.mos_form.specs.declared.form.Keyword.TheVariants as keyword
+use Rattle.mos_tree.specs.declared.form.ConditionKeyword.TheVariants as condition
+use Rattle.mos_tree.specs.declared.form.Keyword.{Keyword}
+use Rattle.mos_tree.specs.declared.form.Keyword.TheVariants as keyword
 use Rattle.mos_form.specs.declared.head.Head.{Head}
 use Rattle.mos_form.specs.declared.head.Head.TheVariants as h
 use Rattle.mos_form.specs.declared.head.Next.{Next}
 use Rattle.mos_form.specs.declared.head.Next.TheVariants as n
 
-abbrev pub guard_or_single : TokenKind → Head
-guard_or_single t.If = h.Guarded guard.If
-guard_or_single t.Elif = h.Guarded guard.Elif
-guard_or_single t.Case = h.Guarded guard.Case
-guard_or_single t.While = h.Guarded guard.While
-guard_or_single t.Until = h.Guarded guard.Until
-guard_or_single _ = h.Single
+-- the keywords with a condition; any other token is a piece alone, or begins none
+abbrev pub condition_or_single : TokenKind → Head
+condition_or_single t.If = h.Guarded condition.If
+condition_or_single t.Elif = h.Guarded condition.Elif
+condition_or_single t.Case = h.Guarded condition.Case
+condition_or_single t.While = h.Guarded condition.While
+condition_or_single t.Until = h.Guarded condition.Until
+condition_or_single _ = h.Single
 
 -- what the first word says, where it is a token
 abbrev pub head_of : TokenKind → Head
@@ -33,8 +35,9 @@ head_of t.Forward = h.Forward
 head_of t.Forall = h.Forall
 head_of t.Initializations = h.Initializations
 head_of t.Returned = h.Returned
-head_of kind = guard_or_single kind
+head_of kind = condition_or_single kind
 
+-- what a token behind a name says
 abbrev pub next_of_kind : TokenKind → Next
 next_of_kind t.Equal = n.Equal
 next_of_kind t.Fill = n.Fill
@@ -53,6 +56,7 @@ abbrev pub next_of : Word → Next
 next_of (w.Key kind) = next_of_kind kind
 next_of _ = n.Other
 
+-- the tokens that end a block
 abbrev pub end_of : TokenKind → Option Keyword
 end_of t.EndModel = Some keyword.EndModel
 end_of t.EndParameters = Some keyword.EndParameters

@@ -1,10 +1,7 @@
 pub mod Cells
 pub mod Cuts
 pub mod Fixed
-pub mod Forms
 pub mod Heads
-pub mod Laws
 pub mod Lists
 pub mod Phrases
 pub mod Telling
-pub mod Texts

@@ -16,13 +16,13 @@ use Rattle.mos_scan.specs.declared.reading.Word.{Word}
 use Rattle.mos_scan.specs.declared.reading.Word.TheVariants as w
 use Rattle.mos_expr.specs.Grammar.{Syntax, Written, no_more, Over, Names, one_name, and_name, spell, spell_list, spell_over, spell_names, list_of_names, IsGrouped, AreGrouped, IsGroupedOver, height, heights, height_over, limit, tree, trees, index_of}
 use Rattle.mos_typing.specs.Typing.{Typing, Formals, key, in_brackets, base_words, typing_words, formal_words, type_of, formals_of, tallest_type, tallest_formals, TypeIsGrouped, FormalsAreGrouped}
-use Rattle.mos_form.specs.declared.form.Form.{Form}
-use Rattle.mos_form.specs.declared.form.Form.TheVariants as f
-use Rattle.mos_form.specs.declared.form.Guard.TheVariants as guard
-use Rattle.mos_form.specs.declared.form.Keyword.TheVariants as keyword
-use Rattle.mos_form.specs.declared.form.Keyword.{Keyword}
-use Rattle.mos_form.specs.declared.form.Simple.TheVariants as simple
-use Rattle.mos_form.specs.Forms.{mould_of}
+use Rattle.mos_tree.specs.declared.form.Form.{Form}
+use Rattle.mos_tree.specs.declared.form.Form.TheVariants as f
+use Rattle.mos_tree.specs.declared.form.ConditionKeyword.TheVariants as condition
+use Rattle.mos_tree.specs.declared.form.Keyword.TheVariants as keyword
+use Rattle.mos_tree.specs.declared.form.Keyword.{Keyword}
+use Rattle.mos_tree.specs.declared.form.Simple.TheVariants as simple
+use Rattle.mos_tree.specs.Forms.{piece_kind_of}
 
 -- ---- what is written
 
@@ -39,6 +39,7 @@ pub data Labels : Type 0 where
   last_label : List ℕ → Option (List ℕ) → Labels
   and_label : List ℕ → Option (List ℕ) → Labels → Labels
 
+-- one piece
 pub data Phrase : Type 0 where
   word : Keyword → Phrase  -- one reserved word
   break_word : Phrase
@@ -70,6 +71,7 @@ pub data Phrase : Type 0 where
 
 -- ---- words
 
+-- the token of a piece that is one reserved word
 abbrev pub token_of : Keyword → TokenKind
 token_of keyword.EndModel = t.EndModel
 token_of keyword.Parameters = t.Parameters
@@ -92,23 +94,28 @@ abbrev pub text_words : Names → List Word
 text_words (one_name n) = w.Text n ∷ []
 text_words (and_name n ns) = w.Text n ∷ w.Key t.Comma ∷ text_words ns
 
+-- the word of an assignment
 abbrev pub operator_word : Assignment → Word
 operator_word assignment.Set = w.Key t.Assign
 operator_word assignment.Add = w.Key t.AddAssign
 operator_word assignment.Take = w.Key t.TakeAssign
 
+-- the word of a direction
 abbrev pub direction_word : Direction → Word
 direction_word direction.From = w.Key t.From
 direction_word direction.To = w.Key t.To
 
+-- `as` and a text, where they stand
 abbrev pub shown_words : Option (List ℕ) → List Word
 shown_words None = []
 shown_words (Some x) = w.Key t.As ∷ w.Text x ∷ []
 
+-- labels with commas between them
 abbrev pub label_words : Labels → List Word
 label_words (last_label n shown) = w.Name n ∷ shown_words shown
 label_words (and_label n shown rest) = w.Name n ∷ (shown_words shown ++ w.Key t.Comma ∷ label_words rest)
 
+-- the left side of an assignment
 abbrev pub target_words : Target → List Word
 target_words (to_name n) = w.Name n ∷ []
 target_words (to_cell n xs) = w.Name n ∷ in_brackets (spell_list xs)
@@ -148,6 +155,7 @@ words_of (labels xs) = label_words xs
 
 -- ---- forms
 
+-- the left side of an assignment
 abbrev pub reference_of : Target → Reference
 reference_of (to_name n) = reference.Name n
 reference_of (to_cell n xs) = reference.Cell n (trees xs)
@@ -155,6 +163,7 @@ reference_of (to_field n x) = reference.Field n x
 reference_of (to_cell_field n xs x) = reference.CellField n (trees xs) x
 reference_of to_result = reference.Returned
 
+-- labels, in order
 abbrev pub labels_of : Labels → List Label
 labels_of (last_label n shown) = record { name = n; shown = shown } ∷ []
 labels_of (and_label n shown rest) = record { name = n; shown = shown } ∷ labels_of rest
@@ -179,22 +188,25 @@ form_of (assign x operator s) = f.Simple (simple.Assign (reference_of x) operato
 form_of (fill n xs) = f.Simple (simple.Fill n (trees xs))
 form_of (call n xs) = f.Simple (simple.Call n (trees xs))
 form_of (bare n) = f.Bare n
-form_of (if_then s) = f.Guarded guard.If (tree s)
-form_of (elif_then s) = f.Guarded guard.Elif (tree s)
-form_of (case_of s) = f.Guarded guard.Case (tree s)
+form_of (if_then s) = f.Guarded condition.If (tree s)
+form_of (elif_then s) = f.Guarded condition.Elif (tree s)
+form_of (case_of s) = f.Guarded condition.Case (tree s)
 form_of (alternative xs) = f.Alternative (trees xs)
 form_of (forall_in i) = f.Forall (index_of i)
-form_of (while_so s) = f.Guarded guard.While (tree s)
-form_of (until_so s) = f.Guarded guard.Until (tree s)
+form_of (while_so s) = f.Guarded condition.While (tree s)
+form_of (until_so s) = f.Guarded condition.Until (tree s)
 form_of (initializations d s) = f.Initializations d (tree s)
 form_of (labels xs) = f.Labels (labels_of xs)
 
 -- ---- how high
 
+-- the height of the highest index, 0 where there is none
 abbrev pub tallest_target : Target → ℕ
 tallest_target (to_cell n xs) = heights xs
 tallest_target (to_cell_field n xs x) = heights xs
-tallest_target _ = 0
+tallest_target (to_name n) = 0
+tallest_target (to_field n x) = 0
+tallest_target to_result = 0
 
 -- the height of the highest expression tree in a piece, 0 where there is none
 abbrev pub tallest : Phrase → ℕ
@@ -215,7 +227,16 @@ tallest (forall_in i) = height_over i
 tallest (while_so s) = height s
 tallest (until_so s) = height s
 tallest (initializations d s) = height s
-tallest _ = 0
+tallest (word x) = 0
+tallest break_word = 0
+tallest next_word = 0
+tallest (model_text n) = 0
+tallest (model_name n) = 0
+tallest (uses_modules ns) = 0
+tallest (options_name n) = 0
+tallest (record_of n) = 0
+tallest (bare n) = 0
+tallest (labels xs) = 0
 
 -- ---- what each part must be
 
@@ -223,12 +244,15 @@ tallest _ = 0
 abbrev pub TargetIs : Target → Type 0
 TargetIs (to_cell n xs) = AreGrouped xs × (xs ≢ no_more)
 TargetIs (to_cell_field n xs x) = AreGrouped xs × (xs ≢ no_more)
-TargetIs _ = Unit {0}
+TargetIs (to_name n) = Unit {0}
+TargetIs (to_field n x) = Unit {0}
+TargetIs to_result = Unit {0}
 
 -- one label without a text behind it is a name alone
 abbrev pub LabelsAre : Labels → Type 0
 LabelsAre (last_label n None) = ⊥
-LabelsAre _ = Unit {0}
+LabelsAre (last_label n (Some x)) = Unit {0}
+LabelsAre (and_label n shown rest) = Unit {0}
 
 -- each expression is grouped rightly, an alternative has a label, a cell an index
 abbrev pub IsWell : Phrase → Type 0
@@ -250,7 +274,15 @@ IsWell (while_so s) = IsGrouped s
 IsWell (until_so s) = IsGrouped s
 IsWell (initializations d s) = IsGrouped s
 IsWell (labels xs) = LabelsAre xs
-IsWell _ = Unit {0}
+IsWell (word x) = Unit {0}
+IsWell break_word = Unit {0}
+IsWell next_word = Unit {0}
+IsWell (model_text n) = Unit {0}
+IsWell (model_name n) = Unit {0}
+IsWell (uses_modules ns) = Unit {0}
+IsWell (options_name n) = Unit {0}
+IsWell (record_of n) = Unit {0}
+IsWell (bare n) = Unit {0}
 
 -- ---- what words are
 
@@ -261,7 +293,7 @@ pub record IsPhrase (words : List Word) (p : Phrase) : Type 0 where
 
 -- the form of a piece, or that an expression in it is too high
 abbrev pub answer : Phrase → Form
-answer p = if nat_le (tallest p) limit then form_of p else f.TooHigh (mould_of (form_of p))
+answer p = if nat_le (tallest p) limit then form_of p else f.TooHigh (piece_kind_of (form_of p))
 
 -- the form of words: that of the piece that they are, or that they are none
 pub data IsFormOf (words : List Word) : Form → Type 0 where

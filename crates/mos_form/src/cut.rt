@@ -1,16 +1,13 @@
 //! Where the words of a piece part.
 ghost use Rattle.std.specs.Prelude.{◌≡◌, ◌++◌, ◌∷◌, [], List, ℕ, MatchOption, true, false};
 ghost use Rattle.std.specs.List.{prefix_len};
-ghost use Rattle.mos_scan.specs.declared.reading.Word.{Word as word_type};
 ghost use Rattle.mos_scan.specs.declared.reading.Word.TheVariants as w;
-ghost use Rattle.mos_scan.specs.declared.token.TokenKind.TheVariants as t;
-ghost use Rattle.mos_scan.specs.declared.token.TokenKind.{TokenKind as kind_type};
-ghost use Rattle.mos_typing.specs.Typing.{key};
 ghost use Rattle.mos_typing.specs.Words as plain;
+ghost use Rattle.mos_typing.specs.Shapes.{AreNo, AreNoPair};
 ghost use Rattle.mos_form.specs.Cuts as spec;
 
 use mos_scan::{TokenKind, Word};
-use mos_text::Text;
+use mos_text::SourceText;
 use mos_tree::{Assignment, Direction};
 
 /// The first word, and the others.
@@ -40,7 +37,7 @@ pub(crate) fn is_key(word: &Word, kind: TokenKind) -> bool
 
 /// The words before the last one, where that is this token.
 pub(crate) fn before_last(words: &[Word], kind: TokenKind) -> Option<&[Word]>
-    ensures { MatchOption result ((inside : List word_type) → words.now ≡ inside ++ key kind → ⊥) (λ inside. words.now ≡ inside.now ++ key kind) }
+    ensures { MatchOption result (AreNo (spec.before kind) words.now) (λ inside. words.now ≡ spec.before kind inside.now) }
 {
     match last(words) {
         Some((last, inside)) if is_key(last, kind) => Some(inside),
@@ -50,7 +47,7 @@ pub(crate) fn before_last(words: &[Word], kind: TokenKind) -> Option<&[Word]>
 
 /// The words between these two tokens, where they are the first and the last.
 pub(crate) fn enclosed(words: &[Word], opens: TokenKind, closes: TokenKind) -> Option<&[Word]>
-    ensures { MatchOption result ((inside : List word_type) → words.now ≡ w.Key opens ∷ (inside ++ key closes) → ⊥) (λ inside. words.now ≡ w.Key opens ∷ (inside.now ++ key closes)) }
+    ensures { MatchOption result (AreNo (spec.within opens closes) words.now) (λ inside. words.now ≡ spec.within opens closes inside.now) }
 {
     match first(words) {
         Some((first, rest)) if is_key(first, opens) => before_last(rest, closes),
@@ -59,7 +56,7 @@ pub(crate) fn enclosed(words: &[Word], opens: TokenKind, closes: TokenKind) -> O
 }
 
 /// The name that the word is.
-fn name_of(word: &Word) -> Option<&Text>
+fn name_of(word: &Word) -> Option<&SourceText>
     ensures { MatchOption result ((name : List ℕ) → word.now ≡ w.Name name → ⊥) (λ name. word.now ≡ w.Name name.now) }
 {
     match word {
@@ -69,8 +66,8 @@ fn name_of(word: &Word) -> Option<&Text>
 }
 
 /// The first word, where it is a name, and the others.
-pub(crate) fn first_name(words: &[Word]) -> Option<(&Text, &[Word])>
-    ensures { MatchOption result ((name : List ℕ) (rest : List word_type) → words.now ≡ w.Name name ∷ rest → ⊥) (λ p. words.now ≡ w.Name p.0.now ∷ p.1.now) }
+pub(crate) fn first_name(words: &[Word]) -> Option<(&SourceText, &[Word])>
+    ensures { MatchOption result (AreNoPair spec.behind_name words.now) (λ p. words.now ≡ spec.behind_name p.0.now p.1.now) }
 {
     match first(words) {
         Some((Word::Name(name), rest)) => Some((name, rest)),
@@ -80,7 +77,7 @@ pub(crate) fn first_name(words: &[Word]) -> Option<(&Text, &[Word])>
 
 /// The first word, where it is a token, and the others.
 pub(crate) fn first_key(words: &[Word]) -> Option<(TokenKind, &[Word])>
-    ensures { MatchOption result ((kind : kind_type) (rest : List word_type) → words.now ≡ w.Key kind ∷ rest → ⊥) (λ p. words.now ≡ w.Key p.0 ∷ p.1.now) }
+    ensures { MatchOption result (AreNoPair spec.behind_key words.now) (λ p. words.now ≡ spec.behind_key p.0 p.1.now) }
 {
     match first(words) {
         Some((Word::Key(kind), rest)) => Some((*kind, rest)),
@@ -89,8 +86,8 @@ pub(crate) fn first_key(words: &[Word]) -> Option<(TokenKind, &[Word])>
 }
 
 /// A part that ends in a field: the words between its brackets, and the field.
-pub(crate) fn before_field(words: &[Word]) -> Option<(&[Word], &Text)>
-    ensures { MatchOption result ((inside : List word_type) (field : List ℕ) → words.now ≡ inside ++ w.Key t.CloseRound ∷ w.Key t.Dot ∷ w.Name field ∷ [] → ⊥) (λ p. words.now ≡ p.0.now ++ w.Key t.CloseRound ∷ w.Key t.Dot ∷ w.Name p.1.now ∷ []) }
+pub(crate) fn before_field(words: &[Word]) -> Option<(&[Word], &SourceText)>
+    ensures { MatchOption result (AreNoPair spec.with_field words.now) (λ p. words.now ≡ spec.with_field p.0.now p.1.now) }
 {
     let (word, before) = last(words)?;
     let field = name_of(word)?;
@@ -105,7 +102,7 @@ pub(crate) fn before_field(words: &[Word]) -> Option<(&[Word], &Text)>
 
 /// The heading of a function: the words of its formals, and that of its result.
 pub(crate) fn before_result(words: &[Word]) -> Option<(&[Word], &Word)>
-    ensures { MatchOption result ((inside : List word_type) (typ : word_type) → words.now ≡ inside ++ w.Key t.Colon ∷ typ ∷ [] → ⊥) (λ p. words.now ≡ p.0.now ++ w.Key t.Colon ∷ p.1.now ∷ []) }
+    ensures { MatchOption result (AreNoPair spec.with_result words.now) (λ p. words.now ≡ spec.with_result p.0.now p.1.now) }
 {
     match last(words) {
         Some((typ, before)) => match before_last(before, TokenKind::Colon) {
@@ -146,7 +143,7 @@ fn plain_words(words: &[Word]) -> usize
 
 /// The first word that may stand in no expression, with the words before and behind it.
 pub(crate) fn parted(words: &[Word]) -> Option<(&[Word], &Word, &[Word])>
-    ensures { MatchOption result (plain.ArePlain words.now) (λ p. plain.ArePlain p.0.now × (plain.is_plain p.1.now ≡ false) × (words.now ≡ p.0.now ++ p.1.now ∷ p.2.now)) }
+    ensures { MatchOption result (plain.ArePlain words.now) (λ p. spec.ArePartedAt words.now p.0.now p.1.now p.2.now) }
 {
     let (before, rest) = words.split_at(plain_words(words).min(words.len()));
     match first(rest) {

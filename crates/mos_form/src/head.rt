@@ -1,10 +1,10 @@
 //! What the first words of a piece say of it.
 ghost use Rattle.std.specs.Prelude.{◌≡◌};
+ghost use Rattle.mos_tree.specs.Forms as forms;
 ghost use Rattle.mos_form.specs.Heads as spec;
 
-use crate::form::{Guard, Keyword};
 use mos_scan::{TokenKind, Word};
-use mos_tree::Assignment;
+use mos_tree::{Assignment, ConditionKeyword, Keyword, PieceKind};
 
 /// What the first word says, where it is a token.
 #[derive(Clone, Copy)]
@@ -15,7 +15,7 @@ pub(crate) enum Head {
     Procedure,
     Function,
     Forward,
-    Guarded(Guard),
+    Guarded(ConditionKeyword),
     Forall,
     Initializations,
     Returned,
@@ -36,19 +36,19 @@ pub(crate) fn head_of(kind: TokenKind) -> Head
         TokenKind::Forall => Head::Forall,
         TokenKind::Initializations => Head::Initializations,
         TokenKind::Returned => Head::Returned,
-        _ => guard_or_single(kind),
+        _ => condition_or_single(kind),
     }
 }
 
-fn guard_or_single(kind: TokenKind) -> Head
-    ensures { result ≡ spec.guard_or_single kind }
+fn condition_or_single(kind: TokenKind) -> Head
+    ensures { result ≡ spec.condition_or_single kind }
 {
     match kind {
-        TokenKind::If => Head::Guarded(Guard::If),
-        TokenKind::Elif => Head::Guarded(Guard::Elif),
-        TokenKind::Case => Head::Guarded(Guard::Case),
-        TokenKind::While => Head::Guarded(Guard::While),
-        TokenKind::Until => Head::Guarded(Guard::Until),
+        TokenKind::If => Head::Guarded(ConditionKeyword::If),
+        TokenKind::Elif => Head::Guarded(ConditionKeyword::Elif),
+        TokenKind::Case => Head::Guarded(ConditionKeyword::Case),
+        TokenKind::While => Head::Guarded(ConditionKeyword::While),
+        TokenKind::Until => Head::Guarded(ConditionKeyword::Until),
         _ => Head::Single,
     }
 }
@@ -120,5 +120,18 @@ fn end_of(kind: TokenKind) -> Option<Keyword>
         TokenKind::EndDo => Some(Keyword::EndDo),
         TokenKind::EndInitializations => Some(Keyword::EndInitializations),
         _ => None,
+    }
+}
+
+/// The kind of a piece with this keyword and a condition.
+pub(crate) fn condition_kind(keyword: ConditionKeyword) -> PieceKind
+    ensures { result ≡ forms.condition_kind keyword }
+{
+    match keyword {
+        ConditionKeyword::If => PieceKind::If,
+        ConditionKeyword::Elif => PieceKind::Elif,
+        ConditionKeyword::Case => PieceKind::Case,
+        ConditionKeyword::While => PieceKind::While,
+        ConditionKeyword::Until => PieceKind::Until,
     }
 }

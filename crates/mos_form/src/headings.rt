@@ -1,17 +1,15 @@
 //! Pieces with names, texts and formals behind their first word.
-ghost use Rattle.std.specs.Prelude.{◌≡◌, ◌∷◌, ◌++◌, [], List, Option, Some, None, IfOk, MatchOption, true, false, option_copied};
+ghost use Rattle.std.specs.Prelude.{◌≡◌, ◌∷◌, Some, None, IfOk};
 ghost use Rattle.mos_scan.specs.declared.reading.Word.TheVariants as w;
 ghost use Rattle.mos_scan.specs.declared.token.TokenKind.TheVariants as t;
 ghost use Rattle.mos_form.specs.Fixed as fixed;
-ghost use Rattle.mos_form.specs.Phrases.{Phrase, answer};
 ghost use Rattle.mos_form.specs.Telling as spec;
 
 use crate::cut::{before_result, first, first_name, is_key};
 use crate::expressions::refused;
-use crate::form::{Form, Mould};
 use mos_scan::{TokenKind, Word};
-use mos_text::{NoMemory, Text};
-use mos_tree::{BaseType, FormalGroup, ModelName};
+use mos_text::{NoMemory, SourceText, let_go};
+use mos_tree::{BaseType, Form, FormalGroup, ModelName, PieceKind};
 use mos_typing::{base_type, formals};
 use sqlite_items::Items;
 use std::alloc::Global;
@@ -38,7 +36,12 @@ pub(crate) fn options(alloc: Global, words: &[Word]) -> Result<Form, NoMemory>
 }
 
 /// The heading of a routine, or what stands behind `forward`.
-fn heading(forward: bool, name: Text, formals: Items<FormalGroup>, typ: Option<BaseType>) -> Form
+fn heading(
+    forward: bool,
+    name: SourceText,
+    formals: Items<FormalGroup>,
+    typ: Option<BaseType>,
+) -> Form
     ensures { result ≡ fixed.heading forward name formals typ }
 {
     if forward {
@@ -56,20 +59,28 @@ fn heading(forward: bool, name: Text, formals: Items<FormalGroup>, typ: Option<B
     }
 }
 
-fn heading_mould(forward: bool, routine: Mould) -> Mould
-    ensures { result ≡ fixed.heading_mould forward routine }
+fn heading_kind(forward: bool, routine: PieceKind) -> PieceKind
+    ensures { result ≡ fixed.heading_kind forward routine }
 {
-    if forward { Mould::Forward } else { routine }
+    if forward { PieceKind::Forward } else { routine }
 }
 
 /// The procedure with this name and these formals.
-fn procedure_of(alloc: Global, forward: bool, name: &Text, words: &[Word]) -> Result<Form, NoMemory>
+fn procedure_of(
+    alloc: Global,
+    forward: bool,
+    name: &SourceText,
+    words: &[Word],
+) -> Result<Form, NoMemory>
     ensures { IfOk result (spec.TellsFormals (λ xs. fixed.heading forward name.now xs None) words.now) }
 {
     let name = name.copy(alloc)?;
     match formals(alloc, words) {
         Ok(formals) => Ok(heading(forward, name, formals, None)),
-        Err(fault) => refused(fault, heading_mould(forward, Mould::Procedure)),
+        Err(fault) => {
+            let_go(name);
+            refused(fault, heading_kind(forward, PieceKind::Procedure))
+        }
     }
 }
 
@@ -77,7 +88,7 @@ fn procedure_of(alloc: Global, forward: bool, name: &Text, words: &[Word]) -> Re
 fn function_of(
     alloc: Global,
     forward: bool,
-    name: &Text,
+    name: &SourceText,
     words: &[Word],
     base: BaseType,
 ) -> Result<Form, NoMemory>
@@ -86,7 +97,11 @@ fn function_of(
     let name = name.copy(alloc)?;
     match formals(alloc, words) {
         Ok(formals) => Ok(heading(forward, name, formals, Some(base))),
-        Err(fault) => refused(fault, heading_mould(forward, Mould::Function)),
+        Err(fault) => {
+            let_go(name);
+            let_go(base);
+            refused(fault, heading_kind(forward, PieceKind::Function))
+        }
     }
 }
 
@@ -101,7 +116,12 @@ pub(crate) fn procedure(alloc: Global, forward: bool, words: &[Word]) -> Result<
 }
 
 /// What stands behind the name of a function.
-fn after_name(alloc: Global, forward: bool, name: &Text, words: &[Word]) -> Result<Form, NoMemory>
+fn after_name(
+    alloc: Global,
+    forward: bool,
+    name: &SourceText,
+    words: &[Word],
+) -> Result<Form, NoMemory>
     ensures { IfOk result (spec.TellsPiece (fixed.lead forward t.Function (w.Name name.now ∷ words.now))) }
 {
     match before_result(words) {

@@ -4,10 +4,9 @@ ghost use Rattle.mos_form.specs.Lists as spec;
 ghost use Rattle.mos_form.specs.declared.lists.TextMode.TheVariants as mode;
 ghost use Rattle.mos_form.specs.declared.lists.LabelMode.TheVariants as label_mode;
 
-use crate::form::Form;
 use mos_scan::{TokenKind, Word};
-use mos_text::{NoMemory, Text};
-use mos_tree::Label;
+use mos_text::{NoMemory, SourceText, let_go};
+use mos_tree::{Form, Label};
 use sqlite_items::Items;
 use std::alloc::Global;
 
@@ -22,7 +21,7 @@ pub(crate) enum TextMode {
 
 fn text_step(
     alloc: Global,
-    found: &mut Vec<Text>,
+    found: &mut Vec<SourceText>,
     mode: TextMode,
     word: &Word,
 ) -> Result<Option<TextMode>, NoMemory>
@@ -36,7 +35,7 @@ fn text_step(
 
 fn wanted_text(
     alloc: Global,
-    found: &mut Vec<Text>,
+    found: &mut Vec<SourceText>,
     word: &Word,
 ) -> Result<Option<TextMode>, NoMemory>
     ensures { IfOk result (λ next. spec.text_step mode.Want found.old.items word.now ≡ spec.with_texts next found.new.items) }
@@ -60,7 +59,7 @@ fn after_text(word: &Word) -> Option<TextMode>
 }
 
 /// Whether the words are texts with commas between them, which are then put behind those found.
-fn read_texts(alloc: Global, found: &mut Vec<Text>, words: &[Word]) -> Result<bool, NoMemory>
+fn read_texts(alloc: Global, found: &mut Vec<SourceText>, words: &[Word]) -> Result<bool, NoMemory>
     ensures { IfOk result (λ read. spec.read_texts mode.Want found.old.items words.now ≡ spec.if_read read found.new.items) }
 {
     let mut mode = TextMode::Want;
@@ -80,10 +79,16 @@ pub(crate) fn uses(alloc: Global, words: &[Word]) -> Result<Form, NoMemory>
     ensures { IfOk result (λ form. form ≡ spec.uses words.now) }
 {
     let mut found = Vec::new(alloc);
-    if read_texts(alloc, &mut found, words)? {
-        Ok(Form::Uses(Items::from_vec(found)))
-    } else {
-        Ok(Form::Unknown)
+    match read_texts(alloc, &mut found, words) {
+        Ok(true) => Ok(Form::Uses(Items::from_vec(found))),
+        Ok(false) => {
+            let_go(found);
+            Ok(Form::Unknown)
+        }
+        Err(refused) => {
+            let_go(found);
+            Err(refused)
+        }
     }
 }
 
@@ -93,19 +98,24 @@ pub(crate) enum LabelMode {
     /// A name.
     Want,
     /// `as`, a comma or the end, behind this name.
-    Named(Text),
+    Named(SourceText),
     /// The text of this name.
-    WantText(Text),
+    WantText(SourceText),
     /// A comma or the end, behind this name and its text.
-    Shown(Text, Text),
+    Shown(SourceText, SourceText),
 }
 
 /// Puts a label behind those found.
-fn add(found: &mut Vec<Label>, name: Text, shown: Option<Text>) -> Result<(), NoMemory>
+fn add(found: &mut Vec<Label>, name: SourceText, shown: Option<SourceText>) -> Result<(), NoMemory>
     ensures { OnOk result (found.new.items ≡ spec.add found.old.items name shown) }
 {
-    found.push(Label { name, shown })?;
-    Ok(())
+    match found.push(Label { name, shown }) {
+        Ok(()) => Ok(()),
+        Err(refused) => {
+            let_go(refused);
+            Err(NoMemory)
+        }
+    }
 }
 
 fn wanted_name(alloc: Global, word: &Word) -> Result<Option<LabelMode>, NoMemory>
@@ -119,7 +129,7 @@ fn wanted_name(alloc: Global, word: &Word) -> Result<Option<LabelMode>, NoMemory
 
 fn after_label(
     found: &mut Vec<Label>,
-    name: Text,
+    name: SourceText,
     word: &Word,
 ) -> Result<Option<LabelMode>, NoMemory>
     ensures { IfOk result (λ next. spec.label_step (label_mode.Named name) found.old.items word.now ≡ spec.with_labels next found.new.items) }
@@ -130,23 +140,35 @@ fn after_label(
             Ok(Some(LabelMode::Want))
         }
         Word::Key(TokenKind::As) => Ok(Some(LabelMode::WantText(name))),
-        _ => Ok(None),
+        _ => {
+            let_go(name);
+            Ok(None)
+        }
     }
 }
 
-fn wanted_shown(alloc: Global, name: Text, word: &Word) -> Result<Option<LabelMode>, NoMemory>
+fn wanted_shown(alloc: Global, name: SourceText, word: &Word) -> Result<Option<LabelMode>, NoMemory>
     ensures { IfOk result (λ next. next ≡ spec.wanted_shown name word.now) }
 {
     match word {
-        Word::Text(text) => Ok(Some(LabelMode::Shown(name, text.copy(alloc)?))),
-        _ => Ok(None),
+        Word::Text(text) => match text.copy(alloc) {
+            Ok(shown) => Ok(Some(LabelMode::Shown(name, shown))),
+            Err(refused) => {
+                let_go(name);
+                Err(refused)
+            }
+        },
+        _ => {
+            let_go(name);
+            Ok(None)
+        }
     }
 }
 
 fn after_shown(
     found: &mut Vec<Label>,
-    name: Text,
-    shown: Text,
+    name: SourceText,
+    shown: SourceText,
     word: &Word,
 ) -> Result<Option<LabelMode>, NoMemory>
     ensures { IfOk result (λ next. spec.label_step (label_mode.Shown name shown) found.old.items word.now ≡ spec.with_labels next found.new.items) }
@@ -156,7 +178,11 @@ fn after_shown(
             add(found, name, Some(shown))?;
             Ok(Some(LabelMode::Want))
         }
-        _ => Ok(None),
+        _ => {
+            let_go(name);
+            let_go(shown);
+            Ok(None)
+        }
     }
 }
 
@@ -213,9 +239,15 @@ pub(crate) fn labels(alloc: Global, words: &[Word]) -> Result<Form, NoMemory>
     ensures { IfOk result (λ form. form ≡ spec.labels words.now) }
 {
     let mut found = Vec::new(alloc);
-    if read_labels(alloc, &mut found, words)? {
-        Ok(Form::Labels(Items::from_vec(found)))
-    } else {
-        Ok(Form::Unknown)
+    match read_labels(alloc, &mut found, words) {
+        Ok(true) => Ok(Form::Labels(Items::from_vec(found))),
+        Ok(false) => {
+            let_go(found);
+            Ok(Form::Unknown)
+        }
+        Err(refused) => {
+            let_go(found);
+            Err(refused)
+        }
     }
 }

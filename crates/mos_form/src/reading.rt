@@ -1,10 +1,12 @@
-ghost use Rattle.std.specs.Prelude.{◌≡◌, ◌∷◌, ◌++◌, [], List, MatchOption, IfOk};
-ghost use Rattle.mos_scan.specs.declared.reading.Word.{Word as word_type};
+//! What one piece is.
+ghost use Rattle.std.specs.Prelude.{◌≡◌, ◌≤◌, ◌∷◌, length, MatchOption, IfOk};
+ghost use Rattle.mos_tree.specs.Sizes.{size_of_form};
 ghost use Rattle.mos_scan.specs.declared.reading.Word.TheVariants as w;
 ghost use Rattle.mos_scan.specs.declared.token.TokenKind.TheVariants as t;
 ghost use Rattle.mos_form.specs.Phrases.{IsFormOf, Phrase, IsPhrase, answer, operator_word};
 ghost use Rattle.mos_form.specs.Fixed as fixed;
 ghost use Rattle.mos_form.specs.Telling as spec;
+ghost use Rattle.mos_typing.specs.Shapes.{AreNo};
 
 use crate::cells::cell_assignment;
 use crate::cut::{
@@ -14,22 +16,25 @@ use crate::cut::{
 use crate::expressions::{
     alternative, assignment, call, definition, filling, forall, guarded, initializations, typed_as,
 };
-use crate::form::{Form, Guard, Simple};
 use crate::head::{Head, Next, head_of, keyword_of, next_of};
 use crate::headings::{forward, function, model, options, procedure};
 use crate::lists::{labels, uses};
+use mos_expr::trees_are_small;
 use mos_scan::{TokenKind, Word};
-use mos_text::{NoMemory, Text};
-use mos_tree::{Assignment, Reference};
-use mos_typing::{expressions_have_plain_words, names};
+use mos_text::{NoMemory, SourceText};
+use mos_tree::{Assignment, ConditionKeyword, Form, Reference, Simple};
+use mos_typing::{expressions_have_plain_words, names, types_are_small};
 use std::alloc::Global;
 
 /// What the piece with these words is.
 pub fn form_of(alloc: Global, words: &[Word]) -> Result<Form, NoMemory>
     ensures found { IfOk result (IsFormOf words.now) }
     ensures only { IfOk result (λ form. (p : Phrase) → IsPhrase words.now p → form ≡ answer p) }
+    ensures small { IfOk result (λ form. size_of_form form ≤ length words.now) }
 {
     expressions_have_plain_words();
+    trees_are_small();
+    types_are_small();
     match before_last(words, TokenKind::Colon) {
         Some(labels) => alternative(alloc, labels),
         None => other(alloc, words),
@@ -60,7 +65,7 @@ fn keyed(alloc: Global, kind: TokenKind, rest: &[Word]) -> Result<Form, NoMemory
         Head::Procedure => procedure(alloc, false, rest),
         Head::Function => function(alloc, false, rest),
         Head::Forward => forward(alloc, rest),
-        Head::Guarded(guard) => behind_guard(alloc, guard, rest),
+        Head::Guarded(keyword) => behind_condition(alloc, keyword, rest),
         Head::Forall => loop_over(alloc, rest),
         Head::Initializations => data_block(alloc, rest),
         Head::Returned => set_result(alloc, rest),
@@ -91,24 +96,28 @@ fn single_word(kind: TokenKind) -> Form
     }
 }
 
-/// The words of the condition behind a guard.
-fn condition(guard: Guard, rest: &[Word]) -> Option<&[Word]>
-    ensures { MatchOption result ((inside : List word_type) → rest.now ≡ fixed.around guard inside → ⊥) (λ inside. rest.now ≡ fixed.around guard inside.now) }
+/// The words of the condition behind its keyword.
+fn condition(keyword: ConditionKeyword, rest: &[Word]) -> Option<&[Word]>
+    ensures { MatchOption result (AreNo (fixed.around keyword) rest.now) (λ inside. rest.now ≡ fixed.around keyword inside.now) }
 {
-    match guard {
-        Guard::If | Guard::Elif => before_last(rest, TokenKind::Then),
-        Guard::Case => before_last(rest, TokenKind::Of),
-        Guard::While => enclosed(rest, TokenKind::OpenRound, TokenKind::CloseRound),
-        Guard::Until => Some(rest),
+    match keyword {
+        ConditionKeyword::If | ConditionKeyword::Elif => before_last(rest, TokenKind::Then),
+        ConditionKeyword::Case => before_last(rest, TokenKind::Of),
+        ConditionKeyword::While => enclosed(rest, TokenKind::OpenRound, TokenKind::CloseRound),
+        ConditionKeyword::Until => Some(rest),
     }
 }
 
-/// What stands behind a guard.
-fn behind_guard(alloc: Global, guard: Guard, rest: &[Word]) -> Result<Form, NoMemory>
-    ensures { IfOk result (spec.TellsPiece (w.Key (fixed.guard_word guard) ∷ rest.now)) }
+/// What stands behind a keyword with a condition.
+fn behind_condition(
+    alloc: Global,
+    keyword: ConditionKeyword,
+    rest: &[Word],
+) -> Result<Form, NoMemory>
+    ensures { IfOk result (spec.TellsPiece (w.Key (fixed.condition_word keyword) ∷ rest.now)) }
 {
-    match condition(guard, rest) {
-        Some(inside) => guarded(alloc, guard, inside),
+    match condition(keyword, rest) {
+        Some(inside) => guarded(alloc, keyword, inside),
         None => Ok(Form::Unknown),
     }
 }
@@ -150,7 +159,7 @@ fn set_result(alloc: Global, rest: &[Word]) -> Result<Form, NoMemory>
 }
 
 /// What the piece is that begins with this name.
-fn named(alloc: Global, words: &[Word], name: &Text, rest: &[Word]) -> Result<Form, NoMemory>
+fn named(alloc: Global, words: &[Word], name: &SourceText, rest: &[Word]) -> Result<Form, NoMemory>
     requires { words.now ≡ w.Name name.now ∷ rest.now }
     ensures { IfOk result (spec.TellsPiece words.now) }
 {
@@ -164,7 +173,7 @@ fn named(alloc: Global, words: &[Word], name: &Text, rest: &[Word]) -> Result<Fo
 fn after_name(
     alloc: Global,
     words: &[Word],
-    name: &Text,
+    name: &SourceText,
     next: &Word,
     behind: &[Word],
 ) -> Result<Form, NoMemory>
@@ -183,7 +192,7 @@ fn after_name(
 }
 
 /// What stands behind a name and `=`.
-fn equal(alloc: Global, name: &Text, behind: &[Word]) -> Result<Form, NoMemory>
+fn equal(alloc: Global, name: &SourceText, behind: &[Word]) -> Result<Form, NoMemory>
     ensures { IfOk result (spec.TellsPiece (w.Name name.now ∷ w.Key t.Equal ∷ behind.now)) }
 {
     expressions_have_plain_words();
@@ -195,7 +204,7 @@ fn equal(alloc: Global, name: &Text, behind: &[Word]) -> Result<Form, NoMemory>
 }
 
 /// What stands behind a name and `::`.
-fn filled(alloc: Global, name: &Text, behind: &[Word]) -> Result<Form, NoMemory>
+fn filled(alloc: Global, name: &SourceText, behind: &[Word]) -> Result<Form, NoMemory>
     ensures { IfOk result (spec.TellsPiece (w.Name name.now ∷ w.Key t.Fill ∷ behind.now)) }
 {
     match enclosed(behind, TokenKind::OpenSquare, TokenKind::CloseSquare) {
@@ -207,7 +216,7 @@ fn filled(alloc: Global, name: &Text, behind: &[Word]) -> Result<Form, NoMemory>
 /// The assignment to a variable.
 fn set_variable(
     alloc: Global,
-    name: &Text,
+    name: &SourceText,
     operator: Assignment,
     behind: &[Word],
 ) -> Result<Form, NoMemory>
@@ -218,7 +227,7 @@ fn set_variable(
 }
 
 /// What stands behind a name and a dot.
-fn dotted(alloc: Global, name: &Text, behind: &[Word]) -> Result<Form, NoMemory>
+fn dotted(alloc: Global, name: &SourceText, behind: &[Word]) -> Result<Form, NoMemory>
     ensures { IfOk result (spec.TellsPiece (w.Name name.now ∷ w.Key t.Dot ∷ behind.now)) }
 {
     match first_name(behind) {
@@ -228,7 +237,12 @@ fn dotted(alloc: Global, name: &Text, behind: &[Word]) -> Result<Form, NoMemory>
 }
 
 /// What stands behind a field of a variable.
-fn after_field(alloc: Global, name: &Text, field: &Text, rest: &[Word]) -> Result<Form, NoMemory>
+fn after_field(
+    alloc: Global,
+    name: &SourceText,
+    field: &SourceText,
+    rest: &[Word],
+) -> Result<Form, NoMemory>
     ensures { IfOk result (spec.TellsPiece (w.Name name.now ∷ w.Key t.Dot ∷ w.Name field.now ∷ rest.now)) }
 {
     match first(rest) {
@@ -243,8 +257,8 @@ fn after_field(alloc: Global, name: &Text, field: &Text, rest: &[Word]) -> Resul
 /// The assignment to a field of a variable.
 fn set_field(
     alloc: Global,
-    name: &Text,
-    field: &Text,
+    name: &SourceText,
+    field: &SourceText,
     operator: Assignment,
     value: &[Word],
 ) -> Result<Form, NoMemory>
@@ -256,7 +270,7 @@ fn set_field(
 }
 
 /// What stands behind a name and a bracket: the arguments of a call, or a cell that is assigned to.
-fn bracketed(alloc: Global, name: &Text, behind: &[Word]) -> Result<Form, NoMemory>
+fn bracketed(alloc: Global, name: &SourceText, behind: &[Word]) -> Result<Form, NoMemory>
     ensures { IfOk result (spec.TellsPiece (w.Name name.now ∷ w.Key t.OpenRound ∷ behind.now)) }
 {
     expressions_have_plain_words();
@@ -270,7 +284,7 @@ fn bracketed(alloc: Global, name: &Text, behind: &[Word]) -> Result<Form, NoMemo
 }
 
 /// The call with these words behind its bracket.
-fn called(alloc: Global, name: &Text, behind: &[Word]) -> Result<Form, NoMemory>
+fn called(alloc: Global, name: &SourceText, behind: &[Word]) -> Result<Form, NoMemory>
     ensures { IfOk result (spec.TellsCall name.now behind.now) }
 {
     match before_last(behind, TokenKind::CloseRound) {
@@ -282,7 +296,7 @@ fn called(alloc: Global, name: &Text, behind: &[Word]) -> Result<Form, NoMemory>
 /// The assignment to a cell, or to a field in it, with these words behind its bracket.
 fn set_cell(
     alloc: Global,
-    name: &Text,
+    name: &SourceText,
     target: &[Word],
     operator: Assignment,
     value: &[Word],

@@ -8,7 +8,7 @@ use Rattle.bim_code.specs.declared.image.ImageType.TheVariants.{Integer, Str as 
 use Rattle.bim_code.specs.declared.image.Default.TheVariants.{Number}
 use Rattle.bim_code.specs.declared.instruction.Instruction.TheVariants.{Tick, PushInt, PushBool, PushText, LoadGlobal, StoreGlobal, Show, Write, Line, End, Fault}
 use Rattle.job_calls.specs.declared.run_line.RunLine.{RunLine}
-use Rattle.job_calls.specs.ReportExamples.{hello_entries, hello_runs}
+use Rattle.job_calls.specs.HelloJournal.{hello_entries, hello_runs}
 use Rattle.mos_value.specs.Values.{One}
 use Rattle.mos_value.specs.Answers.{sum, difference, compare, greater, at_least}
 use Rattle.run_state.specs.Stops.{Outcome, Stop, Exited, Failed, Spent, Stuck}

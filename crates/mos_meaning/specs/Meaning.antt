@@ -1,7 +1,7 @@
 -- The meaning of a model: what it writes, which calls it makes, how many ticks it takes and how it
 -- ends, given its parameter text, the replies to its calls and its budget of ticks.
 
-use Rattle.std.specs.Prelude.{ℕ, zero, suc, pos, List, [], ◌∷◌, ◌++◌, Option, Some, None, map, length, slice_get, nat_eq, if◌then◌else◌}
+use Rattle.std.specs.Prelude.{ℕ, ◌+◌, zero, suc, pos, List, [], ◌∷◌, ◌++◌, Option, Some, None, map, length, slice_get, nat_eq, if◌then◌else◌}
 use Rattle.mos_text.specs.declared.fault_kind.FaultKind.TheVariants.{Depth}
 use Rattle.mos_text.specs.declared.scalar.Scalar.{Scalar}
 use Rattle.job_calls.specs.declared.reply.Reply.{Reply}

@@ -1,4 +1,2 @@
 pub mod Forms
-pub mod Lines
-pub mod Short
 pub mod Whole

@@ -1,25 +1,28 @@
 -- What is answered of a source, from what is answered of its tokens.
 
-use Rattle.std.proofs.Common.{◌≡◌, ℕ, ◌+◌, List, [], ◌∷◌, ◌++◌, length, Result, Ok, Err, IfOk, IfErr, refl, sym, ◌∙◌, ap, subst}
+use Rattle.std.proofs.Common.{◌≡◌, ℕ, ◌≤◌, List, ◌++◌, length, Option, Result, Ok, Err, IfOk, IfErr, refl, sym, ◌∙◌, ap, subst, arith}
 use Rattle.std.proofs.lemmas.List.{append_cancel_left}
 use Rattle.mos_text.specs.declared.kind.Kind.{Kind}
 use Rattle.mos_tree.specs.declared.source.Tree.{Tree}
+use Rattle.mos_tree.specs.declared.form.PieceForm.{PieceForm}
+use Rattle.mos_tree.specs.Sizes.{size_of_tree}
 use Rattle.mos_scan.specs.declared.token.Token.{Token}
+use Rattle.mos_scan.specs.declared.piece.Piece.{Piece}
 use Rattle.mos_scan.specs.declared.fault.LexFault.{LexFault}
 use Rattle.mos_scan.specs.declared.fault.LexFault.TheVariants as lex
 use Rattle.mos_scan.specs.Cuts.{IsTokenList, IsLexicalFault}
-use Rattle.mos_scan.specs.Pieces.{pieces_of}
+use Rattle.mos_scan.specs.Laws.{OneListOfPieces}
+use Rattle.mos_scan.specs.Pieces.{ArePieces}
 use Rattle.mos_scan.specs.Scans as scans
-use Rattle.mos_form.specs.declared.form.PieceForm.{PieceForm}
-use Rattle.mos_source.specs.Sources.{Source, IsSource, tree_of}
-use Rattle.mos_source.specs.Faults.{FaultyAt, IsFaulty, IsKind, too_early, beyond, misplaced as out_of_place}
+use Rattle.mos_source.specs.Sources.{IsSource}
+use Rattle.mos_source.specs.Faults.{IsKind, too_early, beyond, misplaced as out_of_place, line_of_first, FaultyOn}
 use Rattle.mos_source.specs.Laws.{HaveOneTree, HaveOneFault, HaveNotBoth}
-use Rattle.mos_source.specs.Answers.{IsTree}
+use Rattle.mos_source.specs.Answers.{IsTree, BreaksOn}
 use Rattle.mos_parse.specs.declared.fault.SyntaxFault.{SyntaxFault}
-use Rattle.mos_parse.specs.declared.fault.SyntaxFault.TheVariants.{At, NoMemory}
-use Rattle.mos_parse.specs.Parsed.{AreForms, HasForms, IsParsed, IsFaultyLine, IsSyntaxFault, lexical, misplaced, line_before}
-use Rattle.mos_parse.specs.Answers.{GivesTree, GivesFault, IsFaultOf}
-use Rattle.mos_parse.specs.Steps.{of_tokens, HaveForms, Says, IsReading, Reads}
+use Rattle.mos_parse.specs.declared.fault.SyntaxFault.TheVariants.{Refused, NoMemory}
+use Rattle.mos_parse.specs.Parsed.{AreForms, HasForms, IsParsed, line_or_last, IsFaultyLine, BreaksOnLine, IsSyntaxFault, lexical, misplaced}
+use Rattle.mos_parse.specs.Answers.{GivesTree, GivesFault, IsFaultOf, BreaksBy}
+use Rattle.mos_parse.specs.Steps.{of_tokens, HaveForms, HasFault, IsReading, Reads}
 
 -- ---- where there are tokens
 
@@ -27,35 +30,46 @@ use Rattle.mos_parse.specs.Steps.{of_tokens, HaveForms, Says, IsReading, Reads}
 abbrev pub AreTheTokens : List ℕ → List Token → Type 0
 AreTheTokens source tokens = (others : List Token) → IsTokenList source others → tokens ≡ others
 
-same_forms : (source : List ℕ) (tokens : List Token) (mine forms : List PieceForm) → AreTheTokens source tokens → HaveForms source tokens (pieces_of tokens) mine → HasForms source forms → forms ≡ mine
-same_forms source tokens mine forms the have h =
-    have.only forms (subst (λ z. AreForms source z (pieces_of z) forms) (sym (the h.tokens h.cut)) h.forms_are)
+same_forms : OneListOfPieces → (source : List ℕ) (tokens : List Token) (pieces : List Piece) (mine forms : List PieceForm) → AreTheTokens source tokens → ArePieces tokens pieces
+    → HaveForms source tokens pieces mine → HasForms source forms → forms ≡ mine
+same_forms law source tokens pieces mine forms the parted have h =
+    let t : h.tokens ≡ tokens = sym (the h.tokens h.cut) in
+    let p : h.pieces ≡ pieces = law tokens h.pieces pieces (subst (λ z. ArePieces z h.pieces) t h.parted) parted in
+    have.only forms (subst (λ z. AreForms source tokens z forms) p (subst (λ z. AreForms source z h.pieces forms) t h.forms_are))
+
+-- the forms that were read are those of the source
+read_forms : (source : List ℕ) (tokens : List Token) (result : Result Tree SyntaxFault) → IsTokenList source tokens → (r : IsReading source tokens result) → HasForms source r.forms
+read_forms source tokens result cut r = record { tokens = tokens; cut = cut; pieces = r.pieces; parted = r.parted; forms_are = r.have.are }
+
+-- the forms of the source are those that were read
+only_forms : OneListOfPieces → (source : List ℕ) (tokens : List Token) (result : Result Tree SyntaxFault) (forms : List PieceForm) → AreTheTokens source tokens → (r : IsReading source tokens result) → HasForms source forms
+    → forms ≡ r.forms
+only_forms law source tokens result forms the r h = same_forms law source tokens r.pieces r.forms forms the r.parted r.have h
 
 pub tokens_faulty : (source : List ℕ) (tokens : List Token) (result : Result Tree SyntaxFault) → IsTokenList source tokens → Reads source tokens result → IfErr result (IsFaultOf source)
 tokens_faulty source tokens (Ok tree) cut r = tt
 tokens_faulty source tokens (Err NoMemory) cut r = tt
-tokens_faulty source tokens (Err (At line kind)) cut r = misplaced r.forms (record { tokens = tokens; cut = cut; forms_are = r.have.are }) r.says
+tokens_faulty source tokens (Err (Refused refusal)) cut r = misplaced r.forms (read_forms source tokens (Err (Refused refusal)) cut r) r.says.faulty
 
 pub tokens_found : (source : List ℕ) (tokens : List Token) (result : Result Tree SyntaxFault) → IsTokenList source tokens → Reads source tokens result → IfOk result (IsParsed source)
-tokens_found source tokens (Ok tree) cut r = record { forms = r.forms; read = record { tokens = tokens; cut = cut; forms_are = r.have.are }; tree_is = r.says }
-tokens_found source tokens (Err NoMemory) cut r = tt
-tokens_found source tokens (Err (At line kind)) cut r = tt
+tokens_found source tokens (Ok tree) cut r = record { forms = r.forms; read = read_forms source tokens (Ok tree) cut r; tree_is = r.says.tree_is }
+tokens_found source tokens (Err x) cut r = tt
 
 -- forms with a tree have no faulty piece
 never_both : HaveNotBoth → (source : List ℕ) (forms : List PieceForm) (tree : Tree) (line : ℕ) (kind : Kind) → IsTree forms tree → IsFaultyLine source forms line kind → ⊥
 never_both law source forms tree line kind t f =
     law f.faulty.before f.faulty.after t.0 (subst (λ z. IsSource z t.0) f.faulty.cut t.1) f.faulty.faulty
 
-pub tokens_only : HaveOneTree → HaveNotBoth → (source : List ℕ) (tokens : List Token) (result : Result Tree SyntaxFault) → AreTheTokens source tokens → Reads source tokens result
+pub tokens_only : OneListOfPieces → HaveOneTree → HaveNotBoth → (source : List ℕ) (tokens : List Token) (result : Result Tree SyntaxFault) → AreTheTokens source tokens → Reads source tokens result
     → (tree : Tree) → IsParsed source tree → GivesTree result tree
-tokens_only one both source tokens (Ok x) the r tree h =
-    let same : h.forms ≡ r.forms = same_forms source tokens r.forms h.forms the r.have h.read in
+tokens_only law one both source tokens (Ok x) the r tree h =
+    let same : h.forms ≡ r.forms = only_forms law source tokens (Ok x) h.forms the r h.read in
     let t : IsTree r.forms tree = subst (λ z. IsTree z tree) same h.tree_is in
-    r.says.2 ∙ one r.forms r.says.0 t.0 r.says.1 t.1 ∙ sym t.2
-tokens_only one both source tokens (Err NoMemory) the r tree h = tt
-tokens_only one both source tokens (Err (At line kind)) the r tree h =
-    let same : h.forms ≡ r.forms = same_forms source tokens r.forms h.forms the r.have h.read in
-    never_both both source r.forms tree line kind (subst (λ z. IsTree z tree) same h.tree_is) r.says
+    r.says.tree_is.2 ∙ one r.forms r.says.tree_is.0 t.0 r.says.tree_is.1 t.1 ∙ sym t.2
+tokens_only law one both source tokens (Err NoMemory) the r tree h = tt
+tokens_only law one both source tokens (Err (Refused refusal)) the r tree h =
+    let same : h.forms ≡ r.forms = only_forms law source tokens (Err (Refused refusal)) h.forms the r h.read in
+    never_both both source r.forms tree refusal.line refusal.kind (subst (λ z. IsTree z tree) same h.tree_is) r.says.faulty
 
 one_kind : (before after : List PieceForm) (k l : Kind) → IsKind before after k → IsKind before after l → k ≡ l
 one_kind before after k l too_early too_early = refl
@@ -70,19 +84,37 @@ one_line law source forms line at kind what f g =
     let before : f.faulty.before ≡ g.faulty.before = law f.faulty.before f.faulty.after g.faulty.before g.faulty.after cuts f.faulty.faulty g.faulty.faulty in
     let after : f.faulty.after ≡ g.faulty.after = append_cancel_left g.faulty.before f.faulty.after g.faulty.after (subst (λ z. z ++ f.faulty.after ≡ g.faulty.before ++ g.faulty.after) before cuts) in
     let moved : IsKind g.faulty.before g.faulty.after kind = subst (λ z. IsKind g.faulty.before z kind) after (subst (λ z. IsKind z f.faulty.after kind) before f.faulty.named) in
-    (g.line_is ∙ ap (λ z. line_before source z) (sym after) ∙ sym f.line_is, one_kind g.faulty.before g.faulty.after what kind g.faulty.named moved)
+    let there : g.at ≡ f.at = g.faulty.line_is ∙ ap (λ z. line_of_first z) (sym after) ∙ sym f.faulty.line_is in
+    (g.line_is ∙ ap (λ z. line_or_last source z) there ∙ sym f.line_is, one_kind g.faulty.before g.faulty.after what kind g.faulty.named moved)
 
-pub tokens_only_fault : HaveOneFault → HaveNotBoth → (source : List ℕ) (tokens : List Token) (result : Result Tree SyntaxFault) → AreTheTokens source tokens
+pub tokens_only_fault : OneListOfPieces → HaveOneFault → HaveNotBoth → (source : List ℕ) (tokens : List Token) (result : Result Tree SyntaxFault) → AreTheTokens source tokens
     → ((place : ℕ) (kind : Kind) → IsLexicalFault source place kind → ⊥) → Reads source tokens result
     → (line : ℕ) (kind : Kind) → IsSyntaxFault source line kind → GivesFault result line kind
-tokens_only_fault one both source tokens result the none r line kind (lexical column f) = absurd (none f.place kind f.fault)
-tokens_only_fault one both source tokens (Ok x) the none r line kind (misplaced forms h f) =
-    let same : forms ≡ r.forms = same_forms source tokens r.forms forms the r.have h in
-    never_both both source r.forms x line kind r.says (subst (λ z. IsFaultyLine source z line kind) same f)
-tokens_only_fault one both source tokens (Err NoMemory) the none r line kind (misplaced forms h f) = tt
-tokens_only_fault one both source tokens (Err (At at what)) the none r line kind (misplaced forms h f) =
-    let same : forms ≡ r.forms = same_forms source tokens r.forms forms the r.have h in
-    one_line one source r.forms line at kind what (subst (λ z. IsFaultyLine source z line kind) same f) r.says
+tokens_only_fault law one both source tokens result the none r line kind (lexical column f) = absurd (none f.place kind f.fault)
+tokens_only_fault law one both source tokens (Ok x) the none r line kind (misplaced forms h f) =
+    let same : forms ≡ r.forms = only_forms law source tokens (Ok x) forms the r h in
+    never_both both source r.forms x line kind r.says.tree_is (subst (λ z. IsFaultyLine source z line kind) same f)
+tokens_only_fault law one both source tokens (Err NoMemory) the none r line kind (misplaced forms h f) = tt
+tokens_only_fault law one both source tokens (Err (Refused refusal)) the none r line kind (misplaced forms h f) =
+    let same : forms ≡ r.forms = only_forms law source tokens (Err (Refused refusal)) forms the r h in
+    one_line one source r.forms line refusal.line kind refusal.kind (subst (λ z. IsFaultyLine source z line kind) same f) r.says.faulty
+
+-- the faulty piece is the one at which the productions break
+pub tokens_breaks : OneListOfPieces → (source : List ℕ) (tokens : List Token) (result : Result Tree SyntaxFault) → AreTheTokens source tokens → Reads source tokens result → IfErr result (BreaksBy source)
+tokens_breaks law source tokens (Ok x) the r = tt
+tokens_breaks law source tokens (Err NoMemory) the r = tt
+tokens_breaks law source tokens (Err (Refused refusal)) the r =
+    λ forms h. subst (λ z. BreaksOnLine source z refusal.line) (sym (only_forms law source tokens (Err (Refused refusal)) forms the r h)) r.says.breaks
+
+-- a tree is no larger than its pieces, these have no more nodes than words, and a source has a byte for each word
+pub tokens_no_larger : (source : List ℕ) (tokens : List Token) (result : Result Tree SyntaxFault) → length tokens ≤ length source → Reads source tokens result → IfOk result (λ tree. size_of_tree tree ≤ length source)
+tokens_no_larger source tokens (Ok tree) few r = omega (arith, few, r.says.small, r.have.small, r.few)
+tokens_no_larger source tokens (Err x) few r = tt
+
+-- the fault of forms, by the line of the faulty piece
+pub faulty_line : (source : List ℕ) (forms : List PieceForm) (at : Option ℕ) (line : ℕ) (kind : Kind) → FaultyOn forms at kind → BreaksOn forms at → line ≡ line_or_last source at
+    → HasFault source forms (record { line = line; kind = kind })
+faulty_line source forms at line kind f b e = record { faulty = record { at = at; faulty = f; line_is = e }; breaks = record { at = at; breaks = b; line_is = e } }
 
 -- ---- where there are none
 
@@ -105,3 +137,8 @@ fault_only_fault source (lex.At at column what) lacks named line kind (lexical c
     let n = named f.place kind f.fault in
     (n.0 ∙ sym f.line_is, n.2)
 fault_only_fault source (lex.At at column what) lacks named line kind (misplaced forms h f) = absurd (lacks h.tokens h.cut)
+
+-- a source without tokens has no pieces
+pub fault_breaks : (source : List ℕ) (fault : LexFault) → Lacks source fault → BreaksBy source (of_tokens fault)
+fault_breaks source (lex.At line column kind) lacks = λ forms h. absurd (lacks h.tokens h.cut)
+fault_breaks source lex.NoMemory lacks = tt

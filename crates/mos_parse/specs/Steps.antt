@@ -1,65 +1,68 @@
--- What the steps of `parse` say to one another.
+-- What the steps of the parser say to one another. No public clause cites it.
 
-use Rattle.std.specs.Prelude.{◌≡◌, ℕ, ◌-◌, List, [], ◌∷◌, length, drop, map, Result, Ok, Err}
+use Rattle.std.specs.Prelude.{◌≡◌, ◌≤◌, ℕ, List, length, Result, Ok, Err}
 use Rattle.mos_tree.specs.declared.source.Tree.{Tree}
+use Rattle.mos_tree.specs.declared.refusal.Refusal.{Refusal}
+use Rattle.mos_tree.specs.declared.form.Form.{Form}
+use Rattle.mos_tree.specs.declared.form.PieceForm.{PieceForm}
+use Rattle.mos_tree.specs.Forms.{piece}
+use Rattle.mos_tree.specs.Sizes.{size_of_tree, size_of_form, size_of_pieces}
 use Rattle.mos_scan.specs.declared.fault.LexFault.{LexFault}
 use Rattle.mos_scan.specs.declared.fault.LexFault.TheVariants as lex
 use Rattle.mos_scan.specs.declared.token.Token.{Token}
 use Rattle.mos_scan.specs.declared.piece.Piece.{Piece}
-use Rattle.mos_scan.specs.Pieces.{pieces_of}
-use Rattle.mos_scan.specs.Reading.{piece_words}
-use Rattle.mos_form.specs.declared.form.Form.{Form}
-use Rattle.mos_form.specs.declared.form.PieceForm.{PieceForm}
-use Rattle.mos_form.specs.Forms.{piece}
+use Rattle.mos_scan.specs.Pieces.{ArePieces}
+use Rattle.mos_scan.specs.Reading.{piece_words, count_of_words}
 use Rattle.mos_form.specs.Phrases.{IsFormOf}
 use Rattle.mos_source.specs.Answers.{IsTree}
 use Rattle.mos_parse.specs.declared.fault.SyntaxFault.{SyntaxFault}
-use Rattle.mos_parse.specs.declared.fault.SyntaxFault.TheVariants.{At, NoMemory}
-use Rattle.mos_parse.specs.Parsed.{AreForms, IsFaultyLine, last_line}
+use Rattle.mos_parse.specs.declared.fault.SyntaxFault.TheVariants.{Refused, NoMemory}
+use Rattle.mos_parse.specs.Parsed.{AreForms, IsFaultyLine, BreaksOnLine}
 
 -- a fault of tokens as one of the source
 abbrev pub of_tokens : LexFault → SyntaxFault
-of_tokens (lex.At line column kind) = At line kind
+of_tokens (lex.At line column kind) = Refused (record { line = line; kind = kind })
 of_tokens lex.NoMemory = NoMemory
 
--- the form of a piece, and that it has no other
+-- the form of a piece, that it has no other, and that it is no larger than the piece has words
 pub record IsFormAt (source : List ℕ) (tokens : List Token) (p : Piece) (x : PieceForm) : Type 0 where
   pub at_line : x ≡ piece p.line x.form
   pub form : IsFormOf (piece_words source tokens p) x.form
   pub only : (other : Form) → IsFormOf (piece_words source tokens p) other → other ≡ x.form
+  pub small : size_of_form x.form ≤ length (piece_words source tokens p)
 
--- the forms of pieces, and that they have no others
+-- the forms of pieces, that they have no others, and that they are no larger than the pieces have words
 pub record HaveForms (source : List ℕ) (tokens : List Token) (ps : List Piece) (forms : List PieceForm) : Type 0 where
   pub are : AreForms source tokens ps forms
   pub only : (others : List PieceForm) → AreForms source tokens ps others → others ≡ forms
+  pub small : size_of_pieces forms ≤ count_of_words source tokens ps
 
--- each form has the line of its piece
-abbrev pub HaveLines : List Piece → List PieceForm → Type 0
-HaveLines [] [] = Unit {0}
-HaveLines (p ∷ ps) (x ∷ xs) = (p.line ≡ x.line) × HaveLines ps xs
-HaveLines _ _ = ⊥
+-- a tree that is no larger than its pieces
+pub record HasTree (forms : List PieceForm) (tree : Tree) : Type 0 where
+  pub tree_is : IsTree forms tree
+  pub small : size_of_tree tree ≤ size_of_pieces forms
 
--- the line of the first of these pieces, or the last line of the source
-abbrev pub line_of_first : List ℕ → List Piece → ℕ
-line_of_first source [] = last_line source
-line_of_first source (p ∷ ps) = p.line
-
--- the line of the piece with which so many are left
-abbrev pub line_with_left : List ℕ → List Piece → ℕ → ℕ
-line_with_left source ps left = line_of_first source (drop (length ps - left) ps)
+-- the faulty piece is the one at which the productions break
+pub record HasFault (source : List ℕ) (forms : List PieceForm) (refusal : Refusal) : Type 0 where
+  pub faulty : IsFaultyLine source forms refusal.line refusal.kind
+  pub breaks : BreaksOnLine source forms refusal.line
 
 -- what is answered of forms
 abbrev pub Says : List ℕ → List PieceForm → Result Tree SyntaxFault → Type 0
-Says source forms (Ok tree) = IsTree forms tree
-Says source forms (Err (At line kind)) = IsFaultyLine source forms line kind
+Says source forms (Ok tree) = HasTree forms tree
+Says source forms (Err (Refused refusal)) = HasFault source forms refusal
 Says source forms (Err NoMemory) = Unit {0}
 
 -- what is answered of tokens
 pub record IsReading (source : List ℕ) (tokens : List Token) (result : Result Tree SyntaxFault) : Type 0 where
+  pub pieces : List Piece
+  pub parted : ArePieces tokens pieces
+  pub few : count_of_words source tokens pieces ≤ length tokens
   pub forms : List PieceForm
-  pub have : HaveForms source tokens (pieces_of tokens) forms
+  pub have : HaveForms source tokens pieces forms
   pub says : Says source forms result
 
+-- what is answered of tokens, unless memory is wanting
 abbrev pub Reads : List ℕ → List Token → Result Tree SyntaxFault → Type 0
 Reads source tokens (Err NoMemory) = Unit {0}
 Reads source tokens result = IsReading source tokens result

@@ -1,14 +1,16 @@
+//! Why a source has no tree.
 ghost use Rattle.std.specs.Prelude.{◌≡◌};
 ghost use Rattle.mos_parse.specs.Steps.{of_tokens};
 
 use mos_scan::LexFault;
-use mos_text::{Kind, NoMemory};
+use mos_text::NoMemory;
+use mos_tree::Refusal;
 
 /// Why a source has no tree.
 #[derive(Debug, Drop)]
 pub enum SyntaxFault {
-    /// The line, from 1, and the kind of the fault.
-    At { line: u32, kind: Kind },
+    /// The line and the kind of its fault.
+    Refused(Refusal),
     NoMemory,
 }
 
@@ -28,7 +30,7 @@ pub(crate) fn of_tokens(fault: LexFault) -> SyntaxFault
     ensures { result ≡ of_tokens fault }
 {
     match fault {
-        LexFault::At { line, kind, .. } => SyntaxFault::At { line, kind },
+        LexFault::At { line, kind, .. } => SyntaxFault::Refused(Refusal { line, kind }),
         LexFault::NoMemory => SyntaxFault::NoMemory,
     }
 }

@@ -6,6 +6,3 @@ mod parser;
 
 pub use fault::SyntaxFault;
 pub use parser::parse;
-
-#[cfg(test)]
-mod tests;

@@ -9,7 +9,8 @@ use Rattle.std.specs.Char.{to_ascii_lowercase}
 use Rattle.mos_scan.specs.declared.token.TokenKind.{TokenKind}
 use Rattle.mos_scan.specs.Characters.{is_word}
 use Rattle.mos_scan.specs.Vocabulary.{Table, ends}
-use Rattle.mos_scan.specs.Words.{same_word, in_one_case, look_up, front_end, is_front, end_word, end_at}
+use Rattle.mos_scan.specs.Words.{same_word, in_one_case, look_up, end_word}
+use Rattle.mos_scan.specs.Lexemes.{front_end, is_front, end_at}
 use Rattle.mos_scan.proofs.Lists.{on_bool, not_both, all_head, all_tail}
 
 pub same_low : (a b : List ℕ) → same_word a b ≡ true → str_to_ascii_lowercase a ≡ str_to_ascii_lowercase b

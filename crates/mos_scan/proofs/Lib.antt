@@ -1,9 +1,10 @@
 pub mod Ends
+pub mod Fewness
 pub mod Lists
 pub mod Looks
 pub mod Numbers
 pub mod One
-pub mod Laid
+pub mod CutPieces
 pub mod Scans
 pub mod Short
 pub mod Tables

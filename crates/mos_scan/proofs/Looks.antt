@@ -7,31 +7,31 @@ use Rattle.std.specs.List.{list_all, prefix_len}
 use Rattle.std.specs.Char.{is_ascii_digit}
 use Rattle.mos_scan.specs.declared.token.TokenKind.{TokenKind}
 use Rattle.mos_scan.specs.declared.token.TokenKind.TheVariants as t
-use Rattle.mos_scan.specs.declared.front.Wrong.TheVariants as w
+use Rattle.mos_text.specs.declared.kind.Kind.TheVariants as k
 use Rattle.mos_scan.specs.Characters.{begins_name, is_word, is_quote, is_blank, is_inside}
-use Rattle.mos_scan.specs.Words.{end_word, end_at, plain_word, is_refused}
-use Rattle.mos_scan.specs.Tokens.{begins_with, comment_end, closing, one_byte, two_bytes, symbol, kind_of, gap_at, fault_at, word_fault, text_fault, symbol_fault}
-use Rattle.mos_scan.specs.Fronts.{Longest, Stands, front, gap_or_else, fault_or_token, token_at, word_at, end_or_word, two_or_one, symbol_at, quoted_at}
+use Rattle.mos_scan.specs.Words.{end_word, plain_word, is_refused}
+use Rattle.mos_scan.specs.Tokens.{begins_with, comment_end, closing_quote, one_byte, two_bytes, symbol, kind_of, gap_at, fault_at, word_fault, text_fault, symbol_fault}
+use Rattle.mos_scan.specs.Lexemes.{end_at, Longest, token_at, word_at, end_or_word, two_or_one, symbol_at, quoted_at}
 use Rattle.mos_scan.proofs.Lists.{on_bool, Run, run_of, run_over}
 use Rattle.mos_scan.proofs.Ends.{EndAt, end_token, no_end, word_is_no_end}
 
 -- ---- texts in quotes
 
--- the bytes up to a closing quote are closed by it, whatever follows
+-- the bytes up to a closing_quote quote are closed by it, whatever follows
 record Closed (quote : ℕ) (escaped : Bool) (at : ℕ) (bytes : List ℕ) (n : ℕ) : Type 0 where
   pub inside : List ℕ
   pub rest : List ℕ
   pub parts : bytes ≡ inside ++ rest
   pub long : at + length inside ≡ n
-  pub same : (more : List ℕ) → closing quote escaped at (inside ++ more) ≡ Some n
+  pub same : (more : List ℕ) → closing_quote quote escaped at (inside ++ more) ≡ Some n
 
-closing_here : (quote : ℕ) (escaped : Bool) (at b : ℕ) (bs : List ℕ) (n : ℕ) → nat_eq b 10 ≡ false → (not escaped && nat_eq b quote) ≡ true → at + 1 ≡ n → closing quote escaped at (b ∷ bs) ≡ Some n
+closing_here : (quote : ℕ) (escaped : Bool) (at b : ℕ) (bs : List ℕ) (n : ℕ) → nat_eq b 10 ≡ false → (not escaped && nat_eq b quote) ≡ true → at + 1 ≡ n → closing_quote quote escaped at (b ∷ bs) ≡ Some n
 closing_here quote escaped at b bs n line here long = rw (line, here, long) refl
 
-closing_on : (quote : ℕ) (escaped : Bool) (at b : ℕ) (bs : List ℕ) → nat_eq b 10 ≡ false → (not escaped && nat_eq b quote) ≡ false → closing quote escaped at (b ∷ bs) ≡ closing quote (not escaped && nat_eq quote 34 && nat_eq b 92) (at + 1) bs
+closing_on : (quote : ℕ) (escaped : Bool) (at b : ℕ) (bs : List ℕ) → nat_eq b 10 ≡ false → (not escaped && nat_eq b quote) ≡ false → closing_quote quote escaped at (b ∷ bs) ≡ closing_quote quote (not escaped && nat_eq quote 34 && nat_eq b 92) (at + 1) bs
 closing_on quote escaped at b bs line here = rw (line, here) refl
 
-closed : (quote : ℕ) (escaped : Bool) (at : ℕ) (bytes : List ℕ) (n : ℕ) → closing quote escaped at bytes ≡ Some n → Closed quote escaped at bytes n
+closed : (quote : ℕ) (escaped : Bool) (at : ℕ) (bytes : List ℕ) (n : ℕ) → closing_quote quote escaped at bytes ≡ Some n → Closed quote escaped at bytes n
 closed quote escaped at [] n e = cc
 closed quote escaped at (b ∷ bs) n e =
     on_bool (nat_eq b 10)
@@ -61,12 +61,12 @@ closed quote escaped at (b ∷ bs) n e =
 not_same : (n m : ℕ) → n ≢ m → nat_eq n m ≡ false
 not_same n m h = ne_eqb n m h
 
-text_longest : (a : ℕ) (bs : List ℕ) → begins_name a ≡ false → is_ascii_digit a ≡ false → is_quote a ≡ true → (n : ℕ) → closing a false 0 bs ≡ Some n → Longest (a ∷ bs) t.Text (n + 1)
+text_longest : (a : ℕ) (bs : List ℕ) → begins_name a ≡ false → is_ascii_digit a ≡ false → is_quote a ≡ true → (n : ℕ) → closing_quote a false 0 bs ≡ Some n → Longest (a ∷ bs) t.Text (n + 1)
 unfolding kind_of
 text_longest a bs w d q n e =
     let r : Closed a false 0 bs n = closed a false 0 bs n e in
-    let whole : closing a false 0 (r.inside ++ []) ≡ Some n = r.same [] in
-    let whole' : closing a false 0 r.inside ≡ Some n = rw append-nil at whole in
+    let whole : closing_quote a false 0 (r.inside ++ []) ≡ Some n = r.same [] in
+    let whole' : closing_quote a false 0 r.inside ≡ Some n = rw append-nil at whole in
     let long : nat_eq n (length r.inside) ≡ true = eq-eqb _ _ (omega (arith, r.long)) in
     record {
       text = a ∷ r.inside;
@@ -76,7 +76,7 @@ text_longest a bs w d q n e =
       some = omega arith;
       form = rw (w, d, q, whole', long) refl;
       longest = λ more after e' some.
-          let same : closing a false 0 (r.inside ++ more) ≡ Some n = r.same more in
+          let same : closing_quote a false 0 (r.inside ++ more) ≡ Some n = r.same more in
           let short : nat_eq n (length (r.inside ++ more)) ≡ false = not_same _ _ (longer r.inside more n r.long some) in
           rw (w, d, q, same, short) refl;
     }
@@ -247,7 +247,7 @@ symbol_longest a (b ∷ bs) plain kind e =
 
 not_refused : (bs : List ℕ) → word_fault bs ≡ None → is_refused (take (prefix_len is_word bs) bs) ≡ false
 unfolding word_fault
-not_refused bs e = on_bool (is_refused (take (prefix_len is_word bs) bs)) (λ r. let x : Some (w.Out, 0) ≡ None = rw r at e in cc) (λ r. r)
+not_refused bs e = on_bool (is_refused (take (prefix_len is_word bs) bs)) (λ r. let x : Some (k.Out (take (prefix_len is_word bs) bs), 0) ≡ None = rw r at e in cc) (λ r. r)
 
 word_case : (a : ℕ) (bs : List ℕ) → begins_name a ≡ true → word_fault (a ∷ bs) ≡ None → IsLongest (a ∷ bs) (word_at (a ∷ bs))
 unfolding word_at
@@ -259,17 +259,17 @@ word_case a bs w f =
 text_case : (a : ℕ) (bs : List ℕ) → begins_name a ≡ false → is_ascii_digit a ≡ false → is_quote a ≡ true → text_fault a bs ≡ None → IsLongest (a ∷ bs) (quoted_at a bs)
 unfolding text_fault
 text_case a bs n d q f =
-    on_option (closing a false 0 bs)
-    (λ none. let x : Some (w.Text, 0) ≡ None = rw none at f in cc)
+    on_option (closing_quote a false 0 bs)
+    (λ none. let x : Some (k.Str, 0) ≡ None = rw none at f in cc)
     (λ x some. subst (λ o. Longest (a ∷ bs) t.Text (unwrap_or o 0 + 1)) (sym some) (text_longest a bs n d q x some))
 
 symbol_case : (a : ℕ) (bs : List ℕ) → NoWord a → symbol_fault a bs ≡ None → IsLongest (a ∷ bs) (symbol_at a bs)
 symbol_case a bs plain f =
     on_bool (nat_eq a 40 && begins_with 33 bs)
-    (λ c. let x : Some (w.Comment, 0) ≡ None = rw c at f in cc)
+    (λ c. let x : Some (k.Comment, 0) ≡ None = rw c at f in cc)
     (λ c.
     on_option (one_byte a)
-    (λ none. let x : Some (w.Char, 0) ≡ None = rw (c, none) at f in cc)
+    (λ none. let x : Some (k.Char, 0) ≡ None = rw (c, none) at f in cc)
     (λ kind some. symbol_longest a bs plain kind some))
 
 pub longest_at : (bytes : List ℕ) → bytes ≢ [] → fault_at bytes ≡ None → IsLongest bytes (token_at bytes)
@@ -330,20 +330,3 @@ gap_fits (a ∷ bs) n e =
     second : (xs : List ℕ) → begins_with 33 xs ≡ true → 1 ≤ length xs
     second [] h = cc
     second (x ∷ xs) h = omega arith
-
--- what is seen at the front stands there
-pub front_stands : (bytes : List ℕ) → bytes ≢ [] → Stands bytes (front bytes)
-unfolding front
-front_stands bytes some =
-    on_option (gap_at bytes)
-    (λ no_gap.
-    on_option (fault_at bytes)
-    (λ no_fault.
-    subst (λ o. Stands bytes (gap_or_else o bytes)) (sym no_gap)
-    (subst (λ o. Stands bytes (fault_or_token o (token_at bytes))) (sym no_fault) (no_gap, no_fault, longest_at bytes some no_fault)))
-    (λ x wrong.
-    subst (λ o. Stands bytes (gap_or_else o bytes)) (sym no_gap)
-    (subst (λ o. Stands bytes (fault_or_token o (token_at bytes))) (sym wrong) (no_gap, wrong))))
-    (λ n gap.
-    let fits : (0 < n) × (n ≤ length bytes) = gap_fits bytes n gap in
-    subst (λ o. Stands bytes (gap_or_else o bytes)) (sym gap) (gap, fits.0, fits.1))

@@ -1,15 +1,17 @@
+-- A source has one token list or one lexical fault.
+
 use Rattle.std.proofs.Common.{◌≡◌, ℕ, ◌+◌, ◌<◌, ◌≤◌, ◌⊎◌, inl, inr, true, false, List, [], ◌∷◌, ◌++◌, length, Option, Some, None, Result, Ok, Err, IfOk, IfErr, refl, sym, ◌∙◌, ap, subst, arith, length-append}
 use Rattle.mos_text.specs.declared.kind.Kind.{Kind}
 use Rattle.mos_scan.specs.declared.token.TokenKind.{TokenKind}
 use Rattle.mos_scan.specs.declared.token.TokenKind.TheVariants.{EndModel}
 use Rattle.mos_scan.specs.declared.token.Token.{Token}
-use Rattle.mos_scan.specs.declared.front.Wrong.{Wrong}
 use Rattle.mos_scan.specs.declared.fault.LexFault.{LexFault}
 use Rattle.mos_scan.specs.declared.fault.LexFault.TheVariants as l
 use Rattle.mos_scan.specs.Scans.{IsFaultOf, IsNoMemory, Names, GivesFault}
 use Rattle.mos_scan.specs.Tokens.{gap_at, fault_at, kind_of}
-use Rattle.mos_scan.specs.Cuts.{Part, gap, token, text_of, is_end, IsPart, IsToken, Cuts, Whole, up_to_the_end, up_to_end_model, tokens_from, Stops, read_whole, read_to_fault, IsTokenList, IsLexicalFault, no_utf8, no_token, IsRead, kind_of_fault, line_of, column_of, newlines}
+use Rattle.mos_scan.specs.Cuts.{Part, gap, token, text_of, is_end, IsPart, IsToken, Cuts, Whole, up_to_the_end, up_to_end_model, tokens_from, Stops, read_whole, read_to_fault, IsTokenList, IsLexicalFault, no_utf8, no_token, IsRead, line_of, column_of, newlines}
 use Rattle.std.specs.Str.Lossy.{utf8_valid_len}
+use Rattle.std.proofs.lemmas.List.{append-nil}
 
 -- two ways to cut one text: one front goes on behind the other
 abbrev Ahead : List ℕ → List ℕ → List ℕ → List ℕ → Type 0
@@ -44,21 +46,17 @@ same_tokens kind other xs ys us vs s t e h =
     let k : kind ≡ other = cc in
     (cc, h)
 
-append-none : (xs : List ℕ) → xs ++ [] ≡ xs
-append-none [] = refl
-append-none (x ∷ xs) = ap (λ ys. x ∷ ys) (append-none xs)
-
 one_token : (kind other : TokenKind) (xs ys us vs : List ℕ) → xs ++ ys ≡ us ++ vs → IsToken kind xs ys → IsToken other us vs → Same (token kind xs) ys (token other us) vs
 one_token kind other xs ys us vs e s t =
     elim (overlap xs ys us vs e) [
       | inl a ↦
           (let n : a.0 ≡ [] = longer_not kind other xs ys us vs a.0 s t a.1 a.2 in
-          let p : us ≡ xs = a.1 ∙ ap (λ m. xs ++ m) n ∙ append-none xs in
+          let p : us ≡ xs = a.1 ∙ ap (λ m. xs ++ m) n ∙ append-nil xs in
           let q : ys ≡ vs = a.2 ∙ ap (λ m. m ++ vs) n in
           same_tokens kind other xs ys us vs s t (sym p) q)
       | inr b ↦
           (let n : b.0 ≡ [] = longer_not other kind us vs xs ys b.0 t s b.1 b.2 in
-          let p : xs ≡ us = b.1 ∙ ap (λ m. us ++ m) n ∙ append-none us in
+          let p : xs ≡ us = b.1 ∙ ap (λ m. us ++ m) n ∙ append-nil us in
           let q : vs ≡ ys = b.2 ∙ ap (λ m. m ++ ys) n in
           same_tokens kind other xs ys us vs s t p (sym q))
     ]
@@ -72,11 +70,11 @@ one_gap xs ys us vs e h =
     elim (overlap xs ys us vs e) [
       | inl a ↦
           (let n : a.0 ≡ [] = none_left a.0 xs us a.1 h in
-          let p : us ≡ xs = a.1 ∙ ap (λ m. xs ++ m) n ∙ append-none xs in
+          let p : us ≡ xs = a.1 ∙ ap (λ m. xs ++ m) n ∙ append-nil xs in
           (ap (λ z. gap z) (sym p), a.2 ∙ ap (λ m. m ++ vs) n))
       | inr b ↦
           (let n : b.0 ≡ [] = none_left b.0 us xs b.1 (sym h) in
-          let p : xs ≡ us = b.1 ∙ ap (λ m. us ++ m) n ∙ append-none us in
+          let p : xs ≡ us = b.1 ∙ ap (λ m. us ++ m) n ∙ append-nil us in
           (ap (λ z. gap z) p, sym (b.2 ∙ ap (λ m. m ++ ys) n)))
     ]
 
@@ -131,7 +129,7 @@ stuck_at_end_model left text after e t x rest e' p n =
     let h : true ≡ false = subst (λ z. is_end z ≡ false) (sym same.0) n in
     cc
 
-stuck_at_fault : (left : List ℕ) {wrong : Wrong × ℕ} → gap_at left ≡ None → fault_at left ≡ Some wrong → Stuck left
+stuck_at_fault : (left : List ℕ) {wrong : Kind × ℕ} → gap_at left ≡ None → fault_at left ≡ Some wrong → Stuck left
 unfolding Stuck
 stuck_at_fault left g f (gap xs) rest e p n = let h : None ≡ Some (length xs) = sym g ∙ subst (λ z. gap_at z ≡ Some (length xs)) (sym e) p in cc
 stuck_at_fault left {wrong} g f (token k xs) rest e p n = let h : None ≡ Some wrong = sym (subst (λ z. fault_at z ≡ None) (sym e) p.no_fault) ∙ f in cc
@@ -157,11 +155,11 @@ no_stop : (bytes left : List ℕ) (xs : List Part) (place : ℕ) (kind : Kind) �
 unfolding fault_at
 no_stop bytes left xs place kind (up_to_the_end ps c e) s =
     let r = one_cut ps s.parts bytes [] s.left c s.cuts stuck_at_the_end (stuck_at_fault s.left s.no_gap s.fault) in
-    let h : None ≡ Some (s.wrong, s.far) = subst (λ z. fault_at z ≡ Some (s.wrong, s.far)) (sym r.1) s.fault in
+    let h : None ≡ Some (kind, s.offset) = subst (λ z. fault_at z ≡ Some (kind, s.offset)) (sym r.1) s.fault in
     cc
 no_stop bytes left xs place kind (up_to_end_model ps text rest c e t) s =
     let r = one_cut ps s.parts bytes rest s.left c s.cuts (stuck_at_end_model rest text left e t) (stuck_at_fault s.left s.no_gap s.fault) in
-    let h : None ≡ Some (s.wrong, s.far) = sym (subst (λ z. fault_at z ≡ None) (sym e ∙ r.1) t.no_fault) ∙ s.fault in
+    let h : None ≡ Some (kind, s.offset) = sym (subst (λ z. fault_at z ≡ None) (sym e ∙ r.1) t.no_fault) ∙ s.fault in
     cc
 
 -- a source has one token list
@@ -195,13 +193,12 @@ taken_list bytes (Err e) fault tokens h = no_fault_of bytes tokens h e fault
 stop_once : (bytes : List ℕ) (p q : ℕ) (k l : Kind) → Stops bytes p k → Stops bytes q l → (p ≡ q) × (k ≡ l)
 stop_once bytes p q k l s t =
     let r = one_cut s.parts t.parts bytes s.left t.left s.cuts t.cuts (stuck_at_fault s.left s.no_gap s.fault) (stuck_at_fault t.left t.no_gap t.fault) in
-    let mine : Wrong × ℕ = (s.wrong, s.far) in
-    let other : Wrong × ℕ = (t.wrong, t.far) in
+    let mine : Kind × ℕ = (k, s.offset) in
+    let other : Kind × ℕ = (l, t.offset) in
     let f : Some mine ≡ Some other = sym s.fault ∙ subst (λ z. fault_at z ≡ Some other) (sym r.1) t.fault in
     let pair : mine ≡ other = cc in
-    let wrong : s.wrong ≡ t.wrong = ap (λ z. z.0) pair in
-    let far : s.far ≡ t.far = ap (λ z. z.1) pair in
-    (omega (arith, s.there, t.there, ap length r.1, far), s.named ∙ ap (λ z. kind_of_fault z s.left) wrong ∙ ap (λ z. kind_of_fault t.wrong z) r.1 ∙ sym t.named)
+    let offset : s.offset ≡ t.offset = ap (λ z. z.1) pair in
+    (omega (arith, s.there, t.there, ap length r.1, offset), ap (λ z. z.0) pair)
 
 -- no UTF-8 in what is read, and a fault of tokens that comes before it
 not_before : (bytes : List ℕ) (reach place : ℕ) (kind : Kind) → IsRead bytes reach → utf8_valid_len bytes < reach → Stops bytes place kind → place < utf8_valid_len bytes → ⊥
@@ -210,7 +207,7 @@ not_before bytes reach place kind (read_to_fault at k t) h s less =
     let same = stop_once bytes at place k kind t s in
     omega (arith, same.0, h, less)
 
-one_fault : (bytes : List ℕ) (p q : ℕ) (k l : Kind) → IsLexicalFault bytes p k → IsLexicalFault bytes q l → (p ≡ q) × (k ≡ l)
+pub one_fault : (bytes : List ℕ) (p q : ℕ) (k l : Kind) → IsLexicalFault bytes p k → IsLexicalFault bytes q l → (p ≡ q) × (k ≡ l)
 one_fault bytes p q k l (no_utf8 reach r h) (no_utf8 other s g) = (refl, refl)
 one_fault bytes p q k l (no_utf8 reach r h) (no_token q' l' s less) = absurd (not_before bytes reach q' l' r h s less)
 one_fault bytes p q k l (no_token p' k' s less) (no_utf8 reach r h) = absurd (not_before bytes reach p' k' r h s less)

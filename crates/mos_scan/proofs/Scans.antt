@@ -1,10 +1,12 @@
+-- How far the loop over the bytes has come.
+
 use Rattle.std.proofs.Common.{◌≡◌, ℕ, ◌+◌, ◌≤◌, true, false, List, [], ◌∷◌, ◌++◌, length, take, drop, Some, None, refl, sym, ◌∙◌, ap, subst, arith, length-append}
 use Rattle.mos_scan.specs.declared.token.TokenKind.{TokenKind}
 use Rattle.mos_scan.specs.declared.token.Token.{Token}
 use Rattle.mos_scan.specs.declared.token.TokenKind.TheVariants.{EndModel}
-use Rattle.mos_scan.specs.declared.front.Front.TheVariants as f
-use Rattle.mos_scan.specs.Fronts.{Longest, Stands}
-use Rattle.mos_scan.specs.Scans.{IsWholeCut}
+use Rattle.mos_scan.specs.declared.lexeme.Lexeme.TheVariants as f
+use Rattle.mos_scan.specs.Lexemes.{Longest, Stands}
+use Rattle.mos_scan.specs.Scanning.{IsWholeCut}
 use Rattle.mos_scan.proofs.Looks.{take_front, drop_front}
 use Rattle.std.proofs.lemmas.List.{take-append-drop, length-take-le}
 use Rattle.std.proofs.lemmas.List.Sums.{count_by-le-length}

@@ -1,3 +1,5 @@
+-- Classes of bytes.
+
 use Rattle.std.specs.Prelude.{ℕ, Bool, ◌||◌, ◌==◌, not}
 use Rattle.std.specs.Char.{is_ascii_alphabetic, is_ascii_digit}
 
@@ -9,6 +11,7 @@ is_blank b = b == 32 || b == 9 || b == 13
 abbrev pub begins_name : ℕ → Bool
 begins_name b = is_ascii_alphabetic b || b == 95
 
+-- a letter, a digit or `_`
 abbrev pub is_word : ℕ → Bool
 is_word b = begins_name b || is_ascii_digit b
 

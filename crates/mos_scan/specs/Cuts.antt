@@ -1,13 +1,11 @@
+-- The token list of a source, by the one way to cut it; and its lexical fault, with its place.
+
 use Rattle.std.specs.Prelude.{◌≡◌, ◌≢◌, ℕ, ◌+◌, ◌<◌, ◌≤◌, Bool, true, false, not, ◌&&◌, if◌then◌else◌, ◌==◌, nat_lt, List, [], ◌∷◌, ◌++◌, length, take, Some, None, count_by}
-use Rattle.std.specs.List.{prefix_len}
 use Rattle.std.specs.Str.Lossy.{utf8_valid_len}
-use Rattle.mos_scan.specs.Characters.{is_word}
 use Rattle.mos_scan.specs.Tokens.{gap_at, fault_at, kind_of}
 use Rattle.mos_scan.specs.declared.token.TokenKind.{TokenKind}
 use Rattle.mos_scan.specs.declared.token.TokenKind.TheVariants.{EndModel}
 use Rattle.mos_scan.specs.declared.token.Token.{Token}
-use Rattle.mos_scan.specs.declared.front.Wrong.{Wrong}
-use Rattle.mos_scan.specs.declared.front.Wrong.TheVariants as w
 use Rattle.mos_text.specs.declared.kind.Kind.{Kind}
 use Rattle.mos_text.specs.declared.kind.Kind.TheVariants as k
 
@@ -16,14 +14,17 @@ pub data Part : Type 0 where
   gap : List ℕ → Part
   token : TokenKind → List ℕ → Part
 
+-- the bytes of a part
 abbrev pub text_of : Part → List ℕ
 text_of (gap text) = text
 text_of (token kind text) = text
 
+-- the word behind which nothing is read
 abbrev pub is_end_model : TokenKind → Bool
 is_end_model EndModel = true
 is_end_model _ = false
 
+-- the part is that word
 abbrev pub is_end : Part → Bool
 is_end (gap text) = false
 is_end (token kind text) = is_end_model kind
@@ -35,6 +36,7 @@ pub record IsToken (kind : TokenKind) (text rest : List ℕ) : Type 0 where
   pub form : kind_of text ≡ Some kind
   pub longest : (more after : List ℕ) → rest ≡ more ++ after → more ≢ [] → kind_of (text ++ more) ≡ None
 
+-- what a part is, with the bytes behind it
 abbrev pub IsPart : Part → List ℕ → Type 0
 IsPart (gap text) rest = gap_at (text ++ rest) ≡ Some (length text)
 IsPart (token kind text) rest = IsToken kind text rest
@@ -49,9 +51,11 @@ pub data Whole (bytes : List ℕ) (left : List ℕ) : List Part → Type 0 where
   up_to_the_end : (xs : List Part) → Cuts bytes xs [] → left ≡ [] → Whole bytes left xs
   up_to_end_model : (xs : List Part) (text rest : List ℕ) → Cuts bytes xs rest → rest ≡ text ++ left → IsToken EndModel text left → Whole bytes left (xs ++ token EndModel text ∷ [])
 
+-- the byte that ends a line
 abbrev pub is_newline : ℕ → Bool
 is_newline b = b == 10
 
+-- how many newlines stand in these bytes
 abbrev pub newlines : List ℕ → ℕ
 newlines text = count_by is_newline text
 
@@ -73,26 +77,15 @@ pub record IsTokenList (bytes : List ℕ) (tokens : List Token) : Type 0 where
   pub utf8 : length bytes ≤ utf8_valid_len bytes + length left
   pub are : tokens ≡ tokens_from 0 1 parts
 
--- the kind of a fault; of a word that is left out it names the word
-abbrev pub kind_of_fault : Wrong → List ℕ → Kind
-kind_of_fault w.Char bytes = k.Char
-kind_of_fault w.Real bytes = k.Real
-kind_of_fault w.Number bytes = k.Number
-kind_of_fault w.Text bytes = k.Str
-kind_of_fault w.Comment bytes = k.Comment
-kind_of_fault w.Out bytes = k.Out (take (prefix_len is_word bytes) bytes)
-
 -- the first place of a fault of the form of tokens and comments: the text is cut up to a place that has one
 pub record Stops (bytes : List ℕ) (place : ℕ) (kind : Kind) : Type 0 where
   pub parts : List Part
   pub left : List ℕ
   pub cuts : Cuts bytes parts left
   pub no_gap : gap_at left ≡ None
-  pub wrong : Wrong
-  pub far : ℕ
-  pub fault : fault_at left ≡ Some (wrong, far)
-  pub there : place + length left ≡ length bytes + far
-  pub named : kind ≡ kind_of_fault wrong left
+  pub offset : ℕ
+  pub fault : fault_at left ≡ Some (kind, offset)
+  pub there : place + length left ≡ length bytes + offset
 
 -- how far a source is read: up to the end of its token list, or with the byte of its first fault
 pub data IsRead (bytes : List ℕ) : ℕ → Type 0 where
@@ -104,9 +97,13 @@ pub data IsLexicalFault (bytes : List ℕ) : ℕ → Kind → Type 0 where
   no_utf8 : (reach : ℕ) → IsRead bytes reach → utf8_valid_len bytes < reach → IsLexicalFault bytes (utf8_valid_len bytes) k.Utf8
   no_token : (place : ℕ) (kind : Kind) → Stops bytes place kind → place < utf8_valid_len bytes → IsLexicalFault bytes place kind
 
+-- the line that comes behind these bytes, from 1
+abbrev pub line_behind : List ℕ → ℕ
+line_behind bytes = 1 + newlines bytes
+
 -- the line of a place, from 1
 abbrev pub line_of : List ℕ → ℕ → ℕ
-line_of bytes place = 1 + newlines (take place bytes)
+line_of bytes place = line_behind (take place bytes)
 
 -- a byte within a character, behind its first one
 abbrev pub is_continuation : ℕ → Bool

@@ -1,8 +1,11 @@
 pub mod Characters
 pub mod Cuts
-pub mod Fronts
+pub mod Cutting
+pub mod Laws
+pub mod Lexemes
 pub mod Pieces
 pub mod Reading
+pub mod Scanning
 pub mod Scans
 pub mod Tokens
 pub mod Vocabulary

@@ -1,14 +1,50 @@
-use Rattle.std.specs.Prelude.{◌≡◌, ℕ, ◌+◌, ◌-◌, Bool, true, false, not, ◌&&◌, ◌||◌, if◌then◌else◌, ◌==◌, nat_lt, List, [], ◌∷◌, ◌++◌, length}
+-- Pieces: where the tokens of a source are cut. A piece is a run of tokens that no cut parts, ended by
+-- a cut or by the end of the tokens; a separator belongs to none.
+
+use Rattle.std.specs.Prelude.{◌≡◌, ℕ, ◌+◌, ◌-◌, Bool, true, false, not, ◌&&◌, ◌||◌, ◌==◌, List, [], ◌∷◌, ◌++◌, length, fold, ⊤}
 use Rattle.mos_scan.specs.declared.token.TokenKind.{TokenKind}
 use Rattle.mos_scan.specs.declared.token.TokenKind.TheVariants.{Newline, Semicolon, Colon, Of, Plus, Minus, Times, Equal, Less, Greater, NotEqual, AtMost, AtLeast, DotDot, Comma, Assign, AddAssign, TakeAssign, Fill, Bar, Dot, OpenRound, OpenSquare, OpenCurly, CloseRound, CloseSquare, CloseCurly, And, Or, Not, In, Div, Mod, Union, Inter, Declarations, EndDeclarations, Parameters, EndParameters, Initializations, EndInitializations, Forall, While, Case, Procedure, Function, Forward, Elif, Else, Until, EndCase, EndDo, EndFunction, EndIf, EndModel, EndProcedure, EndRecord, Then, Do, Repeat, Record}
 use Rattle.mos_scan.specs.declared.token.Token.{Token}
 use Rattle.mos_scan.specs.declared.piece.Piece.{Piece}
-use Rattle.mos_scan.specs.declared.piece.Behind.{Behind}
-use Rattle.mos_scan.specs.declared.piece.Open.{Open}
-use Rattle.mos_scan.specs.declared.piece.Opening.{Opening}
-use Rattle.mos_scan.specs.declared.piece.Opening.TheVariants as o
 
--- ---- what is known behind some tokens
+-- ---- the tokens at either end
+
+-- the kind of the last token; where there is none, that of a newline
+abbrev pub last_kind : List Token → TokenKind
+last_kind tokens = fold (λ before t. t.kind) Newline tokens
+
+-- the kind of the first token; where there is none, that of a newline
+abbrev pub first_kind : List Token → TokenKind
+first_kind [] = Newline
+first_kind (t ∷ ts) = t.kind
+
+-- the kind of the second token; where there is none, that of a newline
+abbrev pub second_kind : List Token → TokenKind
+second_kind [] = Newline
+second_kind (t ∷ ts) = first_kind ts
+
+-- the line of the first token
+abbrev pub first_line : List Token → ℕ
+first_line [] = 0
+first_line (t ∷ ts) = t.line
+
+-- ---- brackets
+
+-- how many brackets are open behind one token more; a closing one too many counts nothing
+abbrev pub depth_behind : ℕ → TokenKind → ℕ
+depth_behind depth OpenRound = depth + 1
+depth_behind depth OpenSquare = depth + 1
+depth_behind depth OpenCurly = depth + 1
+depth_behind depth CloseRound = depth - 1
+depth_behind depth CloseSquare = depth - 1
+depth_behind depth CloseCurly = depth - 1
+depth_behind depth _ = depth
+
+-- how many brackets are open behind these tokens
+abbrev pub depth : List Token → ℕ
+depth tokens = fold (λ before t. depth_behind before t.kind) 0 tokens
+
+-- ---- newlines that end something
 
 -- an operator that is a symbol
 unfoldable pub is_operator : TokenKind → Bool
@@ -54,78 +90,55 @@ joins _ = false
 abbrev pub goes_on : TokenKind → Bool
 goes_on kind = is_operator kind || is_operator_word kind || joins kind
 
--- open brackets; a closing one too many counts nothing
-abbrev pub depth_behind : ℕ → TokenKind → ℕ
-depth_behind depth OpenRound = depth + 1
-depth_behind depth OpenSquare = depth + 1
-depth_behind depth OpenCurly = depth + 1
-depth_behind depth CloseRound = depth - 1
-depth_behind depth CloseSquare = depth - 1
-depth_behind depth CloseCurly = depth - 1
-depth_behind depth _ = depth
+-- a token at this depth, directly behind this last one, belongs to no piece
+unfoldable pub separates_at : ℕ → TokenKind → TokenKind → Bool
+separates_at depth before Semicolon = true
+separates_at depth before Newline = depth == 0 && not (goes_on before)
+separates_at depth before _ = false
 
-abbrev pub in_declarations : Bool → TokenKind → Bool
-in_declarations before Declarations = true
-in_declarations before EndDeclarations = false
-in_declarations before _ = before
+-- the token behind these belongs to no piece: a semicolon, or a newline that ends something
+abbrev pub separates : List Token → TokenKind → Bool
+separates before kind = separates_at (depth before) (last_kind before) kind
 
-abbrev pub in_parameters : Bool → TokenKind → Bool
-in_parameters before Parameters = true
-in_parameters before EndParameters = false
-in_parameters before _ = before
+-- ---- blocks of items
 
-abbrev pub in_initializations : Bool → TokenKind → Bool
-in_initializations before Initializations = true
-in_initializations before EndInitializations = false
-in_initializations before _ = before
+-- whether `declarations` are open behind one token more
+abbrev pub declarations_after : Bool → TokenKind → Bool
+declarations_after before Declarations = true
+declarations_after before EndDeclarations = false
+declarations_after before _ = before
 
-unfoldable pub behind_next : Behind → TokenKind → Behind
-behind_next behind kind = record {
-  depth = depth_behind behind.depth kind;
-  goes_on = goes_on kind;
-  declarations = in_declarations behind.declarations kind;
-  parameters = in_parameters behind.parameters kind;
-  initializations = in_initializations behind.initializations kind;
-}
+-- whether `parameters` are open behind one token more
+abbrev pub parameters_after : Bool → TokenKind → Bool
+parameters_after before Parameters = true
+parameters_after before EndParameters = false
+parameters_after before _ = before
 
--- ---- the piece that is read
+-- whether `initializations` are open behind one token more
+abbrev pub initializations_after : Bool → TokenKind → Bool
+initializations_after before Initializations = true
+initializations_after before EndInitializations = false
+initializations_after before _ = before
 
-abbrev pub opening_of : TokenKind → Opening
-opening_of Forall = o.Loop
-opening_of While = o.Loop
-opening_of Case = o.Case
-opening_of Procedure = o.Heading
-opening_of Function = o.Heading
-opening_of Forward = o.Heading
-opening_of _ = o.Other
+-- `declarations` stands before, without its end word behind it
+abbrev pub in_declarations : List Token → Bool
+in_declarations tokens = fold (λ before t. declarations_after before t.kind) false tokens
 
-abbrev pub loop_with : TokenKind → Opening
-loop_with OpenRound = o.Bracket
-loop_with _ = o.Other
+-- `parameters` stands before, without its end word behind it
+abbrev pub in_parameters : List Token → Bool
+in_parameters tokens = fold (λ before t. parameters_after before t.kind) false tokens
 
-abbrev pub opening_with : Opening → TokenKind → Opening
-opening_with o.Nothing kind = opening_of kind
-opening_with o.Loop kind = loop_with kind
-opening_with o.Bracket kind = o.Bracket
-opening_with o.Case kind = o.Case
-opening_with o.Heading kind = o.Heading
-opening_with o.Other kind = o.Other
+-- `initializations` stands before, without its end word behind it
+abbrev pub in_initializations : List Token → Bool
+in_initializations tokens = fold (λ before t. initializations_after before t.kind) false tokens
 
-unfoldable pub open_at : ℕ → Open
-open_at place = record { from = place; to = place; line = 0; opening = o.Nothing; depth = 0; last = Newline }
+-- a colon behind these tokens belongs to an item
+abbrev pub in_items : List Token → Bool
+in_items tokens = in_declarations tokens || in_parameters tokens || in_initializations tokens
 
-unfoldable pub open_with : Open → Token → Open
-open_with piece token = record {
-  from = piece.from;
-  to = piece.to + 1;
-  line = if piece.from == piece.to then token.line else piece.line;
-  opening = opening_with piece.opening token.kind;
-  depth = depth_behind piece.depth token.kind;
-  last = token.kind;
-}
+-- ---- cuts before and behind a token
 
--- ---- where a piece ends
-
+-- a word that ends a block
 abbrev pub is_end_word : TokenKind → Bool
 is_end_word EndCase = true
 is_end_word EndDeclarations = true
@@ -139,14 +152,14 @@ is_end_word EndProcedure = true
 is_end_word EndRecord = true
 is_end_word _ = false
 
--- a piece ends before this token
+-- there is a cut before this token
 unfoldable pub begins_piece : TokenKind → Bool
 begins_piece Elif = true
 begins_piece Else = true
 begins_piece Until = true
 begins_piece kind = is_end_word kind
 
--- a piece ends behind this token
+-- there is a cut behind this token, wherever it stands
 unfoldable pub ends_always : TokenKind → Bool
 ends_always Then = true
 ends_always Else = true
@@ -157,6 +170,27 @@ ends_always Parameters = true
 ends_always Record = true
 ends_always kind = is_end_word kind
 
+-- `forall` or `while`
+unfoldable pub is_loop : TokenKind → Bool
+is_loop Forall = true
+is_loop While = true
+is_loop _ = false
+
+-- `procedure`, `function` or `forward`
+unfoldable pub is_heading : TokenKind → Bool
+is_heading Procedure = true
+is_heading Function = true
+is_heading Forward = true
+is_heading _ = false
+
+abbrev pub is_open_round : TokenKind → Bool
+is_open_round OpenRound = true
+is_open_round _ = false
+
+abbrev pub is_case : TokenKind → Bool
+is_case Case = true
+is_case _ = false
+
 abbrev pub is_of : TokenKind → Bool
 is_of Of = true
 is_of _ = false
@@ -165,66 +199,54 @@ abbrev pub is_colon : TokenKind → Bool
 is_colon Colon = true
 is_colon _ = false
 
-abbrev pub in_items : Behind → Bool
-in_items behind = behind.declarations || behind.parameters || behind.initializations
+-- a piece that begins with `forall (` or `while (`, with so many of its own brackets open
+abbrev pub closes_loop : TokenKind → TokenKind → ℕ → Bool
+closes_loop first second inner = is_loop first && is_open_round second && (inner == 0)
 
--- a colon outside brackets ends a piece that is no heading and no item
-abbrev pub ends_at_colon : Behind → Opening → Bool
-ends_at_colon behind o.Heading = false
-ends_at_colon behind _ = behind.depth == 0 && not (in_items behind)
+-- a piece that begins with `case` and ends with `of`
+abbrev pub closes_case : TokenKind → TokenKind → Bool
+closes_case first last = is_case first && is_of last
 
--- the bracket of a loop is closed, `of` follows `case`, or a colon ends a label
-abbrev pub ends_so : Behind → Opening → ℕ → TokenKind → Bool
-ends_so behind o.Nothing depth kind = false
-ends_so behind o.Bracket depth kind = depth == 0 || (is_colon kind && ends_at_colon behind o.Bracket)
-ends_so behind o.Case depth kind = is_of kind || (is_colon kind && ends_at_colon behind o.Case)
-ends_so behind opening depth kind = is_colon kind && ends_at_colon behind opening
+-- a piece that ends with a colon outside brackets, and is neither a heading nor an item
+abbrev pub closes_label : TokenKind → TokenKind → ℕ → Bool → Bool
+closes_label first last outer items = is_colon last && (outer == 0) && not (is_heading first) && not items
 
-abbrev pub ends_by_opening : Behind → Open → Bool
-ends_by_opening behind piece = ends_so behind piece.opening piece.depth piece.last
+-- a piece ends by its first two tokens and its last, by the brackets open in it and in all, and where items stand
+unfoldable pub ends_by : TokenKind → TokenKind → TokenKind → ℕ → ℕ → Bool → Bool
+ends_by first second last inner outer items =
+    ends_always last || closes_loop first second inner || closes_case first last || closes_label first last outer items
 
-unfoldable pub ends_piece : Behind → Open → Bool
-ends_piece behind piece = ends_always piece.last || ends_by_opening behind piece
+-- there is a cut behind the last token of a piece, with what comes before the piece
+abbrev pub ends_piece : List Token → List Token → Bool
+ends_piece before piece =
+    ends_by (first_kind piece) (second_kind piece) (last_kind piece) (depth piece) (depth (before ++ piece)) (in_items (before ++ piece))
 
--- the token belongs to no piece: a semicolon, or a newline that ends something
-unfoldable pub separates : Behind → TokenKind → Bool
-separates behind Semicolon = true
-separates behind Newline = behind.depth == 0 && not behind.goes_on
-separates behind _ = false
+-- there is a cut between a piece, with what comes before it, and the next token
+abbrev pub is_cut : List Token → List Token → TokenKind → Bool
+is_cut before piece next = separates (before ++ piece) next || (begins_piece next || ends_piece before piece)
 
-unfoldable pub starts : Behind → Open → TokenKind → Bool
-starts behind piece kind = begins_piece kind || ends_piece behind piece
+-- ---- pieces
 
--- the piece, if it has a token
-unfoldable pub closed : Open → List Piece
-closed piece = if nat_lt piece.from piece.to then record { from = piece.from; to = piece.to; line = piece.line } ∷ [] else []
+-- tokens that no cut parts, with what comes before them
+pub data IsUncut (before : List Token) : List Token → Type 0 where
+  one_token : (t : Token) → separates before t.kind ≡ false → IsUncut before (t ∷ [])
+  one_more : (xs : List Token) (t : Token) → IsUncut before xs → is_cut before xs t.kind ≡ false → IsUncut before (xs ++ t ∷ [])
 
--- ---- the pieces
+-- a piece is ended by a cut, or by the end of the tokens
+abbrev pub IsEnded : List Token → List Token → List Token → Type 0
+IsEnded before piece [] = ⊤
+IsEnded before piece (t ∷ ts) = is_cut before piece t.kind ≡ true
 
--- the pieces from here on: a separator closes the open one, a token that starts one closes it and begins another
-abbrev pub pieces_from : Behind → Open → List Token → List Piece
-pieces_from behind piece [] = closed piece
-pieces_from behind piece (t ∷ ts) =
-    if separates behind t.kind then closed piece ++ pieces_from (behind_next behind t.kind) (open_at (piece.to + 1)) ts
-    else (if starts behind piece t.kind then closed piece ++ pieces_from (behind_next behind t.kind) (open_with (open_at piece.to) t) ts
-    else pieces_from (behind_next behind t.kind) (open_with piece t) ts)
+-- the piece of these tokens, with what comes before it
+abbrev pub piece_of : List Token → List Token → Piece
+piece_of before xs = record { from = length before; to = length before + length xs; line = first_line xs }
 
-abbrev pub nothing_behind : Behind
-nothing_behind = record { depth = 0; goes_on = false; declarations = false; parameters = false; initializations = false }
+-- the pieces of the tokens that come behind others
+pub data ArePiecesBehind : List Token → List Token → List Piece → Type 0 where
+  no_token : (before : List Token) → ArePiecesBehind before [] []
+  separator : (before : List Token) (t : Token) (ts : List Token) (ps : List Piece) → separates before t.kind ≡ true → ArePiecesBehind (before ++ t ∷ []) ts ps → ArePiecesBehind before (t ∷ ts) ps
+  whole_piece : (before xs ts : List Token) (ps : List Piece) → IsUncut before xs → IsEnded before xs ts → ArePiecesBehind (before ++ xs) ts ps → ArePiecesBehind before (xs ++ ts) (piece_of before xs ∷ ps)
 
-abbrev pub pieces_of : List Token → List Piece
-pieces_of tokens = pieces_from nothing_behind (open_at 0) tokens
-
--- ---- what pieces are to the tokens
-
--- a token that can stand between pieces
-abbrev pub IsBetween : TokenKind → Type 0
-IsBetween Semicolon = Unit {0}
-IsBetween Newline = Unit {0}
-IsBetween _ = ⊥
-
--- the tokens from a place on are these pieces in order, each with a token, and nothing but separators between them
-pub data AreLaid : ℕ → List Token → List Piece → Type 0 where
-  laid_end : (at : ℕ) → AreLaid at [] []
-  laid_separator : (at : ℕ) (t : Token) (ts : List Token) (ps : List Piece) → IsBetween t.kind → AreLaid (at + 1) ts ps → AreLaid at (t ∷ ts) ps
-  laid_piece : (at to : ℕ) (t : Token) (xs ts : List Token) (ps : List Piece) → to ≡ at + length xs + 1 → AreLaid to ts ps → AreLaid at (t ∷ (xs ++ ts)) (record { from = at; to = to; line = t.line } ∷ ps)
+-- the pieces of the tokens of a source
+abbrev pub ArePieces : List Token → List Piece → Type 0
+ArePieces tokens ps = ArePiecesBehind [] tokens ps

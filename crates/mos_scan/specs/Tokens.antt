@@ -1,3 +1,5 @@
+-- Blanks, comments and tokens: which bytes are such as a whole, and what is wrong where neither begins.
+
 use Rattle.std.specs.Prelude.{ℕ, ◌+◌, ◌*◌, ◌-◌, Bool, true, false, not, ◌&&◌, ◌||◌, if◌then◌else◌, ◌==◌, nat_lt, List, [], ◌∷◌, length, take, drop, Option, Some, None, is_none}
 use Rattle.std.specs.List.{list_all, prefix_len}
 use Rattle.std.specs.Char.{is_ascii_digit}
@@ -6,9 +8,10 @@ use Rattle.mos_scan.specs.Words.{end_word, plain_word, is_refused}
 use Rattle.mos_scan.specs.declared.token.TokenKind.{TokenKind}
 use Rattle.mos_scan.specs.declared.token.TokenKind.TheVariants as t
 use Rattle.mos_scan.specs.Vocabulary.{symbols, pairs}
-use Rattle.mos_scan.specs.declared.front.Wrong.{Wrong}
-use Rattle.mos_scan.specs.declared.front.Wrong.TheVariants as w
+use Rattle.mos_text.specs.declared.kind.Kind.{Kind}
+use Rattle.mos_text.specs.declared.kind.Kind.TheVariants as k
 
+-- a value, where the test passes
 abbrev pub when : {A : Type 0} → Bool → A → Option A
 when true x = Some x
 when false x = None
@@ -37,12 +40,12 @@ gap_at (a ∷ bs) =
 
 -- the place behind the closing quote on this line, for bytes that begin at `at`;
 -- in double quotes a backslash and what follows it go together
-abbrev pub closing : ℕ → Bool → ℕ → List ℕ → Option ℕ
-closing quote escaped at [] = None
-closing quote escaped at (b ∷ bs) =
+abbrev pub closing_quote : ℕ → Bool → ℕ → List ℕ → Option ℕ
+closing_quote quote escaped at [] = None
+closing_quote quote escaped at (b ∷ bs) =
     if b == 10 then None
     else (if not escaped && b == quote then Some (at + 1)
-    else closing quote (not escaped && quote == 34 && b == 92) (at + 1) bs)
+    else closing_quote quote (not escaped && quote == 34 && b == 92) (at + 1) bs)
 
 -- the place of the first byte that makes no escape with the backslash before it
 abbrev pub bad_escape : Bool → ℕ → List ℕ → Option ℕ
@@ -51,17 +54,21 @@ bad_escape escaped at (b ∷ bs) = if escaped && not (is_escape b) then Some at 
 
 -- ---- tokens
 
+-- what stands beside the byte in a table
 abbrev pub look_up_one : List (ℕ × TokenKind) → ℕ → Option TokenKind
 look_up_one [] a = None
 look_up_one (k ∷ ks) a = if k.0 == a then Some k.1 else look_up_one ks a
 
+-- what stands beside the two bytes in a table
 abbrev pub look_up_two : List (ℕ × ℕ × TokenKind) → ℕ → ℕ → Option TokenKind
 look_up_two [] a b = None
 look_up_two (k ∷ ks) a b = if k.0 == a && k.1 == b then Some k.2 else look_up_two ks a b
 
+-- the symbol that a byte is
 unfoldable pub one_byte : ℕ → Option TokenKind
 one_byte a = look_up_one symbols a
 
+-- the symbol that two bytes are
 unfoldable pub two_bytes : ℕ → ℕ → Option TokenKind
 two_bytes a b = look_up_two pairs a b
 
@@ -71,10 +78,12 @@ symbol a [] = one_byte a
 symbol a (b ∷ []) = two_bytes a b
 symbol a (b ∷ c ∷ bs) = None
 
+-- an `end-` word, or else a word of letters, digits and `_` that is not left out
 abbrev pub end_or_plain : Option TokenKind → List ℕ → Option TokenKind
 end_or_plain (Some kind) text = Some kind
 end_or_plain None text = when (list_all is_word text && not (is_refused text)) (plain_word text)
 
+-- the number is this one
 abbrev pub is_length : Option ℕ → ℕ → Bool
 is_length None n = false
 is_length (Some m) n = m == n
@@ -85,7 +94,7 @@ kind_of [] = None
 kind_of (a ∷ bs) =
     if begins_name a then end_or_plain (end_word (a ∷ bs)) (a ∷ bs)
     else (if is_ascii_digit a then when (list_all is_ascii_digit bs) t.Number
-    else (if is_quote a then when (is_length (closing a false 0 bs) (length bs)) t.Text
+    else (if is_quote a then when (is_length (closing_quote a false 0 bs) (length bs)) t.Text
     else symbol a bs))
 
 -- ---- faults
@@ -96,40 +105,46 @@ number_from n [] = n
 number_from n (d ∷ ds) = number_from (n * 10 + (d - 48)) ds
 
 -- what is wrong with digits that these bytes follow
-abbrev pub spoils : List ℕ → Option Wrong
+abbrev pub spoils : List ℕ → Option Kind
 spoils [] = None
 spoils (b ∷ bs) =
-    if b == 101 || b == 69 then Some w.Real
-    else (if begins_name b then Some w.Char
-    else (if b == 46 && not (begins_with 46 bs) then Some w.Real else None))
+    if b == 101 || b == 69 then Some k.Real
+    else (if begins_name b then Some k.Char
+    else (if b == 46 && not (begins_with 46 bs) then Some k.Real else None))
 
-abbrev pub spoilt_or_large : Option Wrong → List ℕ → Option (Wrong × ℕ)
-spoilt_or_large (Some wrong) digits = Some (wrong, 0)
-spoilt_or_large None digits = when (nat_lt 2147483647 (number_from 0 digits)) (w.Number, 0)
+-- digits that are spoilt, or that are above the largest literal
+abbrev pub spoilt_or_large : Option Kind → List ℕ → Option (Kind × ℕ)
+spoilt_or_large (Some kind) digits = Some (kind, 0)
+spoilt_or_large None digits = when (nat_lt 2147483647 (number_from 0 digits)) (k.Number, 0)
 
-unfoldable pub number_fault : List ℕ → Option (Wrong × ℕ)
+-- the fault of digits
+unfoldable pub number_fault : List ℕ → Option (Kind × ℕ)
 number_fault text = spoilt_or_large (spoils (drop (prefix_len is_ascii_digit text) text)) (take (prefix_len is_ascii_digit text) text)
 
-abbrev pub escape_fault : Option ℕ → Option (Wrong × ℕ)
+-- a backslash that makes no escape is a wrong character
+abbrev pub escape_fault : Option ℕ → Option (Kind × ℕ)
 escape_fault None = None
-escape_fault (Some far) = Some (w.Char, far)
+escape_fault (Some offset) = Some (k.Char, offset)
 
 -- a text that is not closed is wrong at its quote, and else at the first backslash that makes no escape
-abbrev pub closed_or_wrong : ℕ → Option ℕ → List ℕ → Option (Wrong × ℕ)
-closed_or_wrong quote None bs = Some (w.Text, 0)
+abbrev pub closed_or_wrong : ℕ → Option ℕ → List ℕ → Option (Kind × ℕ)
+closed_or_wrong quote None bs = Some (k.Str, 0)
 closed_or_wrong quote (Some n) bs = if quote == 34 then escape_fault (bad_escape false 0 (take n bs)) else None
 
-unfoldable pub text_fault : ℕ → List ℕ → Option (Wrong × ℕ)
-text_fault quote bs = closed_or_wrong quote (closing quote false 0 bs) bs
+-- the fault of a text in quotes, behind its first quote
+unfoldable pub text_fault : ℕ → List ℕ → Option (Kind × ℕ)
+text_fault quote bs = closed_or_wrong quote (closing_quote quote false 0 bs) bs
 
-unfoldable pub word_fault : List ℕ → Option (Wrong × ℕ)
-word_fault bs = when (is_refused (take (prefix_len is_word bs) bs)) (w.Out, 0)
+-- a word that is left out is named
+unfoldable pub word_fault : List ℕ → Option (Kind × ℕ)
+word_fault bs = when (is_refused (take (prefix_len is_word bs) bs)) (k.Out (take (prefix_len is_word bs) bs), 0)
 
-abbrev pub symbol_fault : ℕ → List ℕ → Option (Wrong × ℕ)
-symbol_fault a bs = if a == 40 && begins_with 33 bs then Some (w.Comment, 0) else when (is_none (one_byte a)) (w.Char, 0)
+-- a comment that is not closed, or a byte that is no symbol
+abbrev pub symbol_fault : ℕ → List ℕ → Option (Kind × ℕ)
+symbol_fault a bs = if a == 40 && begins_with 33 bs then Some (k.Comment, 0) else when (is_none (one_byte a)) (k.Char, 0)
 
--- the fault of a place where no gap begins, and how far behind the place its first byte is
-unfoldable pub fault_at : List ℕ → Option (Wrong × ℕ)
+-- the fault of a place where no gap begins: its kind, and how far behind the place its first byte is
+unfoldable pub fault_at : List ℕ → Option (Kind × ℕ)
 fault_at [] = None
 fault_at (a ∷ bs) =
     if begins_name a then word_fault (a ∷ bs)

@@ -1,9 +1,10 @@
+-- The words and symbols of the language.
+
 use Rattle.std.specs.Prelude.{ℕ, List, [], ◌∷◌, codes}
 use Rattle.mos_scan.specs.declared.token.TokenKind.{TokenKind}
 use Rattle.mos_scan.specs.declared.token.TokenKind.TheVariants as t
 
--- The words and symbols of the language.
-
+-- words, each with its kind
 abbrev pub Table : Type 0
 Table = List (List ℕ × TokenKind)
 

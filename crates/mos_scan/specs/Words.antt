@@ -1,4 +1,6 @@
-use Rattle.std.specs.Prelude.{ℕ, ◌+◌, Bool, true, false, not, ◌&&◌, ◌||◌, if◌then◌else◌, ◌==◌, nat_le, List, [], ◌∷◌, length, take, drop, Option, Some, None, unwrap_or, codes}
+-- Which words are reserved, left out, or names.
+
+use Rattle.std.specs.Prelude.{ℕ, Bool, true, false, not, ◌&&◌, ◌||◌, if◌then◌else◌, ◌==◌, List, [], ◌∷◌, Option, Some, None, unwrap_or, codes}
 use Rattle.std.specs.List.{list_any}
 use Rattle.std.specs.Char.{is_ascii_lowercase, is_ascii_uppercase}
 use Rattle.std.specs.Str.{str_eq_ignore_ascii_case}
@@ -19,6 +21,7 @@ abbrev pub look_up : Table → List ℕ → Option TokenKind
 look_up [] word = None
 look_up (k ∷ ks) word = if same_word k.0 word then Some k.1 else look_up ks word
 
+-- the word stands in the list, in whatever case
 abbrev pub contains : List (List ℕ) → List ℕ → Bool
 contains [] word = false
 contains (k ∷ ks) word = if same_word k word then true else contains ks word
@@ -36,17 +39,3 @@ unfoldable pub end_word : List ℕ → Option TokenKind
 end_word (e ∷ n ∷ d ∷ dash ∷ tail) =
     if dash == 45 && same_word (e ∷ n ∷ d ∷ []) (codes "end") && in_one_case (e ∷ n ∷ d ∷ dash ∷ tail) then look_up ends tail else None
 end_word _ = None
-
--- whether the text begins with four bytes and this word, in one case
-abbrev pub is_front : List ℕ → List ℕ → Bool
-is_front tail text = nat_le (length tail + 4) (length text) && same_word tail (drop 4 (take (length tail + 4) text)) && in_one_case (take (length tail + 4) text)
-
-abbrev pub front_end : Table → List ℕ → Option (TokenKind × ℕ)
-front_end [] text = None
-front_end (k ∷ ks) text = if is_front k.0 text then Some (k.1, length k.0 + 4) else front_end ks text
-
--- the `end-` word with which a text begins, and its length
-unfoldable pub end_at : List ℕ → Option (TokenKind × ℕ)
-end_at (e ∷ n ∷ d ∷ dash ∷ tail) =
-    if dash == 45 && same_word (e ∷ n ∷ d ∷ []) (codes "end") then front_end ends (e ∷ n ∷ d ∷ dash ∷ tail) else None
-end_at _ = None

@@ -1,3 +1,4 @@
+//! The lexical fault of a source.
 use mos_text::{Kind, NoMemory};
 
 /// Why a source has no token list.

@@ -5,22 +5,22 @@
 #![tactic(auto)]
 
 mod character;
+mod context;
 mod fault;
-mod front;
 mod laws;
+mod lexeme;
+mod number;
 mod piece;
 mod reading;
 mod scanner;
 mod symbol;
 mod token;
+mod token_class;
 mod word;
 
 pub use fault::LexFault;
-pub use laws::pieces_have_short_words;
+pub use laws::{source_is_scanned_once, tokens_are_cut_once};
 pub use piece::{Piece, pieces};
 pub use reading::{Word, piece_words, words};
-pub use scanner::scan;
+pub use scanner::{line_behind, scan};
 pub use token::{Token, TokenKind};
-
-#[cfg(test)]
-mod tests;

@@ -1,14 +1,18 @@
+//! The tokens of a source, or its lexical fault.
 ghost use Rattle.std.specs.Prelude.{◌≡◌, ◌≤◌, ◌<◌, ◌+◌, ◌-◌, ◌^◌, ℕ, List, take, length, IfOk, IfErr, IsUtf8};
 ghost use Rattle.std.specs.List.{prefix_len};
 ghost use Rattle.mos_scan.specs.Characters.{is_word};
 ghost use Rattle.std.specs.Str.Lossy.{utf8_valid_len};
 ghost use Rattle.mos_scan.specs.Cuts as spec;
 ghost use Rattle.mos_scan.specs.Scans as scans;
+ghost use Rattle.mos_scan.specs.Scanning as scanning;
+ghost use Rattle.mos_scan.specs.Lexemes as lexemes;
+ghost use Rattle.mos_text.specs.Limits.{source_limit};
 ghost use Rattle.mos_scan.specs.declared.token.Token.{Token as token_type};
 ghost use Rattle.mos_text.specs.declared.kind.Kind.{Kind as kind_type};
 
 use crate::character::word_length;
-use crate::front::{Front, Wrong, look};
+use crate::lexeme::{Lexeme, LexicalError, next_lexeme};
 use crate::{LexFault, Token, TokenKind};
 use mos_text::{Kind, NoMemory, Text, TextFault};
 use std::alloc::Global;
@@ -18,8 +22,8 @@ use std::alloc::Global;
 enum Cut {
     /// All that is read, and the place behind it.
     Whole(Vec<Token>, u32),
-    /// The place up to which it is cut, and how far from there the fault is.
-    Stopped(u32, u32, Wrong),
+    /// The place up to which it is cut, and the fault with its offset from there.
+    Stopped(u32, u32, LexicalError),
 }
 
 fn is_end_model(kind: TokenKind) -> bool
@@ -39,23 +43,23 @@ fn newlines(text: &[u8]) -> usize
 }
 
 fn cut_all(alloc: Global, bytes: &[u8]) -> Result<Cut, NoMemory>
-    requires { length bytes.now ≤ 1048576 }
-    ensures { IfOk result (scans.IsCut bytes.now) }
+    requires { length bytes.now ≤ source_limit }
+    ensures { IfOk result (scanning.IsCut bytes.now) }
 {
     let mut tokens = Vec::new(alloc);
     let mut rest = bytes;
     let mut at: u32 = 0;
     let mut line: u32 = 1;
     while !rest.is_empty() {
-        match look(rest) {
-            Front::Fault(wrong, far) => return Ok(Cut::Stopped(at, far as u32, wrong)),
-            Front::Gap(length) => {
+        match next_lexeme(rest) {
+            Lexeme::Fault(error, offset) => return Ok(Cut::Stopped(at, offset as u32, error)),
+            Lexeme::Gap(length) => {
                 let (text, after) = rest.split_at(length);
                 line += newlines(text) as u32;
                 at += length as u32;
                 rest = after;
             }
-            Front::Token(kind, length) => {
+            Lexeme::Token(kind, length) => {
                 let (text, after) = rest.split_at(length);
                 let to = at + length as u32;
                 tokens.push(Token {
@@ -87,10 +91,10 @@ fn valid_length(bytes: &[u8]) -> usize
     }
 }
 
-/// The line of a place.
-fn line_of(before: &[u8]) -> u32
-    requires { length before.now ≤ 1048576 }
-    ensures { result ≡ 1 + spec.newlines before.now }
+/// The line that comes behind these bytes, from 1.
+pub fn line_behind(before: &[u8]) -> u32
+    requires { length before.now ≤ source_limit }
+    ensures { result ≡ spec.line_behind before.now }
 {
     newlines(before) as u32 + 1
 }
@@ -117,7 +121,7 @@ fn column_behind(column: u32, byte: u8) -> u32
 
 /// The column of a place.
 fn column_of(before: &[u8]) -> u32
-    requires { length before.now ≤ 1048576 }
+    requires { length before.now ≤ source_limit }
     ensures { result ≡ spec.column_from 1 before.now }
 {
     let mut column = 1;
@@ -128,13 +132,13 @@ fn column_of(before: &[u8]) -> u32
 }
 
 fn fault_at(bytes: &[u8], place: usize, kind: Kind) -> LexFault
-    requires room { length bytes.now ≤ 1048576 }
+    requires room { length bytes.now ≤ source_limit }
     requires within { place ≤ length bytes.now }
-    ensures { scans.IsAt result bytes.now place kind }
+    ensures { scanning.IsAt result bytes.now place kind }
 {
     let (before, _) = bytes.split_at(place);
     LexFault::At {
-        line: line_of(before),
+        line: line_behind(before),
         column: column_of(before),
         kind,
     }
@@ -160,30 +164,33 @@ fn word_at(alloc: Global, rest: &[u8]) -> Result<Text, NoMemory>
 }
 
 /// The kind of a fault at the front of the bytes.
-fn kind_of(alloc: Global, wrong: Wrong, rest: &[u8]) -> Result<Kind, NoMemory>
-    ensures { IfOk result (λ kind. kind ≡ spec.kind_of_fault wrong rest.now) }
+fn kind_of(alloc: Global, error: LexicalError, rest: &[u8]) -> Result<Kind, NoMemory>
+    ensures { IfOk result (λ kind. kind ≡ lexemes.kind_of_error rest.now error) }
 {
-    Ok(match wrong {
-        Wrong::Char => Kind::Char,
-        Wrong::Real => Kind::Real,
-        Wrong::Number => Kind::Number,
-        Wrong::Text => Kind::Str,
-        Wrong::Comment => Kind::Comment,
-        Wrong::Out => Kind::Out(word_at(alloc, rest)?),
+    Ok(match error {
+        LexicalError::Char => Kind::Char,
+        LexicalError::Real => Kind::Real,
+        LexicalError::Number => Kind::Number,
+        LexicalError::Text => Kind::Str,
+        LexicalError::Comment => Kind::Comment,
+        LexicalError::Out => Kind::Out(word_at(alloc, rest)?),
     })
 }
 
 /// The tokens of a source, up to the first `end-model`; nothing behind it is read.
 ///
-/// Refused is the first place that no token list gets over: bytes that are no UTF-8, or a byte, literal,
-/// text, comment or word that is no token.
+/// Refused is the first place that no token list gets over: bytes that are no UTF-8, or a byte,
+/// literal, text, comment or word that is no token.
 pub fn scan(alloc: Global, bytes: &[u8]) -> Result<Vec<Token>, LexFault>
-    requires { length bytes.now ≤ 1048576 }
+    requires { length bytes.now ≤ source_limit }
     ensures found { IfOk result (λ v. spec.IsTokenList bytes.now v.items) }
     ensures fault { IfErr result (scans.IsFaultOf bytes.now) }
-    ensures only { (tokens : List token_type) → spec.IsTokenList bytes.now tokens → IfOk result (λ v. v.items ≡ tokens) }
-    ensures taken { (tokens : List token_type) → spec.IsTokenList bytes.now tokens → IfErr result scans.IsNoMemory }
-    ensures named { (place : ℕ) (kind : kind_type) → spec.IsLexicalFault bytes.now place kind → scans.GivesFault result bytes.now place kind }
+    ensures only { (tokens : List token_type) → spec.IsTokenList bytes.now tokens
+        → IfOk result (λ v. v.items ≡ tokens) }
+    ensures taken { (tokens : List token_type) → spec.IsTokenList bytes.now tokens
+        → IfErr result scans.IsNoMemory }
+    ensures named { (place : ℕ) (kind : kind_type) → spec.IsLexicalFault bytes.now place kind
+        → scans.GivesFault result bytes.now place kind }
 
     // At most one token for each byte.
     ensures few { IfOk result (λ v. length v.items ≤ length bytes.now) }
@@ -192,7 +199,7 @@ pub fn scan(alloc: Global, bytes: &[u8]) -> Result<Vec<Token>, LexFault>
 }
 
 fn scan_all(alloc: Global, bytes: &[u8]) -> Result<Vec<Token>, LexFault>
-    requires { length bytes.now ≤ 1048576 }
+    requires { length bytes.now ≤ source_limit }
     ensures found { IfOk result (λ v. spec.IsTokenList bytes.now v.items) }
     ensures fault { IfErr result (scans.IsFaultOf bytes.now) }
 {
@@ -205,13 +212,13 @@ fn scan_all(alloc: Global, bytes: &[u8]) -> Result<Vec<Token>, LexFault>
                 Ok(tokens)
             }
         }
-        Cut::Stopped(at, far, wrong) => {
-            let place = at as usize + far as usize;
+        Cut::Stopped(at, offset, error) => {
+            let place = at as usize + offset as usize;
             if valid <= place {
                 return Err(fault_at(bytes, valid, Kind::Utf8));
             }
             let (_, rest) = bytes.split_at(at as usize);
-            let kind = kind_of(alloc, wrong, rest)?;
+            let kind = kind_of(alloc, error, rest)?;
             Err(fault_at(bytes, place, kind))
         }
     }

@@ -1,3 +1,4 @@
+//! Symbols of one byte and of two.
 ghost use Rattle.std.specs.Prelude.{◌≡◌};
 ghost use Rattle.mos_scan.specs.Tokens as spec;
 

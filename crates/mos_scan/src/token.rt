@@ -1,3 +1,5 @@
+//! Tokens and their kinds.
+
 /// What a token is.
 #[derive(Clone, Copy, Debug, PartialEq, Eq)]
 pub enum TokenKind {

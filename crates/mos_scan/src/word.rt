@@ -1,7 +1,9 @@
+//! Reserved words and words that are left out.
 ghost use Rattle.std.specs.Prelude.{◌≡◌, ◌≤◌, ◌+◌, length, map, IfSome, IsTrue};
 ghost use Rattle.std.specs.List.{list_any};
 ghost use Rattle.std.specs.Char.{is_ascii_lowercase, is_ascii_uppercase};
 ghost use Rattle.mos_scan.specs.Words as spec;
+ghost use Rattle.mos_scan.specs.Lexemes as model;
 ghost use Rattle.mos_scan.specs.Vocabulary.{reserved_words, refused_words, ends};
 
 use crate::TokenKind;
@@ -182,7 +184,8 @@ pub(crate) fn plain_word(word: &[u8]) -> TokenKind
 /// The first entry with which the text begins, `end-` aside, with all in one case.
 fn front_end(mut table: &[(&[u8], TokenKind)], text: &[u8]) -> Option<(TokenKind, usize)>
     requires { 4 ≤ length text.now }
-    ensures value { result ≡ spec.front_end (map (λ k. (k.0.now, k.1)) table.entry.now) text.now }
+    ensures value { result
+        ≡ model.front_end (map (λ k. (k.0.now, k.1)) table.entry.now) text.now }
     ensures within { IfSome result (λ x. (4 ≤ x.1) × (x.1 ≤ length text.now)) }
 {
     while let [entry, rest @ ..] = table {
@@ -196,7 +199,7 @@ fn front_end(mut table: &[(&[u8], TokenKind)], text: &[u8]) -> Option<(TokenKind
 
 fn is_front(tail: &[u8], text: &[u8]) -> bool
     requires { 4 ≤ length text.now }
-    ensures value { result ≡ spec.is_front tail.now text.now }
+    ensures value { result ≡ model.is_front tail.now text.now }
     ensures within { IsTrue result → length tail.now + 4 ≤ length text.now }
 {
     let room = text.len() - 4;
@@ -210,16 +213,16 @@ fn is_front(tail: &[u8], text: &[u8]) -> bool
 
 fn end_word(text: &[u8]) -> Option<(TokenKind, usize)>
     requires { 4 ≤ length text.now }
-    ensures value { result ≡ spec.front_end ends text.now }
+    ensures value { result ≡ model.front_end ends text.now }
     ensures within { IfSome result (λ x. (4 ≤ x.1) × (x.1 ≤ length text.now)) }
 {
     front_end(&ENDS, text)
 }
 
 /// The `end-` word with which the text begins, and its length.
-#[tactic(auto, unfolding(crate::specs::Words::end_at))]
+#[tactic(auto, unfolding(crate::specs::Lexemes::end_at))]
 pub(crate) fn end_at(text: &[u8]) -> Option<(TokenKind, usize)>
-    ensures value { result ≡ spec.end_at text.now }
+    ensures value { result ≡ model.end_at text.now }
     ensures within { IfSome result (λ x. (4 ≤ x.1) × (x.1 ≤ length text.now)) }
 {
     match text {

@@ -1,10 +1,10 @@
-use Rattle.std.proofs.Common.{◌≡◌, ℕ, suc, Bool, true, false, ◌||◌, ◌&&◌, List, ◌∷◌, refl, sym, ◌∙◌, subst}
-use Rattle.mos_form.specs.declared.form.Mould.{Mould}
-use Rattle.mos_form.specs.declared.form.Mould.TheVariants as m
-use Rattle.mos_form.specs.declared.form.PieceForm.{PieceForm}
-use Rattle.mos_source.specs.Productions.{Rule, one, block, ◌~◌, ◌or◌, optional, many, statement, statement_is, same, form_at, front, begins, Reading, took, broke, Reads, takes, breaks, opens, opens_not, breaks_first, goes_on, as_first, as_second, as_none, entered, missing, again, no_more, by_name}
-
 -- What is left of a production behind its first piece.
+
+use Rattle.std.proofs.Common.{◌≡◌, ℕ, suc, Bool, true, false, ◌||◌, ◌&&◌, List, ◌∷◌, refl, sym, ◌∙◌, subst}
+use Rattle.mos_tree.specs.declared.form.PieceKind.{PieceKind}
+use Rattle.mos_tree.specs.declared.form.PieceKind.TheVariants as m
+use Rattle.mos_tree.specs.declared.form.PieceForm.{PieceForm}
+use Rattle.mos_source.specs.Productions.{Rule, one, block, ◌~◌, ◌or◌, optional, many, statement, statement_is, same, form_at, front, begins, Reading, took, broke, Reads, takes, breaks, opens, opens_not, breaks_first, goes_on, as_first, as_second, as_none, entered, missing, again, no_more, by_name}
 
 pub data Left : Type 0 where
   refused : Left  -- the piece may not stand there
@@ -34,7 +34,7 @@ skips (many a) = true
 skips _ = false
 
 -- what is left, if it is known of statements
-abbrev pub behind_if : Left → Rule → Mould → Left
+abbrev pub behind_if : Left → Rule → PieceKind → Left
 behind_if named (one form) x = pick (same form x) whole refused
 behind_if named (block form inner) x = pick (same form x) (within inner) refused
 behind_if named (a ~ b) x = pick (begins a x) (chain (behind_if named a x) b) (pick (skips a) (behind_if named b x) refused)
@@ -43,7 +43,7 @@ behind_if named (optional a) x = pick (begins a x) (behind_if named a x) refused
 behind_if named (many a) x = pick (begins a x) (chain (behind_if named a x) (many a)) refused
 behind_if named statement x = named
 
-abbrev pub behind : Rule → Mould → Left
+abbrev pub behind : Rule → PieceKind → Left
 behind rule x = behind_if (behind_if refused statement_is x) rule x
 
 -- ---- reading on
@@ -115,11 +115,11 @@ skipped (optional a) depth pieces s h = missing a depth pieces h
 skipped (many a) depth pieces s h = no_more a depth pieces h
 skipped _ depth pieces s h = let no : ⊥ = cc in absurd no
 
-by-one : (test : Bool) (form : Mould) (depth : ℕ) (x : PieceForm) (xs : List PieceForm) (end : Reading) → same form (form_at depth x) ≡ test → ReadsLeft (pick test whole refused) depth xs end → Reads (one form) depth (x ∷ xs) end
+by-one : (test : Bool) (form : PieceKind) (depth : ℕ) (x : PieceForm) (xs : List PieceForm) (end : Reading) → same form (form_at depth x) ≡ test → ReadsLeft (pick test whole refused) depth xs end → Reads (one form) depth (x ∷ xs) end
 by-one true form depth x xs end h r = subst (λ z. Reads (one form) depth (x ∷ xs) z) (sym r) (takes form depth x xs h)
 by-one false form depth x xs end h r = absurd r
 
-by-block : (test : Bool) (form : Mould) (inner : Rule) (depth : ℕ) (x : PieceForm) (xs : List PieceForm) (end : Reading) → same form (form_at depth x) ≡ test → ReadsLeft (pick test (within inner) refused) depth xs end → Reads (block form inner) depth (x ∷ xs) end
+by-block : (test : Bool) (form : PieceKind) (inner : Rule) (depth : ℕ) (x : PieceForm) (xs : List PieceForm) (end : Reading) → same form (form_at depth x) ≡ test → ReadsLeft (pick test (within inner) refused) depth xs end → Reads (block form inner) depth (x ∷ xs) end
 by-block true form inner depth x xs end h r = opens form inner depth x xs end h r
 by-block false form inner depth x xs end h r = absurd r
 
@@ -137,15 +137,15 @@ by-sequence : (test : Bool) (t u : Left) (a b : Rule) (depth : ℕ) (x : PieceFo
 by-sequence true t u a b depth x xs end h go more r = by-split t a b depth x xs end go (split t b depth xs end r)
 by-sequence false t u a b depth x xs end h go more r = by-second (skips a) u a b depth x xs end refl h more r
 
-by-second-choice : (test : Bool) (t : Left) (a b : Rule) (depth : ℕ) (x : PieceForm) (xs : List PieceForm) (end : Reading) → begins a (form_at depth x) ≡ false → begins b (form_at depth x) ≡ test → AsPart t b depth x xs → ReadsLeft (pick test t refused) depth xs end → Reads (a or b) depth (x ∷ xs) end
+by-second-case : (test : Bool) (t : Left) (a b : Rule) (depth : ℕ) (x : PieceForm) (xs : List PieceForm) (end : Reading) → begins a (form_at depth x) ≡ false → begins b (form_at depth x) ≡ test → AsPart t b depth x xs → ReadsLeft (pick test t refused) depth xs end → Reads (a or b) depth (x ∷ xs) end
 unfolding AsPart
-by-second-choice true t a b depth x xs end h k go r = as_second a b depth (x ∷ xs) end h k (go end r)
-by-second-choice false t a b depth x xs end h k go r = absurd r
+by-second-case true t a b depth x xs end h k go r = as_second a b depth (x ∷ xs) end h k (go end r)
+by-second-case false t a b depth x xs end h k go r = absurd r
 
-by-choice : (test : Bool) (t u : Left) (a b : Rule) (depth : ℕ) (x : PieceForm) (xs : List PieceForm) (end : Reading) → begins a (form_at depth x) ≡ test → AsPart t a depth x xs → AsPart u b depth x xs → ReadsLeft (pick test t (pick (begins b (form_at depth x)) u refused)) depth xs end → Reads (a or b) depth (x ∷ xs) end
+by-case : (test : Bool) (t u : Left) (a b : Rule) (depth : ℕ) (x : PieceForm) (xs : List PieceForm) (end : Reading) → begins a (form_at depth x) ≡ test → AsPart t a depth x xs → AsPart u b depth x xs → ReadsLeft (pick test t (pick (begins b (form_at depth x)) u refused)) depth xs end → Reads (a or b) depth (x ∷ xs) end
 unfolding AsPart
-by-choice true t u a b depth x xs end h go more r = as_first a b depth (x ∷ xs) end h (go end r)
-by-choice false t u a b depth x xs end h go more r = by-second-choice (begins b (form_at depth x)) u a b depth x xs end h refl more r
+by-case true t u a b depth x xs end h go more r = as_first a b depth (x ∷ xs) end h (go end r)
+by-case false t u a b depth x xs end h go more r = by-second-case (begins b (form_at depth x)) u a b depth x xs end h refl more r
 
 by-optional : (test : Bool) (t : Left) (a : Rule) (depth : ℕ) (x : PieceForm) (xs : List PieceForm) (end : Reading) → begins a (form_at depth x) ≡ test → AsPart t a depth x xs → ReadsLeft (pick test t refused) depth xs end → Reads (optional a) depth (x ∷ xs) end
 unfolding AsPart
@@ -161,7 +161,7 @@ unfolding AsPart AsStatement
 by-part named (one form) depth x xs go end r = by-one (same form (form_at depth x)) form depth x xs end refl r
 by-part named (block form inner) depth x xs go end r = by-block (same form (form_at depth x)) form inner depth x xs end refl r
 by-part named (a ~ b) depth x xs go end r = by-sequence (begins a (form_at depth x)) (behind_if named a (form_at depth x)) (behind_if named b (form_at depth x)) a b depth x xs end refl (by-part named a depth x xs go) (by-part named b depth x xs go) r
-by-part named (a or b) depth x xs go end r = by-choice (begins a (form_at depth x)) (behind_if named a (form_at depth x)) (behind_if named b (form_at depth x)) a b depth x xs end refl (by-part named a depth x xs go) (by-part named b depth x xs go) r
+by-part named (a or b) depth x xs go end r = by-case (begins a (form_at depth x)) (behind_if named a (form_at depth x)) (behind_if named b (form_at depth x)) a b depth x xs end refl (by-part named a depth x xs go) (by-part named b depth x xs go) r
 by-part named (optional a) depth x xs go end r = by-optional (begins a (form_at depth x)) (behind_if named a (form_at depth x)) a depth x xs end refl (by-part named a depth x xs go) r
 by-part named (many a) depth x xs go end r = by-many (begins a (form_at depth x)) (behind_if named a (form_at depth x)) a depth x xs end refl (by-part named a depth x xs go) r
 by-part named statement depth x xs go end r = go end r
@@ -173,7 +173,7 @@ read-on a depth x xs end r = by-part (behind_if refused statement_is (form_at de
 
 -- ---- a piece that may not stand there
 
-abbrev pub may_begin : Rule → Mould → Bool
+abbrev pub may_begin : Rule → PieceKind → Bool
 may_begin (a ~ b) x = may_begin a x || (skips a && may_begin b x)
 may_begin a x = begins a x
 
@@ -182,16 +182,16 @@ neither false false h = (refl, refl)
 neither false true h = let no : ⊥ = cc in absurd no
 neither true b h = let no : ⊥ = cc in absurd no
 
-statement-begins : (x : Mould) → begins statement x ≡ begins statement_is x
+statement-begins : (x : PieceKind) → begins statement x ≡ begins statement_is x
 statement-begins m.Unknown = refl
 statement-begins _ = refl
 
-breaks-choice : (a b : Rule) (depth : ℕ) (pieces : List PieceForm) → begins (a or b) (front depth pieces) ≡ false → Reads (a or b) depth pieces (broke pieces)
-breaks-choice a b depth pieces h =
+breaks-case : (a b : Rule) (depth : ℕ) (pieces : List PieceForm) → begins (a or b) (front depth pieces) ≡ false → Reads (a or b) depth pieces (broke pieces)
+breaks-case a b depth pieces h =
     let both : (begins a (front depth pieces) ≡ false) × (begins b (front depth pieces) ≡ false) = neither (begins a (front depth pieces)) (begins b (front depth pieces)) h in
     as_none a b depth pieces both.0 both.1
 
-begins-too : (a : Rule) (x : Mould) → may_begin a x ≡ false → begins a x ≡ false
+begins-too : (a : Rule) (x : PieceKind) → may_begin a x ≡ false → begins a x ≡ false
 begins-too (a ~ b) x h =
     let both : (may_begin a x ≡ false) × (skips a && may_begin b x ≡ false) = neither (may_begin a x) (skips a && may_begin b x) h in
     begins-too a x both.0
@@ -228,7 +228,7 @@ read-none (block form inner) depth pieces f h = opens_not form inner depth piece
 read-none (a ~ b) depth pieces f h =
     let both : (may_begin a (front depth pieces) ≡ false) × (skips a && may_begin b (front depth pieces) ≡ false) = neither (may_begin a (front depth pieces)) (skips a && may_begin b (front depth pieces)) h in
     breaks-sequence (skips a) a b depth pieces refl both.0 both.1 f (λ g k. read-none a depth pieces g k) (λ g k. read-none b depth pieces g k)
-read-none (a or b) depth pieces f h = breaks-choice a b depth pieces h
+read-none (a or b) depth pieces f h = breaks-case a b depth pieces h
 read-none (optional a) depth pieces f h = let no : ⊥ = cc in absurd no
 read-none (many a) depth pieces f h = let no : ⊥ = cc in absurd no
-read-none statement depth pieces f h = by_name depth pieces (broke pieces) (breaks-choice _ _ depth pieces (sym (statement-begins (front depth pieces)) ∙ h))
+read-none statement depth pieces f h = by_name depth pieces (broke pieces) (breaks-case _ _ depth pieces (sym (statement-begins (front depth pieces)) ∙ h))

@@ -1,18 +1,20 @@
+-- The productions name the faulty piece.
+
 use Rattle.std.proofs.Common.{◌≡◌, ◌≢◌, Bool, true, false, inl, inr, List, [], ◌∷◌, ◌++◌, length, Option, Some, None, Ok, refl, sym, ◌∙◌, ap, subst, arith}
 use Rattle.std.proofs.lemmas.List.{append_cancel_left, append_cancel_right}
 use Rattle.mos_text.specs.declared.kind.Kind.{Kind}
 use Rattle.mos_text.specs.declared.kind.Kind.TheVariants as kind
 use Rattle.mos_tree.specs.declared.source.Tree.{Tree}
-use Rattle.mos_form.specs.declared.form.Mould.{Mould}
-use Rattle.mos_form.specs.declared.form.Mould.TheVariants as m
-use Rattle.mos_form.specs.declared.form.PieceForm.{PieceForm}
+use Rattle.mos_tree.specs.declared.form.PieceKind.{PieceKind}
+use Rattle.mos_tree.specs.declared.form.PieceKind.TheVariants as m
+use Rattle.mos_tree.specs.declared.form.PieceForm.{PieceForm}
 use Rattle.mos_source.specs.declared.frame.Frame.TheVariants as g
 use Rattle.mos_source.specs.declared.frame.Part.{Part}
 use Rattle.mos_source.specs.declared.frame.Part.TheVariants as part
 use Rattle.mos_source.specs.declared.place.Place.TheVariants as p
 use Rattle.mos_source.specs.declared.place.Role.{Role}
 use Rattle.mos_source.specs.declared.place.Role.TheVariants.{Opens}
-use Rattle.mos_form.specs.Forms.{mould_of}
+use Rattle.mos_tree.specs.Forms.{piece_kind_of}
 use Rattle.mos_source.specs.Limits.{own_limit}
 use Rattle.mos_source.specs.Places.{role_at}
 use Rattle.mos_source.specs.Sources.{Source, IsSource, tree_of, limit}
@@ -30,11 +32,9 @@ use Rattle.mos_source.proofs.Reading.{whole, one-fault, not-both}
 use Rattle.mos_source.proofs.OneWay.{one-way, took-broke, took-same}
 use Rattle.mos_source.proofs.Behind.{read-none}
 use Rattle.mos_source.proofs.Waits.{opened_place, is_end}
-use Rattle.mos_source.proofs.Counted.{unknown-nowhere, counts-own, counts-fits, counts-other, not-known, as-mould, Fails, fails-own, fails-none}
+use Rattle.mos_source.proofs.Counted.{unknown-nowhere, counts-own, counts-fits, counts-other, not-known, as-kind, Fails, fails-own, fails-none}
 use Rattle.mos_source.proofs.Shapes.{At, opened-at, is_source}
 use Rattle.mos_source.proofs.Descent.{Live, ReadAt, broken, taken, Reader, led, on, none-begins, read-block}
-
--- The productions name the faulty piece.
 
 -- pieces read by the productions and by the reader
 data ReadSource (pieces : List PieceForm) : Type 0 where
@@ -44,19 +44,19 @@ data ReadSource (pieces : List PieceForm) : Type 0 where
 
 -- ---- the first piece
 
-start-form : (open_ : Bool) (x : PieceForm) → own_limit x.form ≡ None → opens_block (mould_of x.form) ≡ open_ → form_at 0 x ≡ mould_of x.form
+start-form : (open_ : Bool) (x : PieceForm) → own_limit x.form ≡ None → opens_block (piece_kind_of x.form) ≡ open_ → form_at 0 x ≡ piece_kind_of x.form
 start-form true x o b = counts-fits 0 x o b refl
 start-form false x o b = counts-other 0 x o b
 
 start-fails : (own : Option Kind) (x : PieceForm) → own_limit x.form ≡ own → role_at p.Start (form_at 0 x) ≡ None → Fails [] x
 start-fails (Some found) x o r = fails-own [] x found o
-start-fails None x o r = fails-none [] x (as-mould p.Start 0 x None (start-form (opens_block (mould_of x.form)) x o refl) r)
+start-fails None x o r = fails-none [] x (as-kind p.Start 0 x None (start-form (opens_block (piece_kind_of x.form)) x o refl) r)
 
 start-own : (own : Option Kind) (x : PieceForm) (role : Role) → own_limit x.form ≡ own → role_at p.Start (form_at 0 x) ≡ Some role → own_limit x.form ≡ None
 start-own (Some found) x role o r = absurd (not-known p.Start (form_at 0 x) role (counts-own 0 x found o) r)
 start-own None x role o r = o
 
-start-model : (x : Mould) (role : Role) → role_at p.Start x ≡ Some role → (x ≡ m.Model) × (role ≡ Opens)
+start-model : (x : PieceKind) (role : Role) → role_at p.Start x ≡ Some role → (x ≡ m.Model) × (role ≡ Opens)
 unfolding role_at
 start-model m.Model role r = (refl, cc)
 start-model _ role r = let no : ⊥ = cc in absurd no
@@ -67,7 +67,7 @@ ended : (x : Part) (next : Stack) → is_source x ≡ true → add_part x [] ≡
 ended (part.Source tree) next k e = (tree, cc)
 ended _ next k e = let no : ⊥ = cc in absurd no
 
-end-nowhere : (x : Mould) → role_at p.End x ≡ None
+end-nowhere : (x : PieceKind) → role_at p.End x ≡ None
 unfolding role_at
 end-nowhere m.Unknown = refl
 end-nowhere _ = refl
@@ -76,7 +76,7 @@ behind-source : (pieces : List PieceForm) (tree : Tree) (left : List PieceForm) 
 unfolding Fails
 behind-source pieces tree [] reads runs = ends tree reads runs
 behind-source pieces tree (x ∷ xs) reads runs =
-    let failed : Fails (g.End tree ∷ []) x = fails-none (g.End tree ∷ []) x (end-nowhere (mould_of x.form)) in
+    let failed : Fails (g.End tree ∷ []) x = fails-none (g.End tree ∷ []) x (end-nowhere (piece_kind_of x.form)) in
     goes_on x xs failed.0 reads (runs ∙ rw failed.1 refl)
 
 -- ---- the whole source
@@ -92,8 +92,8 @@ from-model : (x : PieceForm) (xs : List PieceForm) → form_at 0 x ≡ m.Model �
 unfolding Reader Live
 from-model x xs h r =
     let own : own_limit x.form ≡ None = start-own (own_limit x.form) x Opens refl r in
-    let is : form_at 0 x ≡ mould_of x.form = start-form (opens_block (mould_of x.form)) x own refl in
-    let here : role_at p.Start (mould_of x.form) ≡ Some Opens = as-mould p.Start 0 x (Some Opens) is r in
+    let is : form_at 0 x ≡ piece_kind_of x.form = start-form (opens_block (piece_kind_of x.form)) x own refl in
+    let here : role_at p.Start (piece_kind_of x.form) ≡ Some Opens = as-kind p.Start 0 x (Some Opens) is r in
     let goes : (next : Stack) × (enter Opens x.line x.form [] ≡ some_stack next) = progress limit [] [] x.line x.form Opens refl here own in
     let stepped : step limit [] x ≡ Ok goes.0 = step-role limit [] x Opens goes.0 here own refl goes.1 in
     let at : At [] (opened_place (form_at 0 x)) goes.0 = subst (λ z. At [] (opened_place z) goes.0) (sym is) (opened-at x.line x.form [] goes.0 goes.1) in

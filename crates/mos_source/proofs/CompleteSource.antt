@@ -1,3 +1,5 @@
+-- Each source as it is written is read.
+
 use Rattle.std.proofs.Common.{◌≡◌, ℕ, ◌+◌, ◌≤◌, true, List, [], ◌∷◌, ◌++◌, length, Option, Some, None, Ok, refl, sym, ◌∙◌, ap, arith, map}
 use Rattle.std.proofs.lemmas.List.{append_assoc, append-nil}
 use Rattle.std.proofs.lemmas.Slice.Eq.{bytes_eq-Decides}
@@ -18,20 +20,20 @@ use Rattle.mos_tree.specs.declared.source.Routine.{Routine}
 use Rattle.mos_tree.specs.declared.source.Top.{Top}
 use Rattle.mos_tree.specs.declared.source.Top.TheVariants as t
 use Rattle.mos_tree.specs.declared.statement.Statement.{Statement}
-use Rattle.mos_form.specs.declared.form.Form.TheVariants as f
-use Rattle.mos_form.specs.declared.form.Keyword.TheVariants as keyword
-use Rattle.mos_form.specs.declared.form.Mould.TheVariants as m
-use Rattle.mos_form.specs.declared.form.PieceForm.{PieceForm}
+use Rattle.mos_tree.specs.declared.form.Form.TheVariants as f
+use Rattle.mos_tree.specs.declared.form.Keyword.TheVariants as keyword
+use Rattle.mos_tree.specs.declared.form.PieceKind.TheVariants as m
+use Rattle.mos_tree.specs.declared.form.PieceForm.{PieceForm}
 use Rattle.mos_source.specs.declared.frame.Frame.{Frame}
 use Rattle.mos_source.specs.declared.frame.Frame.TheVariants as g
 use Rattle.mos_source.specs.declared.frame.Part.TheVariants as part
 use Rattle.mos_source.specs.declared.place.Place.TheVariants as p
-use Rattle.mos_source.specs.declared.place.Role.TheVariants.{Opens, GoesOn, Stands, Closes}
-use Rattle.mos_form.specs.Forms.{piece, routine_mould}
+use Rattle.mos_source.specs.declared.place.Role.TheVariants.{Opens, Continues, StandsAlone, Closes}
+use Rattle.mos_tree.specs.Forms.{piece, routine_kind}
 use Rattle.mos_source.specs.Limits.{module_limit, own_limit, is_jobs}
 use Rattle.mos_source.specs.Places.{takes_statements, role_at}
 use Rattle.mos_source.specs.Statements.{spell, tree}
-use Rattle.mos_source.specs.Sources.{Items, no_item, constant, variables, record_type, Parts, no_part, declares, states, Tops, no_top, sets, declares_top, defines, announces, states_top, Source, spell_parameter, spell_field, spell_items, spell_declarations, spell_parts, heading_form, end_form, spell_tops, no_implicit, jobs_module, spell_head, spell_source, depth_items, depth_parts, depth_tops, AreModules, IsAllowed, AreAllowed, items_of, declared, parts_of, tops_of, tree_of}
+use Rattle.mos_source.specs.Sources.{Items, no_item, constant, variables, record_type, Parts, no_part, declares, states, Tops, no_top, sets, declares_top, defines, announces, states_top, Source, spell_parameter, spell_field, spell_items, spell_declarations, spell_parts, heading_form, end_form, spell_tops, no_implicit, jobs_module, spell_head, spell_source, depth_items, depth_parts, depth_tops, AreModules, IsAllowed, AreAllowed, items_of, declaration_block, parts_of, tops_of, tree_of}
 use Rattle.mos_source.specs.Machine.{Stack, frame_place, routine_place, place_of, with_top, add_statement, add_other, step, step_as, run, done}
 use Rattle.mos_source.proofs.Ends.{ends-declarations, ends-parameters, ends-routine, end-limit}
 use Rattle.mos_source.proofs.Steps.{step-role, run-step, run-open, one-end}
@@ -64,17 +66,17 @@ modules-allowed (x ∷ xs) a =
 pub option-allowed : own_limit (f.Options no_implicit) ≡ None
 option-allowed = refl
 
-heads-role : role_at p.Heads m.Uses ≡ Some GoesOn
+heads-role : role_at p.Heads m.Uses ≡ Some Continues
 unfolding role_at
 heads-role = refl
 
-options-role : role_at p.Heads m.Options ≡ Some GoesOn
+options-role : role_at p.Heads m.Options ≡ Some Continues
 unfolding role_at
 options-role = refl
 
 head-step : (deep : ℕ) (k : Stack) (l : ℕ) (name : ModelName) (before : List Head) (x : Head) → IsAllowed x → step deep (g.Heads l name before ∷ k) (spell_head x) ≡ Ok (g.Heads l name (before ++ x ∷ []) ∷ k)
-head-step deep k l name before (h.Uses line modules) a = step-role deep (g.Heads l name before ∷ k) (piece line (f.Uses modules)) GoesOn (g.Heads l name (before ++ h.Uses line modules ∷ []) ∷ k) heads-role (modules-allowed modules a) refl refl
-head-step deep k l name before (h.NoImplicit line) a = step-role deep (g.Heads l name before ∷ k) (piece line (f.Options no_implicit)) GoesOn (g.Heads l name (before ++ h.NoImplicit line ∷ []) ∷ k) options-role option-allowed refl refl
+head-step deep k l name before (h.Uses line modules) a = step-role deep (g.Heads l name before ∷ k) (piece line (f.Uses modules)) Continues (g.Heads l name (before ++ h.Uses line modules ∷ []) ∷ k) heads-role (modules-allowed modules a) refl refl
+head-step deep k l name before (h.NoImplicit line) a = step-role deep (g.Heads l name before ∷ k) (piece line (f.Options no_implicit)) Continues (g.Heads l name (before ++ h.NoImplicit line ∷ []) ∷ k) options-role option-allowed refl refl
 
 heads-read : (deep : ℕ) (k : Stack) (l : ℕ) (name : ModelName) (before : List Head) (xs : List Head) (rest : List PieceForm) → AreAllowed xs → run deep (g.Heads l name before ∷ k) (map spell_head xs ++ rest) ≡ run deep (g.Heads l name (before ++ xs) ∷ k) rest
 heads-read deep k l name before [] rest a = ap (λ ys. run deep (g.Heads l name ys ∷ k) rest) (sym (append-nil before))
@@ -119,7 +121,7 @@ items-read deep (record_type xs line name fields end) k l rest h =
     ∙ run-step deep (g.Record line name fields ∷ g.Declarations l (items_of xs) ∷ k) (g.Declarations l (items_of xs ++ i.Record line name fields ∷ []) ∷ k) (piece end (f.Keyword keyword.EndRecord)) rest (record-step deep k l (items_of xs) line name fields end)
 
 -- a block of `declarations`, where one may stand
-declarations-read : (deep : ℕ) (line : ℕ) (xs : Items) (end : ℕ) (k next : Stack) (rest : List PieceForm) → role_at (place_of k) m.Declarations ≡ Some Opens → 1 + depth_items xs + length k ≤ deep + 1 → add_other (part.Declared (declared line xs)) k ≡ Some next → run deep k (spell_declarations line xs end ++ rest) ≡ run deep next rest
+declarations-read : (deep : ℕ) (line : ℕ) (xs : Items) (end : ℕ) (k next : Stack) (rest : List PieceForm) → role_at (place_of k) m.Declarations ≡ Some Opens → 1 + depth_items xs + length k ≤ deep + 1 → add_other (part.Declared (declaration_block line xs)) k ≡ Some next → run deep k (spell_declarations line xs end ++ rest) ≡ run deep next rest
 declarations-read deep line xs end k next rest role h e =
     run-open deep k line (f.Keyword keyword.Declarations) (g.Declarations line []) ((spell_items xs ++ piece end (f.Keyword keyword.EndDeclarations) ∷ []) ++ rest) role refl refl (omega (arith, h))
     ∙ ap (run deep (g.Declarations line [] ∷ k)) (one-end (spell_items xs) (piece end (f.Keyword keyword.EndDeclarations)) rest)
@@ -142,7 +144,7 @@ parts-read deep no_part k heading rest h = refl
 parts-read deep (declares xs line items end) k heading rest h =
     ap (run deep (g.Routine heading [] ∷ k)) (append_assoc (spell_parts xs) (spell_declarations line items end) rest)
     ∙ parts-read deep xs k heading (spell_declarations line items end ++ rest) (omega (arith, h))
-    ∙ declarations-read deep line items end (g.Routine heading (parts_of xs) ∷ k) (g.Routine heading (parts_of xs ++ r.Declarations (declared line items) ∷ []) ∷ k) rest (routine-declares heading.result) (omega (arith, h)) refl
+    ∙ declarations-read deep line items end (g.Routine heading (parts_of xs) ∷ k) (g.Routine heading (parts_of xs ++ r.Declarations (declaration_block line items) ∷ []) ∷ k) rest (routine-declares heading.result) (omega (arith, h)) refl
 parts-read deep (states xs w) k heading rest h =
     ap (run deep (g.Routine heading [] ∷ k)) (append_assoc (spell_parts xs) (spell w) rest)
     ∙ parts-read deep xs k heading (spell w ++ rest) (omega (arith, h))
@@ -185,14 +187,14 @@ unfolding role_at
 role-declarations l name heads [] = refl
 role-declarations l name heads (x ∷ xs) = refl
 
-role-routine : (l : ℕ) (name : ModelName) (heads : List Head) (xs : List Top) (typ : Option BaseType) → role_at (frame_place (model l name heads xs)) (routine_mould typ) ≡ Some Opens
+role-routine : (l : ℕ) (name : ModelName) (heads : List Head) (xs : List Top) (typ : Option BaseType) → role_at (frame_place (model l name heads xs)) (routine_kind typ) ≡ Some Opens
 unfolding role_at
 role-routine l name heads [] None = refl
 role-routine l name heads [] (Some typ) = refl
 role-routine l name heads (x ∷ xs) None = refl
 role-routine l name heads (x ∷ xs) (Some typ) = refl
 
-role-forward : (l : ℕ) (name : ModelName) (heads : List Head) (xs : List Top) → role_at (frame_place (model l name heads xs)) m.Forward ≡ Some Stands
+role-forward : (l : ℕ) (name : ModelName) (heads : List Head) (xs : List Top) → role_at (frame_place (model l name heads xs)) m.Forward ≡ Some StandsAlone
 unfolding role_at
 role-forward l name heads [] = refl
 role-forward l name heads (x ∷ xs) = refl
@@ -216,7 +218,7 @@ tops-read deep (declares_top xs line items end) l name heads rest h =
     let k : Stack = model l name heads (tops_of xs) ∷ [] in
     ap (run deep (g.Heads l name heads ∷ [])) (append_assoc (spell_tops xs) (spell_declarations line items end) rest)
     ∙ tops-read deep xs l name heads (spell_declarations line items end ++ rest) (omega (arith, h))
-    ∙ declarations-read deep line items end k (model l name heads (tops_of xs ++ t.Declarations (declared line items) ∷ []) ∷ []) rest (role-declarations l name heads (tops_of xs)) (omega (arith, h)) (model-declares l name heads (tops_of xs) (declared line items) [])
+    ∙ declarations-read deep line items end k (model l name heads (tops_of xs ++ t.Declarations (declaration_block line items) ∷ []) ∷ []) rest (role-declarations l name heads (tops_of xs)) (omega (arith, h)) (model-declares l name heads (tops_of xs) (declaration_block line items) [])
 tops-read deep (defines xs heading parts end) l name heads rest h =
     let k : Stack = model l name heads (tops_of xs) ∷ [] in
     let routine : Routine = record { heading = heading; parts = parts_of parts } in
@@ -232,7 +234,7 @@ tops-read deep (announces xs heading) l name heads rest h =
     let next : Stack = model l name heads (tops_of xs ++ t.Forward heading ∷ []) ∷ [] in
     ap (run deep (g.Heads l name heads ∷ [])) (one-end (spell_tops xs) x rest)
     ∙ tops-read deep xs l name heads (x ∷ rest) h
-    ∙ run-step deep k next x rest (step-role deep k x Stands next (role-forward l name heads (tops_of xs)) refl refl (model-others l name heads (tops_of xs) (t.Forward heading) []))
+    ∙ run-step deep k next x rest (step-role deep k x StandsAlone next (role-forward l name heads (tops_of xs)) refl refl (model-others l name heads (tops_of xs) (t.Forward heading) []))
 tops-read deep (states_top xs w) l name heads rest h =
     let k : Stack = model l name heads (tops_of xs) ∷ [] in
     ap (run deep (g.Heads l name heads ∷ [])) (append_assoc (spell_tops xs) (spell w) rest)

@@ -1,3 +1,5 @@
+-- What is open can be closed.
+
 use Rattle.std.proofs.Common.{◌≡◌, ℕ, zero, suc, ◌≤◌, true, List, [], ◌∷◌, ◌++◌, length, Option, Some, None, Ok, refl, sym, arith}
 use Rattle.mos_tree.specs.declared.declaration.BaseType.{BaseType}
 use Rattle.mos_tree.specs.declared.declaration.Item.{Item}
@@ -15,28 +17,26 @@ use Rattle.mos_tree.specs.declared.source.Tree.{Tree}
 use Rattle.mos_tree.specs.declared.statement.Alternative.{Alternative}
 use Rattle.mos_tree.specs.declared.statement.Statement.{Statement}
 use Rattle.mos_tree.specs.declared.statement.Statement.TheVariants as s
-use Rattle.mos_form.specs.declared.form.Form.TheVariants as f
-use Rattle.mos_form.specs.declared.form.Guard.TheVariants as guard
-use Rattle.mos_form.specs.declared.form.Keyword.TheVariants as keyword
-use Rattle.mos_form.specs.declared.form.Simple.TheVariants as simple
-use Rattle.mos_form.specs.declared.form.Mould.TheVariants as m
-use Rattle.mos_form.specs.declared.form.PieceForm.{PieceForm}
+use Rattle.mos_tree.specs.declared.form.Form.TheVariants as f
+use Rattle.mos_tree.specs.declared.form.ConditionKeyword.TheVariants as conditional
+use Rattle.mos_tree.specs.declared.form.Keyword.TheVariants as keyword
+use Rattle.mos_tree.specs.declared.form.Simple.TheVariants as simple
+use Rattle.mos_tree.specs.declared.form.PieceKind.TheVariants as m
+use Rattle.mos_tree.specs.declared.form.PieceForm.{PieceForm}
 use Rattle.mos_source.specs.declared.frame.Frame.TheVariants as g
 use Rattle.mos_source.specs.declared.frame.Part.TheVariants as part
 use Rattle.mos_source.specs.declared.place.Place.TheVariants as p
-use Rattle.mos_source.specs.declared.place.Role.TheVariants.{Opens, Stands, Closes}
-use Rattle.mos_form.specs.Forms.{piece}
+use Rattle.mos_source.specs.declared.place.Role.TheVariants.{Opens, StandsAlone, Closes}
+use Rattle.mos_tree.specs.Forms.{piece}
 use Rattle.mos_source.specs.Places.{takes_statements, role_at}
 use Rattle.mos_source.specs.Statements.{arm_of, alternative_of}
 use Rattle.mos_source.specs.Sources.{end_form}
 use Rattle.mos_source.specs.Machine.{Stack, routine_place, place_of, add_statement, add_other, step, step_as}
 use Rattle.mos_source.proofs.Steps.{role-of-statement, block-fits, step-role, one-end}
-use Rattle.mos_source.proofs.Ends.{ends-parameters, ends-declarations, ends-record, ends-arm, ends-otherwise, ends-choice, ends-choice-otherwise, ends-repeated, ends-grouped, ends-labelled, ends-routine, end-limit}
+use Rattle.mos_source.proofs.Ends.{ends-parameters, ends-declarations, ends-record, ends-arm, ends-otherwise, ends-case, ends-case-else, ends-repeat, ends-do, ends-initializations, ends-routine, end-limit}
 use Rattle.mos_source.proofs.Held.{is_model, takes_declarations, is_declarations, Holds}
 use Rattle.mos_source.proofs.Sound.{some_stack, respelled}
 use Rattle.mos_source.proofs.SoundStep.{sound}
-
--- What is open can be closed.
 
 -- ---- the innermost block takes what may stand there
 
@@ -51,18 +51,18 @@ statement-adds deep [] ps held takes x = let no : ⊥ = cc in absurd no
 statement-adds deep (g.Heads l name hs ∷ k) ps held takes x = record { next = g.Tops l name hs (t.Statement x ∷ []) ∷ k; is = refl; small = omega arith }
 statement-adds deep (g.Tops l name hs xs ∷ k) ps held takes x = record { next = g.Tops l name hs (xs ++ t.Statement x ∷ []) ∷ k; is = refl; small = omega arith }
 statement-adds deep (g.Routine heading xs ∷ k) ps held takes x = record { next = g.Routine heading (xs ++ r.Statement x ∷ []) ∷ k; is = refl; small = omega arith }
-statement-adds deep (g.Arm first arms l c body ∷ k) ps held takes x = record { next = g.Arm first arms l c (body ++ x ∷ []) ∷ k; is = refl; small = omega arith }
-statement-adds deep (g.Otherwise first arms body ∷ k) ps held takes x = record { next = g.Otherwise first arms (body ++ x ∷ []) ∷ k; is = refl; small = omega arith }
-statement-adds deep (g.Chosen l v xs at labels ∷ k) ps held takes x = record { next = g.Choice l v (xs ++ alternative_of at labels x ∷ []) ∷ k; is = refl; small = omega arith }
-statement-adds deep (g.ChoiceOtherwise l v xs body ∷ k) ps held takes x = record { next = g.ChoiceOtherwise l v xs (body ++ x ∷ []) ∷ k; is = refl; small = omega arith }
-statement-adds deep (g.Over l index ∷ k) ps held takes x =
+statement-adds deep (g.IfArm first arms l c body ∷ k) ps held takes x = record { next = g.IfArm first arms l c (body ++ x ∷ []) ∷ k; is = refl; small = omega arith }
+statement-adds deep (g.IfElse first arms body ∷ k) ps held takes x = record { next = g.IfElse first arms (body ++ x ∷ []) ∷ k; is = refl; small = omega arith }
+statement-adds deep (g.CaseArm l v xs at labels ∷ k) ps held takes x = record { next = g.Case l v (xs ++ alternative_of at labels x ∷ []) ∷ k; is = refl; small = omega arith }
+statement-adds deep (g.CaseElse l v xs body ∷ k) ps held takes x = record { next = g.CaseElse l v xs (body ++ x ∷ []) ∷ k; is = refl; small = omega arith }
+statement-adds deep (g.Forall l index ∷ k) ps held takes x =
     let outer : Adds k (add_statement (s.Forall l index x) k) = statement-adds deep k held.0 held.2 held.4.there (s.Forall l index x) in
     record { next = outer.next; is = outer.is; small = omega (arith, outer.small) }
-statement-adds deep (g.AsLongAs l c ∷ k) ps held takes x =
+statement-adds deep (g.While l c ∷ k) ps held takes x =
     let outer : Adds k (add_statement (s.While l c x) k) = statement-adds deep k held.0 held.2 held.4.there (s.While l c x) in
     record { next = outer.next; is = outer.is; small = omega (arith, outer.small) }
-statement-adds deep (g.Repeated l body ∷ k) ps held takes x = record { next = g.Repeated l (body ++ x ∷ []) ∷ k; is = refl; small = omega arith }
-statement-adds deep (g.Grouped l body ∷ k) ps held takes x = record { next = g.Grouped l (body ++ x ∷ []) ∷ k; is = refl; small = omega arith }
+statement-adds deep (g.Repeat l body ∷ k) ps held takes x = record { next = g.Repeat l (body ++ x ∷ []) ∷ k; is = refl; small = omega arith }
+statement-adds deep (g.Do l body ∷ k) ps held takes x = record { next = g.Do l (body ++ x ∷ []) ∷ k; is = refl; small = omega arith }
 statement-adds deep (_ ∷ k) ps held takes x = let no : ⊥ = cc in absurd no
 
 no-model : (typ : Option BaseType) → is_model (routine_place typ) ≡ true → ⊥
@@ -153,36 +153,36 @@ closing deep (suc n) (g.Record l name xs ∷ k) ps len held =
 closing deep (suc n) (g.Routine heading xs ∷ k) ps len held =
     let behind : Adds k (add_other (part.Top (t.Routine (record { heading = heading; parts = xs }))) k) = top-adds k held.4.there (t.Routine (record { heading = heading; parts = xs })) in
     behind-one deep (g.Routine heading xs ∷ k) behind.next (piece 0 (end_form heading.result)) ps held (step-role deep (g.Routine heading xs ∷ k) (piece 0 (end_form heading.result)) Closes behind.next (ends-routine heading.result) (end-limit heading.result) refl behind.is) (λ h. closing deep n behind.next (ps ++ piece 0 (end_form heading.result) ∷ []) (omega (arith, len, behind.small)) h)
-closing deep (suc n) (g.Arm first arms l c body ∷ k) ps len held =
+closing deep (suc n) (g.IfArm first arms l c body ∷ k) ps len held =
     let behind : Adds k (add_statement (s.If first (arms ++ arm_of l c body ∷ []) []) k) = statement-adds deep k held.0 held.2 held.4.there (s.If first (arms ++ arm_of l c body ∷ []) []) in
-    behind-one deep (g.Arm first arms l c body ∷ k) behind.next (piece 0 (f.Keyword keyword.EndIf)) ps held (step-role deep (g.Arm first arms l c body ∷ k) (piece 0 (f.Keyword keyword.EndIf)) Closes behind.next ends-arm refl refl behind.is) (λ h. closing deep n behind.next (ps ++ piece 0 (f.Keyword keyword.EndIf) ∷ []) (omega (arith, len, behind.small)) h)
-closing deep (suc n) (g.Otherwise first arms body ∷ k) ps len held =
+    behind-one deep (g.IfArm first arms l c body ∷ k) behind.next (piece 0 (f.Keyword keyword.EndIf)) ps held (step-role deep (g.IfArm first arms l c body ∷ k) (piece 0 (f.Keyword keyword.EndIf)) Closes behind.next ends-arm refl refl behind.is) (λ h. closing deep n behind.next (ps ++ piece 0 (f.Keyword keyword.EndIf) ∷ []) (omega (arith, len, behind.small)) h)
+closing deep (suc n) (g.IfElse first arms body ∷ k) ps len held =
     let behind : Adds k (add_statement (s.If first arms body) k) = statement-adds deep k held.0 held.2 held.4.there (s.If first arms body) in
-    behind-one deep (g.Otherwise first arms body ∷ k) behind.next (piece 0 (f.Keyword keyword.EndIf)) ps held (step-role deep (g.Otherwise first arms body ∷ k) (piece 0 (f.Keyword keyword.EndIf)) Closes behind.next ends-otherwise refl refl behind.is) (λ h. closing deep n behind.next (ps ++ piece 0 (f.Keyword keyword.EndIf) ∷ []) (omega (arith, len, behind.small)) h)
-closing deep (suc n) (g.Choice l v xs ∷ k) ps len held =
+    behind-one deep (g.IfElse first arms body ∷ k) behind.next (piece 0 (f.Keyword keyword.EndIf)) ps held (step-role deep (g.IfElse first arms body ∷ k) (piece 0 (f.Keyword keyword.EndIf)) Closes behind.next ends-otherwise refl refl behind.is) (λ h. closing deep n behind.next (ps ++ piece 0 (f.Keyword keyword.EndIf) ∷ []) (omega (arith, len, behind.small)) h)
+closing deep (suc n) (g.Case l v xs ∷ k) ps len held =
     let behind : Adds k (add_statement (s.Case l v xs []) k) = statement-adds deep k held.0 held.2 held.4.there (s.Case l v xs []) in
-    behind-one deep (g.Choice l v xs ∷ k) behind.next (piece 0 (f.Keyword keyword.EndCase)) ps held (step-role deep (g.Choice l v xs ∷ k) (piece 0 (f.Keyword keyword.EndCase)) Closes behind.next ends-choice refl refl behind.is) (λ h. closing deep n behind.next (ps ++ piece 0 (f.Keyword keyword.EndCase) ∷ []) (omega (arith, len, behind.small)) h)
-closing deep (suc n) (g.ChoiceOtherwise l v xs body ∷ k) ps len held =
+    behind-one deep (g.Case l v xs ∷ k) behind.next (piece 0 (f.Keyword keyword.EndCase)) ps held (step-role deep (g.Case l v xs ∷ k) (piece 0 (f.Keyword keyword.EndCase)) Closes behind.next ends-case refl refl behind.is) (λ h. closing deep n behind.next (ps ++ piece 0 (f.Keyword keyword.EndCase) ∷ []) (omega (arith, len, behind.small)) h)
+closing deep (suc n) (g.CaseElse l v xs body ∷ k) ps len held =
     let behind : Adds k (add_statement (s.Case l v xs body) k) = statement-adds deep k held.0 held.2 held.4.there (s.Case l v xs body) in
-    behind-one deep (g.ChoiceOtherwise l v xs body ∷ k) behind.next (piece 0 (f.Keyword keyword.EndCase)) ps held (step-role deep (g.ChoiceOtherwise l v xs body ∷ k) (piece 0 (f.Keyword keyword.EndCase)) Closes behind.next ends-choice-otherwise refl refl behind.is) (λ h. closing deep n behind.next (ps ++ piece 0 (f.Keyword keyword.EndCase) ∷ []) (omega (arith, len, behind.small)) h)
-closing deep (suc n) (g.Repeated l body ∷ k) ps len held =
+    behind-one deep (g.CaseElse l v xs body ∷ k) behind.next (piece 0 (f.Keyword keyword.EndCase)) ps held (step-role deep (g.CaseElse l v xs body ∷ k) (piece 0 (f.Keyword keyword.EndCase)) Closes behind.next ends-case-else refl refl behind.is) (λ h. closing deep n behind.next (ps ++ piece 0 (f.Keyword keyword.EndCase) ∷ []) (omega (arith, len, behind.small)) h)
+closing deep (suc n) (g.Repeat l body ∷ k) ps len held =
     let behind : Adds k (add_statement (s.Repeat l body 0 e.Returned) k) = statement-adds deep k held.0 held.2 held.4.there (s.Repeat l body 0 e.Returned) in
-    behind-one deep (g.Repeated l body ∷ k) behind.next (piece 0 (f.Guarded guard.Until e.Returned)) ps held (step-role deep (g.Repeated l body ∷ k) (piece 0 (f.Guarded guard.Until e.Returned)) Closes behind.next ends-repeated refl refl behind.is) (λ h. closing deep n behind.next (ps ++ piece 0 (f.Guarded guard.Until e.Returned) ∷ []) (omega (arith, len, behind.small)) h)
-closing deep (suc n) (g.Grouped l body ∷ k) ps len held =
+    behind-one deep (g.Repeat l body ∷ k) behind.next (piece 0 (f.Guarded conditional.Until e.Returned)) ps held (step-role deep (g.Repeat l body ∷ k) (piece 0 (f.Guarded conditional.Until e.Returned)) Closes behind.next ends-repeat refl refl behind.is) (λ h. closing deep n behind.next (ps ++ piece 0 (f.Guarded conditional.Until e.Returned) ∷ []) (omega (arith, len, behind.small)) h)
+closing deep (suc n) (g.Do l body ∷ k) ps len held =
     let behind : Adds k (add_statement (s.Do l body) k) = statement-adds deep k held.0 held.2 held.4.there (s.Do l body) in
-    behind-one deep (g.Grouped l body ∷ k) behind.next (piece 0 (f.Keyword keyword.EndDo)) ps held (step-role deep (g.Grouped l body ∷ k) (piece 0 (f.Keyword keyword.EndDo)) Closes behind.next ends-grouped refl refl behind.is) (λ h. closing deep n behind.next (ps ++ piece 0 (f.Keyword keyword.EndDo) ∷ []) (omega (arith, len, behind.small)) h)
-closing deep (suc n) (g.Labelled l d name xs ∷ k) ps len held =
+    behind-one deep (g.Do l body ∷ k) behind.next (piece 0 (f.Keyword keyword.EndDo)) ps held (step-role deep (g.Do l body ∷ k) (piece 0 (f.Keyword keyword.EndDo)) Closes behind.next ends-do refl refl behind.is) (λ h. closing deep n behind.next (ps ++ piece 0 (f.Keyword keyword.EndDo) ∷ []) (omega (arith, len, behind.small)) h)
+closing deep (suc n) (g.Initializations l d name xs ∷ k) ps len held =
     let behind : Adds k (add_statement (s.Initializations l d name xs) k) = statement-adds deep k held.0 held.2 held.4.there (s.Initializations l d name xs) in
-    behind-one deep (g.Labelled l d name xs ∷ k) behind.next (piece 0 (f.Keyword keyword.EndInitializations)) ps held (step-role deep (g.Labelled l d name xs ∷ k) (piece 0 (f.Keyword keyword.EndInitializations)) Closes behind.next ends-labelled refl refl behind.is) (λ h. closing deep n behind.next (ps ++ piece 0 (f.Keyword keyword.EndInitializations) ∷ []) (omega (arith, len, behind.small)) h)
-closing deep (suc n) (g.Over l index ∷ k) ps len held =
+    behind-one deep (g.Initializations l d name xs ∷ k) behind.next (piece 0 (f.Keyword keyword.EndInitializations)) ps held (step-role deep (g.Initializations l d name xs ∷ k) (piece 0 (f.Keyword keyword.EndInitializations)) Closes behind.next ends-initializations refl refl behind.is) (λ h. closing deep n behind.next (ps ++ piece 0 (f.Keyword keyword.EndInitializations) ∷ []) (omega (arith, len, behind.small)) h)
+closing deep (suc n) (g.Forall l index ∷ k) ps len held =
     let behind : Adds k (add_statement (s.Forall l index (s.Break 0)) k) = statement-adds deep k held.0 held.2 held.4.there (s.Forall l index (s.Break 0)) in
-    behind-one deep (g.Over l index ∷ k) behind.next (piece 0 (f.Simple simple.Break)) ps held (step-role deep (g.Over l index ∷ k) (piece 0 (f.Simple simple.Break)) Stands behind.next (role-of-statement p.Looped m.Simple Stands refl refl) refl refl behind.is) (λ h. closing deep n behind.next (ps ++ piece 0 (f.Simple simple.Break) ∷ []) (omega (arith, len, behind.small)) h)
-closing deep (suc n) (g.AsLongAs l c ∷ k) ps len held =
+    behind-one deep (g.Forall l index ∷ k) behind.next (piece 0 (f.Simple simple.Break)) ps held (step-role deep (g.Forall l index ∷ k) (piece 0 (f.Simple simple.Break)) StandsAlone behind.next (role-of-statement p.LoopBody m.Simple StandsAlone refl refl) refl refl behind.is) (λ h. closing deep n behind.next (ps ++ piece 0 (f.Simple simple.Break) ∷ []) (omega (arith, len, behind.small)) h)
+closing deep (suc n) (g.While l c ∷ k) ps len held =
     let behind : Adds k (add_statement (s.While l c (s.Break 0)) k) = statement-adds deep k held.0 held.2 held.4.there (s.While l c (s.Break 0)) in
-    behind-one deep (g.AsLongAs l c ∷ k) behind.next (piece 0 (f.Simple simple.Break)) ps held (step-role deep (g.AsLongAs l c ∷ k) (piece 0 (f.Simple simple.Break)) Stands behind.next (role-of-statement p.Looped m.Simple Stands refl refl) refl refl behind.is) (λ h. closing deep n behind.next (ps ++ piece 0 (f.Simple simple.Break) ∷ []) (omega (arith, len, behind.small)) h)
-closing deep (suc n) (g.Chosen l v xs at labels ∷ k) ps len held =
+    behind-one deep (g.While l c ∷ k) behind.next (piece 0 (f.Simple simple.Break)) ps held (step-role deep (g.While l c ∷ k) (piece 0 (f.Simple simple.Break)) StandsAlone behind.next (role-of-statement p.LoopBody m.Simple StandsAlone refl refl) refl refl behind.is) (λ h. closing deep n behind.next (ps ++ piece 0 (f.Simple simple.Break) ∷ []) (omega (arith, len, behind.small)) h)
+closing deep (suc n) (g.CaseArm l v xs at labels ∷ k) ps len held =
     let all : List (Alternative Statement) = xs ++ alternative_of at labels (s.Break 0) ∷ [] in
     let behind : Adds k (add_statement (s.Case l v all []) k) = statement-adds deep k held.0 held.2 held.4.there (s.Case l v all []) in
-    behind-one deep (g.Chosen l v xs at labels ∷ k) (g.Choice l v all ∷ k) (piece 0 (f.Simple simple.Break)) ps held (step-role deep (g.Chosen l v xs at labels ∷ k) (piece 0 (f.Simple simple.Break)) Stands (g.Choice l v all ∷ k) (role-of-statement p.Chosen m.Simple Stands refl refl) refl refl refl)
-    (λ h. behind-one deep (g.Choice l v all ∷ k) behind.next (piece 0 (f.Keyword keyword.EndCase)) (ps ++ piece 0 (f.Simple simple.Break) ∷ []) h (step-role deep (g.Choice l v all ∷ k) (piece 0 (f.Keyword keyword.EndCase)) Closes behind.next ends-choice refl refl behind.is)
+    behind-one deep (g.CaseArm l v xs at labels ∷ k) (g.Case l v all ∷ k) (piece 0 (f.Simple simple.Break)) ps held (step-role deep (g.CaseArm l v xs at labels ∷ k) (piece 0 (f.Simple simple.Break)) StandsAlone (g.Case l v all ∷ k) (role-of-statement p.CaseArm m.Simple StandsAlone refl refl) refl refl refl)
+    (λ h. behind-one deep (g.Case l v all ∷ k) behind.next (piece 0 (f.Keyword keyword.EndCase)) (ps ++ piece 0 (f.Simple simple.Break) ∷ []) h (step-role deep (g.Case l v all ∷ k) (piece 0 (f.Keyword keyword.EndCase)) Closes behind.next ends-case refl refl behind.is)
     (λ h2. closing deep n behind.next ((ps ++ piece 0 (f.Simple simple.Break) ∷ []) ++ piece 0 (f.Keyword keyword.EndCase) ∷ []) (omega (arith, len, behind.small)) h2))

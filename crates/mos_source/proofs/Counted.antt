@@ -1,19 +1,21 @@
+-- A piece that breaks a limit is refused as one of no form is.
+
 use Rattle.std.proofs.Common.{◌≡◌, ℕ, suc, ◌≤◌, ◌<◌, Bool, true, false, ◌∷◌, length, Option, Some, None, Err, refl, sym, ◌∙◌, ap, arith}
 use Rattle.std.specs.Prelude.{nat_lt, nat_le}
 use Rattle.std.proofs.lemmas.Bool.{leb-true, leb-false, lt-ltb}
 use Rattle.mos_text.specs.declared.kind.Kind.{Kind}
 use Rattle.mos_text.specs.declared.kind.Kind.TheVariants as kind
-use Rattle.mos_form.specs.declared.form.Form.{Form}
-use Rattle.mos_form.specs.declared.form.Mould.{Mould}
-use Rattle.mos_form.specs.declared.form.Mould.TheVariants as m
-use Rattle.mos_form.specs.declared.form.PieceForm.{PieceForm}
+use Rattle.mos_tree.specs.declared.form.Form.{Form}
+use Rattle.mos_tree.specs.declared.form.PieceKind.{PieceKind}
+use Rattle.mos_tree.specs.declared.form.PieceKind.TheVariants as m
+use Rattle.mos_tree.specs.declared.form.PieceForm.{PieceForm}
 use Rattle.mos_source.specs.declared.frame.Frame.{Frame}
 use Rattle.mos_source.specs.declared.frame.Frame.TheVariants as g
 use Rattle.mos_source.specs.declared.place.Place.{Place}
 use Rattle.mos_source.specs.declared.place.Place.TheVariants as p
 use Rattle.mos_source.specs.declared.place.Role.{Role}
-use Rattle.mos_source.specs.declared.place.Role.TheVariants.{Opens, GoesOn, Stands, Closes}
-use Rattle.mos_form.specs.Forms.{mould_of}
+use Rattle.mos_source.specs.declared.place.Role.TheVariants.{Opens, Continues, StandsAlone, Closes}
+use Rattle.mos_tree.specs.Forms.{piece_kind_of}
 use Rattle.mos_source.specs.Limits.{own_limit}
 use Rattle.mos_source.specs.Places.{role_at}
 use Rattle.mos_source.specs.Sources.{limit}
@@ -21,8 +23,6 @@ use Rattle.mos_source.specs.Productions.{opens_block, form_at}
 use Rattle.mos_source.specs.Machine.{Stack, routine_place, frame_place, block_limit, step_as, step_in, step, place_of}
 use Rattle.mos_source.proofs.Behind.{choose}
 use Rattle.mos_source.proofs.Naming.{room, step-none}
-
--- A piece that breaks a limit is refused as one of no form is.
 
 -- ---- roles of pieces that open a block
 
@@ -48,7 +48,7 @@ frame-no-start (g.Routine heading parts) = routine-no-start heading.result
 frame-no-start _ = refl
 
 -- the pieces that open a block do nothing else, and no other piece opens one
-pub opens-so : (place : Place) (x : Mould) → is_start place ≡ false → choose (opens_block x) (may_open (role_at place x)) (may_not_open (role_at place x)) ≡ true
+pub opens-so : (place : Place) (x : PieceKind) → is_start place ≡ false → choose (opens_block x) (may_open (role_at place x)) (may_not_open (role_at place x)) ≡ true
 unfolding role_at
 opens-so p.Start x s = let no : ⊥ = cc in absurd no
 opens-so p.Heads m.Unknown s = refl
@@ -65,24 +65,24 @@ opens-so p.Procedure m.Unknown s = refl
 opens-so p.Procedure _ s = refl
 opens-so p.Function m.Unknown s = refl
 opens-so p.Function _ s = refl
-opens-so p.Arm m.Unknown s = refl
-opens-so p.Arm _ s = refl
-opens-so p.Otherwise m.Unknown s = refl
-opens-so p.Otherwise _ s = refl
-opens-so p.Choice m.Unknown s = refl
-opens-so p.Choice _ s = refl
-opens-so p.Chosen m.Unknown s = refl
-opens-so p.Chosen _ s = refl
-opens-so p.ChoiceOtherwise m.Unknown s = refl
-opens-so p.ChoiceOtherwise _ s = refl
-opens-so p.Looped m.Unknown s = refl
-opens-so p.Looped _ s = refl
-opens-so p.Repeated m.Unknown s = refl
-opens-so p.Repeated _ s = refl
-opens-so p.Grouped m.Unknown s = refl
-opens-so p.Grouped _ s = refl
-opens-so p.Labelled m.Unknown s = refl
-opens-so p.Labelled _ s = refl
+opens-so p.IfArm m.Unknown s = refl
+opens-so p.IfArm _ s = refl
+opens-so p.IfElse m.Unknown s = refl
+opens-so p.IfElse _ s = refl
+opens-so p.Case m.Unknown s = refl
+opens-so p.Case _ s = refl
+opens-so p.CaseArm m.Unknown s = refl
+opens-so p.CaseArm _ s = refl
+opens-so p.CaseElse m.Unknown s = refl
+opens-so p.CaseElse _ s = refl
+opens-so p.LoopBody m.Unknown s = refl
+opens-so p.LoopBody _ s = refl
+opens-so p.Repeat m.Unknown s = refl
+opens-so p.Repeat _ s = refl
+opens-so p.Do m.Unknown s = refl
+opens-so p.Do _ s = refl
+opens-so p.Initializations m.Unknown s = refl
+opens-so p.Initializations _ s = refl
 opens-so p.End m.Unknown s = refl
 opens-so p.End _ s = refl
 
@@ -101,15 +101,15 @@ pub counts-own : (depth : ℕ) (x : PieceForm) (found : Kind) → own_limit x.fo
 unfolding form_at
 counts-own depth x found o = rw o refl
 
-counts-deep : (depth : ℕ) (x : PieceForm) → own_limit x.form ≡ None → opens_block (mould_of x.form) ≡ true → nat_le limit depth ≡ true → form_at depth x ≡ m.Unknown
+counts-deep : (depth : ℕ) (x : PieceForm) → own_limit x.form ≡ None → opens_block (piece_kind_of x.form) ≡ true → nat_le limit depth ≡ true → form_at depth x ≡ m.Unknown
 unfolding form_at
 counts-deep depth x o b d = rw (o, b, d) refl
 
-pub counts-fits : (depth : ℕ) (x : PieceForm) → own_limit x.form ≡ None → opens_block (mould_of x.form) ≡ true → nat_le limit depth ≡ false → form_at depth x ≡ mould_of x.form
+pub counts-fits : (depth : ℕ) (x : PieceForm) → own_limit x.form ≡ None → opens_block (piece_kind_of x.form) ≡ true → nat_le limit depth ≡ false → form_at depth x ≡ piece_kind_of x.form
 unfolding form_at
 counts-fits depth x o b d = rw (o, b, d) refl
 
-pub counts-other : (depth : ℕ) (x : PieceForm) → own_limit x.form ≡ None → opens_block (mould_of x.form) ≡ false → form_at depth x ≡ mould_of x.form
+pub counts-other : (depth : ℕ) (x : PieceForm) → own_limit x.form ≡ None → opens_block (piece_kind_of x.form) ≡ false → form_at depth x ≡ piece_kind_of x.form
 unfolding form_at
 counts-other depth x o b = rw (o, b) refl
 
@@ -133,61 +133,61 @@ fails-deep-in None k line form r o d = (kind.Syntax, refl)
 fails-deep-in (Some Opens) k line form r o d = (kind.Deep, rw (o, d) refl)
 fails-deep-in (Some _) k line form r o d = let no : ⊥ = cc in absurd no
 
-fails-deep : (frame : Frame) (k : Stack) (x : PieceForm) → own_limit x.form ≡ None → opens_block (mould_of x.form) ≡ true → nat_le limit (length k) ≡ true → Fails (frame ∷ k) x
+fails-deep : (frame : Frame) (k : Stack) (x : PieceForm) → own_limit x.form ≡ None → opens_block (piece_kind_of x.form) ≡ true → nat_le limit (length k) ≡ true → Fails (frame ∷ k) x
 unfolding Fails step
 fails-deep frame k x o b d =
-    let so : choose (opens_block (mould_of x.form)) (may_open (role_at (frame_place frame) (mould_of x.form))) (may_not_open (role_at (frame_place frame) (mould_of x.form))) ≡ true = opens-so (frame_place frame) (mould_of x.form) (frame-no-start frame) in
-    let may : may_open (role_at (frame_place frame) (mould_of x.form)) ≡ true = ap (λ z. choose z (may_open (role_at (frame_place frame) (mould_of x.form))) (may_not_open (role_at (frame_place frame) (mould_of x.form)))) (sym b) ∙ so in
-    let over : limit ≤ length k = leb-true limit (length k) d in
-    fails-deep-in (role_at (frame_place frame) (mould_of x.form)) (frame ∷ k) x.line x.form may o (lt-ltb limit (suc (length k)) (omega (arith, over)))
+    let so : choose (opens_block (piece_kind_of x.form)) (may_open (role_at (frame_place frame) (piece_kind_of x.form))) (may_not_open (role_at (frame_place frame) (piece_kind_of x.form))) ≡ true = opens-so (frame_place frame) (piece_kind_of x.form) (frame-no-start frame) in
+    let may : may_open (role_at (frame_place frame) (piece_kind_of x.form)) ≡ true = ap (λ z. choose z (may_open (role_at (frame_place frame) (piece_kind_of x.form))) (may_not_open (role_at (frame_place frame) (piece_kind_of x.form)))) (sym b) ∙ so in
+    let forall_ : limit ≤ length k = leb-true limit (length k) d in
+    fails-deep-in (role_at (frame_place frame) (piece_kind_of x.form)) (frame ∷ k) x.line x.form may o (lt-ltb limit (suc (length k)) (omega (arith, forall_)))
 
-pub fails-none : (k : Stack) (x : PieceForm) → role_at (place_of k) (mould_of x.form) ≡ None → Fails k x
+pub fails-none : (k : Stack) (x : PieceForm) → role_at (place_of k) (piece_kind_of x.form) ≡ None → Fails k x
 unfolding Fails
 fails-none k x r = (kind.Syntax, step-none limit k x r)
 
-pub as-mould : (place : Place) (depth : ℕ) (x : PieceForm) (role : Option Role) → form_at depth x ≡ mould_of x.form → role_at place (form_at depth x) ≡ role → role_at place (mould_of x.form) ≡ role
-as-mould place depth x role e r = ap (role_at place) (sym e) ∙ r
+pub as-kind : (place : Place) (depth : ℕ) (x : PieceForm) (role : Option Role) → form_at depth x ≡ piece_kind_of x.form → role_at place (form_at depth x) ≡ role → role_at place (piece_kind_of x.form) ≡ role
+as-kind place depth x role e r = ap (role_at place) (sym e) ∙ r
 
-fails-by : (frame : Frame) (k : Stack) (x : PieceForm) (own : Option Kind) (open_ deep : Bool) → own_limit x.form ≡ own → opens_block (mould_of x.form) ≡ open_ → nat_le limit (length k) ≡ deep → role_at (frame_place frame) (form_at (length k) x) ≡ None → Fails (frame ∷ k) x
+fails-by : (frame : Frame) (k : Stack) (x : PieceForm) (own : Option Kind) (open_ deep : Bool) → own_limit x.form ≡ own → opens_block (piece_kind_of x.form) ≡ open_ → nat_le limit (length k) ≡ deep → role_at (frame_place frame) (form_at (length k) x) ≡ None → Fails (frame ∷ k) x
 fails-by frame k x (Some found) open_ deep o b d r = fails-own (frame ∷ k) x found o
 fails-by frame k x None true true o b d r = fails-deep frame k x o b d
-fails-by frame k x None true false o b d r = fails-none (frame ∷ k) x (as-mould (frame_place frame) (length k) x None (counts-fits (length k) x o b d) r)
-fails-by frame k x None false deep o b d r = fails-none (frame ∷ k) x (as-mould (frame_place frame) (length k) x None (counts-other (length k) x o b) r)
+fails-by frame k x None true false o b d r = fails-none (frame ∷ k) x (as-kind (frame_place frame) (length k) x None (counts-fits (length k) x o b d) r)
+fails-by frame k x None false deep o b d r = fails-none (frame ∷ k) x (as-kind (frame_place frame) (length k) x None (counts-other (length k) x o b) r)
 
 pub fails : (frame : Frame) (k : Stack) (x : PieceForm) → role_at (frame_place frame) (form_at (length k) x) ≡ None → Fails (frame ∷ k) x
-fails frame k x r = fails-by frame k x (own_limit x.form) (opens_block (mould_of x.form)) (nat_le limit (length k)) refl refl refl r
+fails frame k x r = fails-by frame k x (own_limit x.form) (opens_block (piece_kind_of x.form)) (nat_le limit (length k)) refl refl refl r
 
 -- ---- taken
 
 -- a piece that may stand at the place breaks no limit
 pub record Counts (frame : Frame) (k : Stack) (x : PieceForm) (role : Role) : Type 0 where
   pub own : own_limit x.form ≡ None
-  pub is : form_at (length k) x ≡ mould_of x.form
+  pub is : form_at (length k) x ≡ piece_kind_of x.form
   pub block : block_limit limit role (suc (length k)) ≡ None
 
-pub not-known : (place : Place) (x : Mould) (role : Role) → x ≡ m.Unknown → role_at place x ≡ Some role → ⊥
+pub not-known : (place : Place) (x : PieceKind) (role : Role) → x ≡ m.Unknown → role_at place x ≡ Some role → ⊥
 not-known place x role e r =
     let none : role_at place x ≡ None = ap (role_at place) e ∙ unknown-nowhere place in
     cc
 
 no-block : (role : Role) (n : ℕ) → may_not_open (Some role) ≡ true → block_limit limit role n ≡ None
 no-block Opens n h = let no : ⊥ = cc in absurd no
-no-block GoesOn n h = refl
-no-block Stands n h = refl
+no-block Continues n h = refl
+no-block StandsAlone n h = refl
 no-block Closes n h = refl
 
-counts-by : (frame : Frame) (k : Stack) (x : PieceForm) (role : Role) (own : Option Kind) (open_ deep : Bool) → own_limit x.form ≡ own → opens_block (mould_of x.form) ≡ open_ → nat_le limit (length k) ≡ deep → role_at (frame_place frame) (form_at (length k) x) ≡ Some role → Counts frame k x role
+counts-by : (frame : Frame) (k : Stack) (x : PieceForm) (role : Role) (own : Option Kind) (open_ deep : Bool) → own_limit x.form ≡ own → opens_block (piece_kind_of x.form) ≡ open_ → nat_le limit (length k) ≡ deep → role_at (frame_place frame) (form_at (length k) x) ≡ Some role → Counts frame k x role
 counts-by frame k x role (Some found) open_ deep o b d r = absurd (not-known (frame_place frame) (form_at (length k) x) role (counts-own (length k) x found o) r)
 counts-by frame k x role None true true o b d r = absurd (not-known (frame_place frame) (form_at (length k) x) role (counts-deep (length k) x o b d) r)
 counts-by frame k x role None true false o b d r =
     let under : length k < limit = leb-false limit (length k) d in
     record { own = o; is = counts-fits (length k) x o b d; block = room limit role (suc (length k)) under }
 counts-by frame k x role None false deep o b d r =
-    let is-mould : form_at (length k) x ≡ mould_of x.form = counts-other (length k) x o b in
-    let here : role_at (frame_place frame) (mould_of x.form) ≡ Some role = as-mould (frame_place frame) (length k) x (Some role) is-mould r in
-    let so : choose (opens_block (mould_of x.form)) (may_open (role_at (frame_place frame) (mould_of x.form))) (may_not_open (role_at (frame_place frame) (mould_of x.form))) ≡ true = opens-so (frame_place frame) (mould_of x.form) (frame-no-start frame) in
-    let may : may_not_open (role_at (frame_place frame) (mould_of x.form)) ≡ true = ap (λ z. choose z (may_open (role_at (frame_place frame) (mould_of x.form))) (may_not_open (role_at (frame_place frame) (mould_of x.form)))) (sym b) ∙ so in
-    record { own = o; is = is-mould; block = no-block role (suc (length k)) (ap may_not_open (sym here) ∙ may) }
+    let is-kind : form_at (length k) x ≡ piece_kind_of x.form = counts-other (length k) x o b in
+    let here : role_at (frame_place frame) (piece_kind_of x.form) ≡ Some role = as-kind (frame_place frame) (length k) x (Some role) is-kind r in
+    let so : choose (opens_block (piece_kind_of x.form)) (may_open (role_at (frame_place frame) (piece_kind_of x.form))) (may_not_open (role_at (frame_place frame) (piece_kind_of x.form))) ≡ true = opens-so (frame_place frame) (piece_kind_of x.form) (frame-no-start frame) in
+    let may : may_not_open (role_at (frame_place frame) (piece_kind_of x.form)) ≡ true = ap (λ z. choose z (may_open (role_at (frame_place frame) (piece_kind_of x.form))) (may_not_open (role_at (frame_place frame) (piece_kind_of x.form)))) (sym b) ∙ so in
+    record { own = o; is = is-kind; block = no-block role (suc (length k)) (ap may_not_open (sym here) ∙ may) }
 
 pub counts : (frame : Frame) (k : Stack) (x : PieceForm) (role : Role) → role_at (frame_place frame) (form_at (length k) x) ≡ Some role → Counts frame k x role
-counts frame k x role r = counts-by frame k x role (own_limit x.form) (opens_block (mould_of x.form)) (nat_le limit (length k)) refl refl refl r
+counts frame k x role r = counts-by frame k x role (own_limit x.form) (opens_block (piece_kind_of x.form)) (nat_le limit (length k)) refl refl refl r

@@ -1,16 +1,18 @@
+-- The rest of the innermost open block is read by the productions as the reader reads it.
+
 use Rattle.std.proofs.Common.{◌≡◌, ℕ, zero, suc, ◌≤◌, Bool, true, false, List, [], ◌∷◌, ◌++◌, length, Option, Some, None, Ok, refl, sym, ◌∙◌, ap, subst, arith}
 use Rattle.std.specs.Prelude.{is_some}
 use Rattle.mos_text.specs.declared.kind.Kind.{Kind}
 use Rattle.mos_text.specs.declared.kind.Kind.TheVariants as kind
-use Rattle.mos_form.specs.declared.form.Mould.{Mould}
-use Rattle.mos_form.specs.declared.form.Mould.TheVariants as m
-use Rattle.mos_form.specs.declared.form.PieceForm.{PieceForm}
+use Rattle.mos_tree.specs.declared.form.PieceKind.{PieceKind}
+use Rattle.mos_tree.specs.declared.form.PieceKind.TheVariants as m
+use Rattle.mos_tree.specs.declared.form.PieceForm.{PieceForm}
 use Rattle.mos_source.specs.declared.frame.Frame.{Frame}
 use Rattle.mos_source.specs.declared.place.Place.{Place}
 use Rattle.mos_source.specs.declared.place.Place.TheVariants as p
 use Rattle.mos_source.specs.declared.place.Role.{Role}
-use Rattle.mos_source.specs.declared.place.Role.TheVariants.{Opens, GoesOn, Stands, Closes}
-use Rattle.mos_form.specs.Forms.{mould_of}
+use Rattle.mos_source.specs.declared.place.Role.TheVariants.{Opens, Continues, StandsAlone, Closes}
+use Rattle.mos_tree.specs.Forms.{piece_kind_of}
 use Rattle.mos_source.specs.Places.{role_at}
 use Rattle.mos_source.specs.Sources.{limit}
 use Rattle.mos_source.specs.Productions.{opens_block, form_at, Reading, took, broke, Reads}
@@ -23,9 +25,7 @@ use Rattle.mos_source.proofs.Progress.{progress}
 use Rattle.mos_source.proofs.Behind.{inside, outside, ReadsLeft, choose, behind, may_begin, within, within_then, rest, whole, read-on, read-none}
 use Rattle.mos_source.proofs.Waits.{waits, opened_place, gone_place, place_after, left_opened, left_after, left_at, is_end, waits-firm, left-is, begins-is}
 use Rattle.mos_source.proofs.Counted.{may_open, may_not_open, is_start, frame-no-start, opens-so, unknown-nowhere, Counts, Fails, fails, counts}
-use Rattle.mos_source.proofs.Shapes.{At, opened-at, gone-at, Adds, stands-adds, closes-adds, is_looped, adds-at, adds-ends, unfinished}
-
--- The rest of the innermost open block is read by the productions as the reader reads it.
+use Rattle.mos_source.proofs.Shapes.{At, opened-at, gone-at, Adds, stands-adds, closes-adds, is_loop_body, adds-at, adds-ends, unfinished}
 
 -- some pieces led to these blocks
 unfoldable pub Live : Stack → Type 0
@@ -39,7 +39,7 @@ pub data ReadAt (place : Place) (k top : Stack) (xs : List PieceForm) : Type 0 w
 -- ---- facts of places
 
 -- what pieces open is no model and not the end
-opened-block : (x : Mould) → opens_block x ≡ true → (is_end (opened_place x) ≡ false) × (is_model (opened_place x) ≡ false)
+opened-block : (x : PieceKind) → opens_block x ≡ true → (is_end (opened_place x) ≡ false) × (is_model (opened_place x) ≡ false)
 opened-block m.Parameters h = (refl, refl)
 opened-block m.Declarations h = (refl, refl)
 opened-block m.RecordOf h = (refl, refl)
@@ -54,27 +54,27 @@ opened-block m.Do h = (refl, refl)
 opened-block m.Initializations h = (refl, refl)
 opened-block _ h = let no : ⊥ = cc in absurd no
 
-chosen-so : (b c : Bool) → choose b c false ≡ true → b ≡ true
-chosen-so true c h = refl
-chosen-so false c h = cc
+case-arm-so : (b c : Bool) → choose b c false ≡ true → b ≡ true
+case-arm-so true c h = refl
+case-arm-so false c h = cc
 
-opening : (place : Place) (x : Mould) → is_start place ≡ false → role_at place x ≡ Some Opens → opens_block x ≡ true
-opening place x s r = chosen-so (opens_block x) (may_open (role_at place x)) (ap (λ z. choose (opens_block x) (may_open (role_at place x)) (may_not_open z)) (sym r) ∙ opens-so place x s)
+opening : (place : Place) (x : PieceKind) → is_start place ≡ false → role_at place x ≡ Some Opens → opens_block x ≡ true
+opening place x s r = case-arm-so (opens_block x) (may_open (role_at place x)) (ap (λ z. choose (opens_block x) (may_open (role_at place x)) (may_not_open z)) (sym r) ∙ opens-so place x s)
 
-gone-end : (place : Place) (x : Mould) → is_end (gone_place place x) ≡ is_end place
-gone-end p.Arm m.Else = refl
-gone-end p.Arm _ = refl
-gone-end p.Choice m.Alternative = refl
-gone-end p.Choice m.Else = refl
-gone-end p.Choice _ = refl
+gone-end : (place : Place) (x : PieceKind) → is_end (gone_place place x) ≡ is_end place
+gone-end p.IfArm m.Else = refl
+gone-end p.IfArm _ = refl
+gone-end p.Case m.Alternative = refl
+gone-end p.Case m.Else = refl
+gone-end p.Case _ = refl
 gone-end _ x = refl
 
-gone-model : (place : Place) (x : Mould) → is_model (gone_place place x) ≡ is_model place
-gone-model p.Arm m.Else = refl
-gone-model p.Arm _ = refl
-gone-model p.Choice m.Alternative = refl
-gone-model p.Choice m.Else = refl
-gone-model p.Choice _ = refl
+gone-model : (place : Place) (x : PieceKind) → is_model (gone_place place x) ≡ is_model place
+gone-model p.IfArm m.Else = refl
+gone-model p.IfArm _ = refl
+gone-model p.Case m.Alternative = refl
+gone-model p.Case m.Else = refl
+gone-model p.Case _ = refl
 gone-model _ x = refl
 
 after-end : (place : Place) → is_end (place_after place) ≡ is_end place
@@ -85,25 +85,25 @@ after-model : (place : Place) → is_model (place_after place) ≡ is_model plac
 after-model p.Heads = refl
 after-model _ = refl
 
-left-opened : (place inner : Place) → is_start place ≡ false → is_looped place ≡ false → left_opened place inner ≡ within_then (waits inner) (waits (place_after place))
+left-opened : (place inner : Place) → is_start place ≡ false → is_loop_body place ≡ false → left_opened place inner ≡ within_then (waits inner) (waits (place_after place))
 left-opened p.Start inner s l = let no : ⊥ = cc in absurd no
-left-opened p.Looped inner s l = let no : ⊥ = cc in absurd no
+left-opened p.LoopBody inner s l = let no : ⊥ = cc in absurd no
 left-opened _ inner s l = refl
 
-left-opened-loop : (place inner : Place) → is_looped place ≡ true → left_opened place inner ≡ within (waits inner)
-left-opened-loop p.Looped inner l = refl
+left-opened-loop : (place inner : Place) → is_loop_body place ≡ true → left_opened place inner ≡ within (waits inner)
+left-opened-loop p.LoopBody inner l = refl
 left-opened-loop _ inner l = let no : ⊥ = cc in absurd no
 
-left-after : (place : Place) → is_looped place ≡ false → left_after place ≡ rest (waits (place_after place))
-left-after p.Looped l = let no : ⊥ = cc in absurd no
+left-after : (place : Place) → is_loop_body place ≡ false → left_after place ≡ rest (waits (place_after place))
+left-after p.LoopBody l = let no : ⊥ = cc in absurd no
 left-after _ l = refl
 
-left-after-loop : (place : Place) → is_looped place ≡ true → left_after place ≡ whole
-left-after-loop p.Looped l = refl
+left-after-loop : (place : Place) → is_loop_body place ≡ true → left_after place ≡ whole
+left-after-loop p.LoopBody l = refl
 left-after-loop _ l = let no : ⊥ = cc in absurd no
 
-loop-no-model : (place : Place) → is_looped place ≡ true → is_model place ≡ false
-loop-no-model p.Looped l = refl
+loop-no-model : (place : Place) → is_loop_body place ≡ true → is_model place ≡ false
+loop-no-model p.LoopBody l = refl
 loop-no-model _ l = let no : ⊥ = cc in absurd no
 
 -- ---- a piece and what is read behind it
@@ -114,7 +114,7 @@ on role place depth x xs end h r reads =
     let same : left_at (Some role) place (form_at depth x) ≡ behind (waits place) (form_at depth x) = ap (λ z. left_at z place (form_at depth x)) (sym r) ∙ sym (left-is place (form_at depth x) h) in
     read-on (waits place) depth x xs end (subst (λ z. ReadsLeft z depth xs end) same reads)
 
-pub none-begins : (place : Place) (x : Mould) → is_end place ≡ false → role_at place x ≡ None → may_begin (waits place) x ≡ false
+pub none-begins : (place : Place) (x : PieceKind) → is_end place ≡ false → role_at place x ≡ None → may_begin (waits place) x ≡ false
 none-begins place x h r = begins-is place x h ∙ ap is_some r
 
 -- a block that goes on is read to its end
@@ -141,13 +141,13 @@ record Taken (frame : Frame) (k : Stack) (x : PieceForm) (xs : List PieceForm) (
   entered : enter role x.line x.form (frame ∷ k) ≡ some_stack next
   runs : run limit (frame ∷ k) (x ∷ xs) ≡ run limit next xs
   live : Live next
-  is : form_at (length k) x ≡ mould_of x.form
+  is : form_at (length k) x ≡ piece_kind_of x.form
 
 takes : (frame : Frame) (k : Stack) (x : PieceForm) (xs : List PieceForm) (role : Role) → role_at (frame_place frame) (form_at (length k) x) ≡ Some role → Live (frame ∷ k) → Taken frame k x xs role
 unfolding Live
 takes frame k x xs role r live =
     let c : Counts frame k x role = counts frame k x role r in
-    let here : role_at (frame_place frame) (mould_of x.form) ≡ Some role = ap (role_at (frame_place frame)) (sym c.is) ∙ r in
+    let here : role_at (frame_place frame) (piece_kind_of x.form) ≡ Some role = ap (role_at (frame_place frame)) (sym c.is) ∙ r in
     let goes : (next : Stack) × (enter role x.line x.form (frame ∷ k) ≡ some_stack next) = progress limit (frame ∷ k) live.0 x.line x.form role live.1 here c.own in
     let stepped : step limit (frame ∷ k) x ≡ Ok goes.0 = step-role limit (frame ∷ k) x role goes.0 here c.own c.block goes.1 in
     record {
@@ -171,39 +171,39 @@ read-closes : (frame : Frame) (k : Stack) (x : PieceForm) (xs : List PieceForm) 
 unfolding At-here
 read-closes frame k x xs h r t = taken xs t.next (on Closes (frame_place frame) (length k) x xs (took xs) h r refl) t.runs (closes-adds x.line x.form frame k t.next t.entered) t.live (omega arith)
 
-read-goes : (n : ℕ) (frame : Frame) (k : Stack) (x : PieceForm) (xs : List PieceForm) → Reader n → length xs ≤ n → is_end (frame_place frame) ≡ false → role_at (frame_place frame) (form_at (length k) x) ≡ Some GoesOn → Taken frame k x xs GoesOn → At-here frame k x xs
+read-goes : (n : ℕ) (frame : Frame) (k : Stack) (x : PieceForm) (xs : List PieceForm) → Reader n → length xs ≤ n → is_end (frame_place frame) ≡ false → role_at (frame_place frame) (form_at (length k) x) ≡ Some Continues → Taken frame k x xs Continues → At-here frame k x xs
 unfolding At-here
 read-goes n frame k x xs read small h r t =
     let place : Place = gone_place (frame_place frame) (form_at (length k) x) in
     let at : At k place t.next = subst (λ z. At k (gone_place (frame_place frame) z) t.next) (sym t.is) (gone-at x.line x.form frame k t.next t.entered) in
     let there : ReadAt place k t.next xs = led n place k t.next xs read small (gone-end (frame_place frame) (form_at (length k) x) ∙ h) t.live at in
-    further (frame_place frame) place k (frame ∷ k) t.next (x ∷ xs) xs t.runs (λ end reads. on GoesOn (frame_place frame) (length k) x xs end h r reads) (gone-model (frame_place frame) (form_at (length k) x)) (omega arith) there
+    further (frame_place frame) place k (frame ∷ k) t.next (x ∷ xs) xs t.runs (λ end reads. on Continues (frame_place frame) (length k) x xs end h r reads) (gone-model (frame_place frame) (form_at (length k) x)) (omega arith) there
 
 -- behind a whole part of the block
-read-after : (n : ℕ) (loop : Bool) (frame : Frame) (k : Stack) (zs ys : List PieceForm) (next : Stack) → Reader n → is_looped (frame_place frame) ≡ loop → is_end (frame_place frame) ≡ false → length ys ≤ n → length ys ≤ length zs → run limit (frame ∷ k) zs ≡ run limit next ys → Live next → Adds (frame ∷ k) false next → (is_looped (frame_place frame) ≡ true → Reads (waits (frame_place frame)) (length k) zs (took ys)) → (is_looped (frame_place frame) ≡ false → (end : Reading) → Reads (waits (place_after (frame_place frame))) (length k) ys end → Reads (waits (frame_place frame)) (length k) zs end) → ReadAt (frame_place frame) k (frame ∷ k) zs
+read-after : (n : ℕ) (loop : Bool) (frame : Frame) (k : Stack) (zs ys : List PieceForm) (next : Stack) → Reader n → is_loop_body (frame_place frame) ≡ loop → is_end (frame_place frame) ≡ false → length ys ≤ n → length ys ≤ length zs → run limit (frame ∷ k) zs ≡ run limit next ys → Live next → Adds (frame ∷ k) false next → (is_loop_body (frame_place frame) ≡ true → Reads (waits (frame_place frame)) (length k) zs (took ys)) → (is_loop_body (frame_place frame) ≡ false → (end : Reading) → Reads (waits (place_after (frame_place frame))) (length k) ys end → Reads (waits (frame_place frame)) (length k) zs end) → ReadAt (frame_place frame) k (frame ∷ k) zs
 read-after n true frame k zs ys next read l h small shorter ran live adds ends goes =
     taken ys next (ends l) ran (subst (λ z. Adds k z next) (sym (loop-no-model (frame_place frame) l)) (adds-ends frame k next l adds)) live shorter
 read-after n false frame k zs ys next read l h small shorter ran live adds ends goes =
     let there : ReadAt (place_after (frame_place frame)) k next ys = led n (place_after (frame_place frame)) k next ys read small (after-end (frame_place frame) ∙ h) live (adds-at frame k next l adds) in
     further (frame_place frame) (place_after (frame_place frame)) k (frame ∷ k) next zs ys ran (goes l) (after-model (frame_place frame)) shorter there
 
-read-stands : (n : ℕ) (frame : Frame) (k : Stack) (x : PieceForm) (xs : List PieceForm) → Reader n → length xs ≤ n → is_end (frame_place frame) ≡ false → role_at (frame_place frame) (form_at (length k) x) ≡ Some Stands → Taken frame k x xs Stands → At-here frame k x xs
+read-stands : (n : ℕ) (frame : Frame) (k : Stack) (x : PieceForm) (xs : List PieceForm) → Reader n → length xs ≤ n → is_end (frame_place frame) ≡ false → role_at (frame_place frame) (form_at (length k) x) ≡ Some StandsAlone → Taken frame k x xs StandsAlone → At-here frame k x xs
 unfolding At-here
 read-stands n frame k x xs read small h r t =
-    read-after n (is_looped (frame_place frame)) frame k (x ∷ xs) xs t.next read refl h small (omega arith) t.runs t.live (stands-adds x.line x.form (frame ∷ k) t.next t.entered)
-    (λ l. on Stands (frame_place frame) (length k) x xs (took xs) h r (subst (λ z. ReadsLeft z (length k) xs (took xs)) (sym (left-after-loop (frame_place frame) l)) refl))
-    (λ l end reads. on Stands (frame_place frame) (length k) x xs end h r (subst (λ z. ReadsLeft z (length k) xs end) (sym (left-after (frame_place frame) l)) reads))
+    read-after n (is_loop_body (frame_place frame)) frame k (x ∷ xs) xs t.next read refl h small (omega arith) t.runs t.live (stands-adds x.line x.form (frame ∷ k) t.next t.entered)
+    (λ l. on StandsAlone (frame_place frame) (length k) x xs (took xs) h r (subst (λ z. ReadsLeft z (length k) xs (took xs)) (sym (left-after-loop (frame_place frame) l)) refl))
+    (λ l end reads. on StandsAlone (frame_place frame) (length k) x xs end h r (subst (λ z. ReadsLeft z (length k) xs end) (sym (left-after (frame_place frame) l)) reads))
 
 -- the block that a piece opened breaks, or is read to its end
-opens-breaks : (loop : Bool) (frame : Frame) (k : Stack) (x : PieceForm) (xs left : List PieceForm) → is_looped (frame_place frame) ≡ loop → is_end (frame_place frame) ≡ false → role_at (frame_place frame) (form_at (length k) x) ≡ Some Opens → Reads (waits (opened_place (form_at (length k) x))) (suc (length k)) xs (broke left) → Reads (waits (frame_place frame)) (length k) (x ∷ xs) (broke left)
+opens-breaks : (loop : Bool) (frame : Frame) (k : Stack) (x : PieceForm) (xs left : List PieceForm) → is_loop_body (frame_place frame) ≡ loop → is_end (frame_place frame) ≡ false → role_at (frame_place frame) (form_at (length k) x) ≡ Some Opens → Reads (waits (opened_place (form_at (length k) x))) (suc (length k)) xs (broke left) → Reads (waits (frame_place frame)) (length k) (x ∷ xs) (broke left)
 opens-breaks true frame k x xs left l h r reads = on Opens (frame_place frame) (length k) x xs (broke left) h r (subst (λ z. ReadsLeft z (length k) xs (broke left)) (sym (left-opened-loop (frame_place frame) (opened_place (form_at (length k) x)) l)) reads)
 opens-breaks false frame k x xs left l h r reads = on Opens (frame_place frame) (length k) x xs (broke left) h r (subst (λ z. ReadsLeft z (length k) xs (broke left)) (sym (left-opened (frame_place frame) (opened_place (form_at (length k) x)) (frame-no-start frame) l)) (inside left reads))
 
 opens-inner : (n : ℕ) (frame : Frame) (k : Stack) (x : PieceForm) (xs : List PieceForm) (next : Stack) → Reader n → length xs ≤ n → is_end (frame_place frame) ≡ false → role_at (frame_place frame) (form_at (length k) x) ≡ Some Opens → is_model (opened_place (form_at (length k) x)) ≡ false → run limit (frame ∷ k) (x ∷ xs) ≡ run limit next xs → ReadAt (opened_place (form_at (length k) x)) (frame ∷ k) next xs → At-here frame k x xs
 unfolding At-here
-opens-inner n frame k x xs next read small h r model ran (broken left wrong reads stops) = broken left wrong (opens-breaks (is_looped (frame_place frame)) frame k x xs left refl h r reads) (ran ∙ stops)
+opens-inner n frame k x xs next read small h r model ran (broken left wrong reads stops) = broken left wrong (opens-breaks (is_loop_body (frame_place frame)) frame k x xs left refl h r reads) (ran ∙ stops)
 opens-inner n frame k x xs next read small h r model ran (taken left there reads runs adds live less) =
-    read-after n (is_looped (frame_place frame)) frame k (x ∷ xs) left there read refl h (omega (arith, small, less)) (omega (arith, less)) (ran ∙ runs) live (subst (λ z. Adds (frame ∷ k) z there) model adds)
+    read-after n (is_loop_body (frame_place frame)) frame k (x ∷ xs) left there read refl h (omega (arith, small, less)) (omega (arith, less)) (ran ∙ runs) live (subst (λ z. Adds (frame ∷ k) z there) model adds)
     (λ l. on Opens (frame_place frame) (length k) x xs (took left) h r (subst (λ z. ReadsLeft z (length k) xs (took left)) (sym (left-opened-loop (frame_place frame) (opened_place (form_at (length k) x)) l)) reads))
     (λ l end more. on Opens (frame_place frame) (length k) x xs end h r (subst (λ z. ReadsLeft z (length k) xs end) (sym (left-opened (frame_place frame) (opened_place (form_at (length k) x)) (frame-no-start frame) l)) (outside left end reads more)))
 
@@ -217,8 +217,8 @@ read-opens n frame k x xs read small h r t =
 read-role : (n : ℕ) (role : Option Role) (frame : Frame) (k : Stack) (x : PieceForm) (xs : List PieceForm) → Reader n → length xs ≤ n → is_end (frame_place frame) ≡ false → role_at (frame_place frame) (form_at (length k) x) ≡ role → Live (frame ∷ k) → At-here frame k x xs
 read-role n None frame k x xs read small h r live = read-none-there frame k x xs h r
 read-role n (Some Opens) frame k x xs read small h r live = read-opens n frame k x xs read small h r (takes frame k x xs Opens r live)
-read-role n (Some GoesOn) frame k x xs read small h r live = read-goes n frame k x xs read small h r (takes frame k x xs GoesOn r live)
-read-role n (Some Stands) frame k x xs read small h r live = read-stands n frame k x xs read small h r (takes frame k x xs Stands r live)
+read-role n (Some Continues) frame k x xs read small h r live = read-goes n frame k x xs read small h r (takes frame k x xs Continues r live)
+read-role n (Some StandsAlone) frame k x xs read small h r live = read-stands n frame k x xs read small h r (takes frame k x xs StandsAlone r live)
 read-role n (Some Closes) frame k x xs read small h r live = read-closes frame k x xs h r (takes frame k x xs Closes r live)
 
 -- ---- every block

@@ -1,3 +1,5 @@
+-- What was read: the pieces that a stack of open blocks stands for.
+
 use Rattle.std.proofs.Common.{◌≡◌, ℕ, ◌+◌, ◌≤◌, Bool, true, false, List, [], ◌∷◌, ◌++◌, length, map}
 use Rattle.mos_tree.specs.declared.expr.Expr.{Expr}
 use Rattle.mos_tree.specs.declared.declaration.Parameter.{Parameter}
@@ -13,21 +15,19 @@ use Rattle.mos_tree.specs.declared.source.Head.{Head}
 use Rattle.mos_tree.specs.declared.source.RoutinePart.{RoutinePart}
 use Rattle.mos_tree.specs.declared.source.Top.{Top}
 use Rattle.mos_tree.specs.declared.source.Tree.{Tree}
-use Rattle.mos_form.specs.declared.form.Form.TheVariants as f
-use Rattle.mos_form.specs.declared.form.Guard.TheVariants as guard
-use Rattle.mos_form.specs.declared.form.Keyword.TheVariants as keyword
-use Rattle.mos_form.specs.declared.form.PieceForm.{PieceForm}
+use Rattle.mos_tree.specs.declared.form.Form.TheVariants as f
+use Rattle.mos_tree.specs.declared.form.ConditionKeyword.TheVariants as conditional
+use Rattle.mos_tree.specs.declared.form.Keyword.TheVariants as keyword
+use Rattle.mos_tree.specs.declared.form.PieceForm.{PieceForm}
 use Rattle.mos_source.specs.declared.frame.Frame.{Frame}
 use Rattle.mos_source.specs.declared.frame.Frame.TheVariants as g
 use Rattle.mos_source.specs.declared.place.Place.{Place}
 use Rattle.mos_source.specs.declared.place.Place.TheVariants as p
-use Rattle.mos_form.specs.Forms.{piece}
+use Rattle.mos_tree.specs.Forms.{piece}
 use Rattle.mos_source.specs.Places.{takes_statements}
 use Rattle.mos_source.specs.Statements.{Rows, Block, Arms, Alternatives, arm_form, spell_rows, spell_block, spell_arms, spell_alternatives, depth_block, depth_arms, depth_alternatives, label_groups, first_line, arm_of, trees, trees_of_arms, trees_of_alternatives}
 use Rattle.mos_source.specs.Sources.{Items, Parts, Tops, Source, spell_parameter, spell_field, spell_items, spell_parts, heading_form, spell_tops, spell_head, spell_source, depth_items, depth_parts, depth_tops, AreAllowed, IsWithin, items_of, parts_of, tops_of, tree_of}
 use Rattle.mos_source.specs.Machine.{Stack, place_of}
-
--- What was read: the pieces that a stack of open blocks stands for.
 
 -- the top of a model
 abbrev pub is_model : Place → Bool
@@ -70,7 +70,7 @@ pub record HeldRoutine (deep : ℕ) (k : Stack) (heading : Heading) (xs : List R
   pub fits : depth_parts parts + length k ≤ deep
   pub exact : own ≡ piece heading.line (heading_form heading) ∷ spell_parts parts
 
-pub record HeldArm (deep : ℕ) (k : Stack) (first : ℕ) (arms : List (Arm Statement)) (l : ℕ) (c : Expr) (body : List Statement) (own : List PieceForm) : Type 0 where
+pub record HeldIfArm (deep : ℕ) (k : Stack) (first : ℕ) (arms : List (Arm Statement)) (l : ℕ) (c : Expr) (body : List Statement) (own : List PieceForm) : Type 0 where
   pub there : takes_statements (place_of k) ≡ true
   pub before : Arms
   pub block : Block
@@ -81,7 +81,7 @@ pub record HeldArm (deep : ℕ) (k : Stack) (first : ℕ) (arms : List (Arm Stat
   pub fits_body : depth_block block + length k ≤ deep
   pub exact : own ≡ spell_arms before ++ piece l (arm_form before c) ∷ spell_block block
 
-pub record HeldOtherwise (deep : ℕ) (k : Stack) (first : ℕ) (arms : List (Arm Statement)) (body : List Statement) (own : List PieceForm) : Type 0 where
+pub record HeldIfElse (deep : ℕ) (k : Stack) (first : ℕ) (arms : List (Arm Statement)) (body : List Statement) (own : List PieceForm) : Type 0 where
   pub there : takes_statements (place_of k) ≡ true
   pub before : Arms
   pub last : ℕ
@@ -97,30 +97,30 @@ pub record HeldOtherwise (deep : ℕ) (k : Stack) (first : ℕ) (arms : List (Ar
   pub fits_body : depth_block block + length k ≤ deep
   pub exact : own ≡ (spell_arms before ++ piece last (arm_form before condition) ∷ spell_block guarded) ++ piece at (f.Keyword keyword.Else) ∷ spell_block block
 
-pub record HeldChoice (deep : ℕ) (k : Stack) (l : ℕ) (v : Expr) (xs : List (Alternative Statement)) (own : List PieceForm) : Type 0 where
+pub record HeldCase (deep : ℕ) (k : Stack) (l : ℕ) (v : Expr) (xs : List (Alternative Statement)) (own : List PieceForm) : Type 0 where
   pub there : takes_statements (place_of k) ≡ true
-  pub chosen : Alternatives
-  pub are : xs ≡ trees_of_alternatives chosen
-  pub fits : depth_alternatives chosen + length k ≤ deep
-  pub exact : own ≡ piece l (f.Guarded guard.Case v) ∷ spell_alternatives chosen
+  pub alternatives : Alternatives
+  pub are : xs ≡ trees_of_alternatives alternatives
+  pub fits : depth_alternatives alternatives + length k ≤ deep
+  pub exact : own ≡ piece l (f.Guarded conditional.Case v) ∷ spell_alternatives alternatives
 
-pub record HeldChosen (deep : ℕ) (k : Stack) (l : ℕ) (v : Expr) (xs : List (Alternative Statement)) (at : ℕ) (labels : List Expr) (own : List PieceForm) : Type 0 where
+pub record HeldCaseArm (deep : ℕ) (k : Stack) (l : ℕ) (v : Expr) (xs : List (Alternative Statement)) (at : ℕ) (labels : List Expr) (own : List PieceForm) : Type 0 where
   pub there : takes_statements (place_of k) ≡ true
-  pub chosen : Alternatives
-  pub are : xs ≡ trees_of_alternatives chosen
-  pub fits : depth_alternatives chosen + length k ≤ deep
-  pub exact : own ≡ piece l (f.Guarded guard.Case v) ∷ (spell_alternatives chosen ++ piece at (f.Alternative labels) ∷ [])
+  pub alternatives : Alternatives
+  pub are : xs ≡ trees_of_alternatives alternatives
+  pub fits : depth_alternatives alternatives + length k ≤ deep
+  pub exact : own ≡ piece l (f.Guarded conditional.Case v) ∷ (spell_alternatives alternatives ++ piece at (f.Alternative labels) ∷ [])
 
-pub record HeldChoiceOtherwise (deep : ℕ) (k : Stack) (l : ℕ) (v : Expr) (xs : List (Alternative Statement)) (body : List Statement) (own : List PieceForm) : Type 0 where
+pub record HeldCaseElse (deep : ℕ) (k : Stack) (l : ℕ) (v : Expr) (xs : List (Alternative Statement)) (body : List Statement) (own : List PieceForm) : Type 0 where
   pub there : takes_statements (place_of k) ≡ true
-  pub chosen : Alternatives
+  pub alternatives : Alternatives
   pub at : ℕ
   pub block : Block
-  pub are : xs ≡ trees_of_alternatives chosen
+  pub are : xs ≡ trees_of_alternatives alternatives
   pub body_is : body ≡ trees block
-  pub fits : depth_alternatives chosen + length k ≤ deep
+  pub fits : depth_alternatives alternatives + length k ≤ deep
   pub fits_body : depth_block block + length k ≤ deep
-  pub exact : own ≡ piece l (f.Guarded guard.Case v) ∷ (spell_alternatives chosen ++ piece at (f.Keyword keyword.Else) ∷ spell_block block)
+  pub exact : own ≡ piece l (f.Guarded conditional.Case v) ∷ (spell_alternatives alternatives ++ piece at (f.Keyword keyword.Else) ∷ spell_block block)
 
 pub record HeldLoop (deep : ℕ) (k : Stack) (x : PieceForm) (own : List PieceForm) : Type 0 where
   pub there : takes_statements (place_of k) ≡ true
@@ -147,16 +147,16 @@ HeldOwn deep (g.Parameters l xs) k own = HeldParameters deep k l xs own
 HeldOwn deep (g.Declarations l xs) k own = HeldDeclarations deep k l xs own
 HeldOwn deep (g.Record l name xs) k own = HeldRecord deep k l name xs own
 HeldOwn deep (g.Routine heading xs) k own = HeldRoutine deep k heading xs own
-HeldOwn deep (g.Arm first arms l c body) k own = HeldArm deep k first arms l c body own
-HeldOwn deep (g.Otherwise first arms body) k own = HeldOtherwise deep k first arms body own
-HeldOwn deep (g.Choice l v xs) k own = HeldChoice deep k l v xs own
-HeldOwn deep (g.Chosen l v xs at labels) k own = HeldChosen deep k l v xs at labels own
-HeldOwn deep (g.ChoiceOtherwise l v xs body) k own = HeldChoiceOtherwise deep k l v xs body own
-HeldOwn deep (g.Over l index) k own = HeldLoop deep k (piece l (f.Forall index)) own
-HeldOwn deep (g.AsLongAs l c) k own = HeldLoop deep k (piece l (f.Guarded guard.While c)) own
-HeldOwn deep (g.Repeated l body) k own = HeldBlock deep k (piece l (f.Keyword keyword.Repeat)) body own
-HeldOwn deep (g.Grouped l body) k own = HeldBlock deep k (piece l (f.Keyword keyword.Do)) body own
-HeldOwn deep (g.Labelled l d e rows) k own = HeldRows deep k (piece l (f.Initializations d e)) rows own
+HeldOwn deep (g.IfArm first arms l c body) k own = HeldIfArm deep k first arms l c body own
+HeldOwn deep (g.IfElse first arms body) k own = HeldIfElse deep k first arms body own
+HeldOwn deep (g.Case l v xs) k own = HeldCase deep k l v xs own
+HeldOwn deep (g.CaseArm l v xs at labels) k own = HeldCaseArm deep k l v xs at labels own
+HeldOwn deep (g.CaseElse l v xs body) k own = HeldCaseElse deep k l v xs body own
+HeldOwn deep (g.Forall l index) k own = HeldLoop deep k (piece l (f.Forall index)) own
+HeldOwn deep (g.While l c) k own = HeldLoop deep k (piece l (f.Guarded conditional.While c)) own
+HeldOwn deep (g.Repeat l body) k own = HeldBlock deep k (piece l (f.Keyword keyword.Repeat)) body own
+HeldOwn deep (g.Do l body) k own = HeldBlock deep k (piece l (f.Keyword keyword.Do)) body own
+HeldOwn deep (g.Initializations l d e rows) k own = HeldRows deep k (piece l (f.Initializations d e)) rows own
 HeldOwn deep _ k own = ⊥
 
 pub record HeldHeads (deep : ℕ) (k : Stack) (l : ℕ) (name : ModelName) (heads : List Head) (pieces : List PieceForm) : Type 0 where

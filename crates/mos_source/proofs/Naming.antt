@@ -1,12 +1,14 @@
+-- The kind of the fault of a piece.
+
 use Rattle.std.proofs.Common.{◌≡◌, ℕ, ◌+◌, ◌≤◌, Bool, true, false, cond, ◌⊎◌, inl, inr, List, [], ◌∷◌, ◌++◌, length, Option, Some, None, Ok, Err, refl, sym, ◌∙◌, ap, subst, arith}
 use Rattle.std.specs.Prelude.{nat_lt, unwrap_or}
 use Rattle.mos_text.specs.declared.kind.Kind.{Kind}
 use Rattle.mos_text.specs.declared.kind.Kind.TheVariants as kind
-use Rattle.mos_form.specs.declared.form.Mould.{Mould}
-use Rattle.mos_form.specs.declared.form.PieceForm.{PieceForm}
+use Rattle.mos_tree.specs.declared.form.PieceKind.{PieceKind}
+use Rattle.mos_tree.specs.declared.form.PieceForm.{PieceForm}
 use Rattle.mos_source.specs.declared.place.Role.{Role}
-use Rattle.mos_source.specs.declared.place.Role.TheVariants.{Opens, GoesOn, Stands, Closes}
-use Rattle.mos_form.specs.Forms.{piece, mould_of}
+use Rattle.mos_source.specs.declared.place.Role.TheVariants.{Opens, Continues, StandsAlone, Closes}
+use Rattle.mos_tree.specs.Forms.{piece, piece_kind_of}
 use Rattle.mos_source.specs.Limits.{own_limit}
 use Rattle.mos_source.specs.Places.{role_at}
 use Rattle.mos_source.specs.Sources.{depth_tops, tree_of, limit}
@@ -18,28 +20,28 @@ use Rattle.mos_source.proofs.Held.{Holds}
 use Rattle.mos_source.proofs.Sound.{some_stack}
 use Rattle.mos_source.proofs.SoundStep.{sound, no-limit, some_kind}
 use Rattle.mos_source.proofs.Completing.{Closed, closing}
-use Rattle.mos_source.proofs.Progress.{progress, sample, sample-mould, sample-limit}
+use Rattle.mos_source.proofs.Progress.{progress, sample, sample-kind, sample-limit}
 
 -- ---- a mould that may stand
 
 pub room : (deep : ℕ) (role : Role) (n : ℕ) → n ≤ deep → block_limit deep role n ≡ None
 room deep Opens n h = block-fits deep n h
-room deep GoesOn n h = refl
-room deep Stands n h = refl
+room deep Continues n h = refl
+room deep StandsAlone n h = refl
 room deep Closes n h = refl
 
-could-stand : (before : List PieceForm) (top : Stack) (mould : Mould) (role : Role) → ((deeper : ℕ) → limit ≤ deeper → Holds deeper top before) → role_at (place_of top) mould ≡ Some role → CouldStand before mould
-could-stand before top mould role held r =
+could-stand : (before : List PieceForm) (top : Stack) (piece_kind : PieceKind) (role : Role) → ((deeper : ℕ) → limit ≤ deeper → Holds deeper top before) → role_at (place_of top) piece_kind ≡ Some role → CouldStand before piece_kind
+could-stand before top piece_kind role held r =
     let deep : ℕ = limit + length top in
     let there : Holds deep top before = held deep (omega arith) in
-    let other : PieceForm = piece 0 (sample mould) in
-    let role-is : role_at (place_of top) (mould_of (sample mould)) ≡ Some role = ap (λ z. role_at (place_of top) z) (sample-mould mould) ∙ r in
-    let takes : (next : Stack) × (enter role 0 (sample mould) top ≡ some_stack next) = progress deep top before 0 (sample mould) role there role-is (sample-limit mould) in
-    let stepped : step deep top other ≡ Ok takes.0 = step-role deep top other role takes.0 role-is (sample-limit mould) (room deep role (length top) (omega arith)) takes.1 in
+    let other : PieceForm = piece 0 (sample piece_kind) in
+    let role-is : role_at (place_of top) (piece_kind_of (sample piece_kind)) ≡ Some role = ap (λ z. role_at (place_of top) z) (sample-kind piece_kind) ∙ r in
+    let takes : (next : Stack) × (enter role 0 (sample piece_kind) top ≡ some_stack next) = progress deep top before 0 (sample piece_kind) role there role-is (sample-limit piece_kind) in
+    let stepped : step deep top other ≡ Ok takes.0 = step-role deep top other role takes.0 role-is (sample-limit piece_kind) (room deep role (length top) (omega arith)) takes.1 in
     let all : Closed deep (before ++ other ∷ []) = closing deep (length takes.0) takes.0 (before ++ other ∷ []) (omega arith) (sound deep top takes.0 other before there stepped) in
     record {
       other = other;
-      alike = sample-mould mould;
+      alike = sample-kind piece_kind;
       source = all.held.source;
       deep = deep;
       within = all.held.within;
@@ -49,19 +51,19 @@ could-stand before top mould role held r =
 
 -- ---- a mould that may not
 
-pub step-none : (deep : ℕ) (k : Stack) (x : PieceForm) → role_at (place_of k) (mould_of x.form) ≡ None → step deep k x ≡ Err kind.Syntax
+pub step-none : (deep : ℕ) (k : Stack) (x : PieceForm) → role_at (place_of k) (piece_kind_of x.form) ≡ None → step deep k x ≡ Err kind.Syntax
 unfolding step
 step-none deep k x r = rw r refl
 
 run-none : (deep : ℕ) (k : Stack) (x : PieceForm) (xs : List PieceForm) → step deep k x ≡ Err kind.Syntax → run deep k (x ∷ xs) ≡ stopped kind.Syntax (x ∷ xs)
 run-none deep k x xs e = rw e refl
 
-could-not : (before : List PieceForm) (top : Stack) (mould : Mould) → ((deeper : ℕ) → limit ≤ deeper → (ys : List PieceForm) → run deeper [] (before ++ ys) ≡ run deeper top ys) → role_at (place_of top) mould ≡ None → CouldStand before mould → ⊥
-could-not before top mould goes r could =
+could-not : (before : List PieceForm) (top : Stack) (piece_kind : PieceKind) → ((deeper : ℕ) → limit ≤ deeper → (ys : List PieceForm) → run deeper [] (before ++ ys) ≡ run deeper top ys) → role_at (place_of top) piece_kind ≡ None → CouldStand before piece_kind → ⊥
+could-not before top piece_kind goes r could =
     let deep : ℕ = limit + could.deep in
     let fits : depth_tops could.source.tops ≤ deep = omega (arith, could.within.fits) in
     let whole : run deep [] (before ++ could.other ∷ could.rest) ≡ done (tree_of could.source) = subst (λ z. run deep [] z ≡ done (tree_of could.source)) could.exact (source-read deep could.source could.within.allowed fits) in
-    let role-is : role_at (place_of top) (mould_of could.other.form) ≡ None = ap (λ z. role_at (place_of top) z) could.alike ∙ r in
+    let role-is : role_at (place_of top) (piece_kind_of could.other.form) ≡ None = ap (λ z. role_at (place_of top) z) could.alike ∙ r in
     let half : run deep [] (before ++ could.other ∷ could.rest) ≡ stopped kind.Syntax (could.other ∷ could.rest) = goes deep (omega arith) (could.other ∷ could.rest) ∙ run-none deep top could.other could.rest (step-none deep top could.other role-is) in
     cc
 
@@ -78,8 +80,8 @@ deep-is deep n wrong false t e = let no : ⊥ = cc in absurd no
 
 block-is : (deep : ℕ) (role : Role) (n : ℕ) (wrong : Kind) → block_limit deep role n ≡ some_kind wrong → wrong ≡ kind.Deep
 block-is deep Opens n wrong e = deep-is deep n wrong (nat_lt deep n) refl e
-block-is deep GoesOn n wrong e = let no : ⊥ = cc in absurd no
-block-is deep Stands n wrong e = let no : ⊥ = cc in absurd no
+block-is deep Continues n wrong e = let no : ⊥ = cc in absurd no
+block-is deep StandsAlone n wrong e = let no : ⊥ = cc in absurd no
 block-is deep Closes n wrong e = let no : ⊥ = cc in absurd no
 
 broken-own : (own block : Option Kind) (wrong : Kind) → (block ≡ some_kind wrong → wrong ≡ kind.Deep) → or_block own block ≡ some_kind wrong → wrong ≡ unwrap_or own kind.Deep
@@ -89,14 +91,14 @@ broken-own None block wrong b e = b e
 some-next : (next : Option Stack) (k : Stack) → next ≡ None → next ≡ some_stack k → ⊥
 some-next next k a b = cc
 
-named-role : (before : List PieceForm) (top : Stack) (x : PieceForm) (after : List PieceForm) (wrong : Kind) (role : Option Role) → ((deeper : ℕ) → limit ≤ deeper → Holds deeper top before) → ((deeper : ℕ) → limit ≤ deeper → (ys : List PieceForm) → run deeper [] (before ++ ys) ≡ run deeper top ys) → role_at (place_of top) (mould_of x.form) ≡ role → step_in limit role x.line x.form top ≡ Err wrong → IsKind before (x ∷ after) wrong
+named-role : (before : List PieceForm) (top : Stack) (x : PieceForm) (after : List PieceForm) (wrong : Kind) (role : Option Role) → ((deeper : ℕ) → limit ≤ deeper → Holds deeper top before) → ((deeper : ℕ) → limit ≤ deeper → (ys : List PieceForm) → run deeper [] (before ++ ys) ≡ run deeper top ys) → role_at (place_of top) (piece_kind_of x.form) ≡ role → step_in limit role x.line x.form top ≡ Err wrong → IsKind before (x ∷ after) wrong
 unfolding step_as
 named-role before top x after wrong None held goes r e =
     let same : kind.Syntax ≡ wrong = cc in
-    subst (λ z. IsKind before (x ∷ after) z) same (misplaced x after (could-not before top (mould_of x.form) goes r))
+    subst (λ z. IsKind before (x ∷ after) z) same (misplaced x after (could-not before top (piece_kind_of x.form) goes r))
 named-role before top x after wrong (Some role) held goes r e =
     elim (unless-is (broken_limit limit role (length top) x.form) (enter role x.line x.form top) wrong e) [
-      | inl found ↦ subst (λ z. IsKind before (x ∷ after) z) (sym (broken-own (own_limit x.form) (block_limit limit role (length top)) wrong (block-is limit role (length top) wrong) found)) (beyond x after (could-stand before top (mould_of x.form) role held r))
+      | inl found ↦ subst (λ z. IsKind before (x ∷ after) z) (sym (broken-own (own_limit x.form) (block_limit limit role (length top)) wrong (block-is limit role (length top) wrong) found)) (beyond x after (could-stand before top (piece_kind_of x.form) role held r))
       | inr none ↦
           (let limits : (own_limit x.form ≡ None) × (block_limit limit role (length top) ≡ None) = no-limit (own_limit x.form) (block_limit limit role (length top)) none.0 in
           let takes : (next : Stack) × (enter role x.line x.form top ≡ some_stack next) = progress limit top before x.line x.form role (held limit (omega arith)) r limits.0 in
@@ -105,4 +107,4 @@ named-role before top x after wrong (Some role) held goes r e =
 
 pub named-step : (before : List PieceForm) (top : Stack) (x : PieceForm) (after : List PieceForm) (wrong : Kind) → ((deeper : ℕ) → limit ≤ deeper → Holds deeper top before) → ((deeper : ℕ) → limit ≤ deeper → (ys : List PieceForm) → run deeper [] (before ++ ys) ≡ run deeper top ys) → step limit top x ≡ Err wrong → IsKind before (x ∷ after) wrong
 unfolding step
-named-step before top x after wrong held goes e = named-role before top x after wrong (role_at (place_of top) (mould_of x.form)) held goes refl e
+named-step before top x after wrong held goes e = named-role before top x after wrong (role_at (place_of top) (piece_kind_of x.form)) held goes refl e

@@ -1,11 +1,11 @@
+-- A production reads pieces in one way.
+
 use Rattle.std.proofs.Common.{◌≡◌, ℕ, suc, Bool, true, false, List, ◌∷◌, refl, sym, subst}
-use Rattle.mos_form.specs.declared.form.Mould.{Mould}
-use Rattle.mos_form.specs.declared.form.Mould.TheVariants as m
-use Rattle.mos_form.specs.declared.form.PieceForm.{PieceForm}
+use Rattle.mos_tree.specs.declared.form.PieceKind.{PieceKind}
+use Rattle.mos_tree.specs.declared.form.PieceKind.TheVariants as m
+use Rattle.mos_tree.specs.declared.form.PieceForm.{PieceForm}
 use Rattle.mos_source.specs.Laws.{AlternativesDiffer}
 use Rattle.mos_source.specs.Productions.{Rule, one, block, ◌~◌, ◌or◌, optional, many, statement, statement_is, same, form_at, front, begins, Reading, took, broke, Reads, takes, breaks, opens, opens_not, breaks_first, goes_on, as_first, as_second, as_none, entered, missing, again, no_more, by_name}
-
--- A production reads pieces in one way.
 
 pub alternatives-differ : AlternativesDiffer
 alternatives-differ m.Unknown = (refl, refl)
@@ -24,20 +24,20 @@ took-same xs ys e = cc
 Same : Rule → ℕ → List PieceForm → Reading → Type 0
 Same rule depth pieces end = (other : Reading) → Reads rule depth pieces other → end ≡ other
 
-of-takes : (form : Mould) (depth : ℕ) (x : PieceForm) (xs : List PieceForm) (other : Reading) → same form (form_at depth x) ≡ true → Reads (one form) depth (x ∷ xs) other → took xs ≡ other
+of-takes : (form : PieceKind) (depth : ℕ) (x : PieceForm) (xs : List PieceForm) (other : Reading) → same form (form_at depth x) ≡ true → Reads (one form) depth (x ∷ xs) other → took xs ≡ other
 of-takes form depth x xs _ h (takes _ _ _ _ g) = refl
 of-takes form depth x xs _ h (breaks _ _ _ g) = absurd (never (same form (form_at depth x)) h g)
 
-of-breaks : (form : Mould) (depth : ℕ) (pieces : List PieceForm) (other : Reading) → same form (front depth pieces) ≡ false → Reads (one form) depth pieces other → broke pieces ≡ other
+of-breaks : (form : PieceKind) (depth : ℕ) (pieces : List PieceForm) (other : Reading) → same form (front depth pieces) ≡ false → Reads (one form) depth pieces other → broke pieces ≡ other
 of-breaks form depth _ _ h (takes _ _ x xs g) = absurd (never (same form (form_at depth x)) g h)
 of-breaks form depth pieces _ h (breaks _ _ _ g) = refl
 
-of-opens : (form : Mould) (rest : Rule) (depth : ℕ) (x : PieceForm) (xs : List PieceForm) (end other : Reading) → same form (form_at depth x) ≡ true → Same rest (suc depth) xs end → Reads (block form rest) depth (x ∷ xs) other → end ≡ other
+of-opens : (form : PieceKind) (rest : Rule) (depth : ℕ) (x : PieceForm) (xs : List PieceForm) (end other : Reading) → same form (form_at depth x) ≡ true → Same rest (suc depth) xs end → Reads (block form rest) depth (x ∷ xs) other → end ≡ other
 unfolding Same
 of-opens form rest depth x xs end other h go (opens _ _ _ _ _ _ g r) = go other r
 of-opens form rest depth x xs end _ h go (opens_not _ _ _ _ g) = absurd (never (same form (form_at depth x)) h g)
 
-of-opens-not : (form : Mould) (rest : Rule) (depth : ℕ) (pieces : List PieceForm) (other : Reading) → same form (front depth pieces) ≡ false → Reads (block form rest) depth pieces other → broke pieces ≡ other
+of-opens-not : (form : PieceKind) (rest : Rule) (depth : ℕ) (pieces : List PieceForm) (other : Reading) → same form (front depth pieces) ≡ false → Reads (block form rest) depth pieces other → broke pieces ≡ other
 of-opens-not form rest depth _ other h (opens _ _ _ x xs _ g r) = absurd (never (same form (form_at depth x)) g h)
 of-opens-not form rest depth pieces _ h (opens_not _ _ _ _ g) = refl
 

@@ -1,8 +1,10 @@
-use Rattle.std.proofs.Common.{◌≡◌, ◌⊎◌, inl, inr, List, [], ◌∷◌, ◌++◌, length, refl, sym, ◌∙◌, ap, subst}
+-- Pieces have one tree or one faulty piece.
+
+use Rattle.std.proofs.Common.{◌≡◌, ◌⊎◌, inl, inr, List, [], ◌∷◌, ◌++◌, refl, sym, ◌∙◌, ap, subst}
 use Rattle.std.proofs.lemmas.List.{append_assoc, append-nil}
-use Rattle.mos_form.specs.declared.form.PieceForm.{PieceForm}
+use Rattle.mos_tree.specs.declared.form.PieceForm.{PieceForm}
 use Rattle.mos_source.specs.Sources.{Source, tree_of, limit, IsSource}
-use Rattle.mos_source.specs.Faults.{Begins, IsStuck, IsFaulty, FaultyAt}
+use Rattle.mos_source.specs.Faults.{Begins, IsStuck, IsFaulty, line_of_first, FaultyOn}
 use Rattle.mos_source.specs.Laws.{HaveOneTree, HaveOneFault, HaveNotBoth, HasFault, HaveOneOfBoth}
 use Rattle.mos_source.specs.Machine.{Outcome, done, stopped, run}
 use Rattle.mos_source.proofs.Steps.{one-end}
@@ -73,7 +75,7 @@ one-or-other pieces (done tree) e =
     let it : Found limit pieces tree = run-found limit pieces [] [] tree refl e in
     inl (it.source, record { exact = it.exact; within = it.within })
 one-or-other pieces (stopped wrong left) e =
-    let it : FaultyAt pieces (length left) wrong = faulty pieces wrong left e in
+    let it : FaultyOn pieces (line_of_first left) wrong = faulty pieces wrong left e in
     inr (it.before, it.after, it.cut, it.faulty)
 
 pub one-of-both : HaveOneOfBoth

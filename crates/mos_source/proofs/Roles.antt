@@ -1,59 +1,61 @@
+-- Which forms have which role at a place.
+
 use Rattle.std.proofs.Common.{◌≡◌, true, [], ◌∷◌, Option, Some, None, refl}
 use Rattle.mos_tree.specs.declared.expr.Expr.{Expr}
 use Rattle.mos_tree.specs.declared.declaration.BaseType.{BaseType}
-use Rattle.mos_form.specs.declared.form.Form.{Form}
-use Rattle.mos_form.specs.declared.form.Form.TheVariants as f
-use Rattle.mos_form.specs.declared.form.Guard.TheVariants as guard
-use Rattle.mos_form.specs.declared.form.Keyword.TheVariants as keyword
-use Rattle.mos_form.specs.declared.form.Mould.{Mould}
-use Rattle.mos_form.specs.declared.form.Mould.TheVariants as m
+use Rattle.mos_tree.specs.declared.form.Form.{Form}
+use Rattle.mos_tree.specs.declared.form.Form.TheVariants as f
+use Rattle.mos_tree.specs.declared.form.ConditionKeyword.TheVariants as conditional
+use Rattle.mos_tree.specs.declared.form.Keyword.TheVariants as keyword
+use Rattle.mos_tree.specs.declared.form.PieceKind.{PieceKind}
+use Rattle.mos_tree.specs.declared.form.PieceKind.TheVariants as m
 use Rattle.mos_source.specs.declared.frame.Frame.TheVariants as g
 use Rattle.mos_source.specs.declared.place.Place.{Place}
 use Rattle.mos_source.specs.declared.place.Place.TheVariants as p
 use Rattle.mos_source.specs.declared.place.Role.TheVariants.{Opens, Closes}
-use Rattle.mos_form.specs.Forms.{mould_of, routine_mould}
+use Rattle.mos_tree.specs.Forms.{piece_kind_of, routine_kind}
 use Rattle.mos_source.specs.Limits.{own_limit}
-use Rattle.mos_source.specs.Places.{takes_statements, begins, role_at, start_role, parameters_role, declarations_role, record_role, choice_role, labelled_role}
+use Rattle.mos_source.specs.Places.{takes_statements, begins, role_at, start_role, parameters_role, declarations_role, record_role, case_role, initializations_role}
 use Rattle.mos_source.specs.Sources.{end_form}
 use Rattle.mos_source.specs.Machine.{Stack, routine_place, place_of}
 use Rattle.mos_source.proofs.Held.{is_model, takes_declarations, is_declarations}
 
 -- ---- what opens where
 
-start-begins : (x : Mould) → begins x ≡ Some Opens → start_role x ≡ Some Opens → ⊥
+start-begins : (x : PieceKind) → begins x ≡ Some Opens → start_role x ≡ Some Opens → ⊥
 start-begins m.Model b r = cc
 start-begins _ b r = cc
 
-parameters-begins : (x : Mould) → begins x ≡ Some Opens → parameters_role x ≡ Some Opens → ⊥
+parameters-begins : (x : PieceKind) → begins x ≡ Some Opens → parameters_role x ≡ Some Opens → ⊥
 parameters-begins m.Definition b r = cc
 parameters-begins m.EndParameters b r = cc
 parameters-begins _ b r = cc
 
-declarations-begins : (x : Mould) → begins x ≡ Some Opens → declarations_role x ≡ Some Opens → ⊥
+declarations-begins : (x : PieceKind) → begins x ≡ Some Opens → declarations_role x ≡ Some Opens → ⊥
 declarations-begins m.RecordOf b r = cc
 declarations-begins _ b r = cc
 
-record-begins : (x : Mould) → begins x ≡ Some Opens → record_role x ≡ Some Opens → ⊥
+record-begins : (x : PieceKind) → begins x ≡ Some Opens → record_role x ≡ Some Opens → ⊥
 record-begins m.Typed b r = cc
 record-begins _ b r = cc
 
-choice-begins : (x : Mould) → begins x ≡ Some Opens → choice_role x ≡ Some Opens → ⊥
-choice-begins m.Alternative b r = cc
-choice-begins _ b r = cc
+case-begins : (x : PieceKind) → begins x ≡ Some Opens → case_role x ≡ Some Opens → ⊥
+case-begins m.Alternative b r = cc
+case-begins _ b r = cc
 
-labelled-begins : (x : Mould) → begins x ≡ Some Opens → labelled_role x ≡ Some Opens → ⊥
-labelled-begins m.Bare b r = cc
-labelled-begins _ b r = cc
+initializations-begins : (x : PieceKind) → begins x ≡ Some Opens → initializations_role x ≡ Some Opens → ⊥
+initializations-begins m.Bare b r = cc
+initializations-begins _ b r = cc
 
 -- where a statement opens, statements begin
-pub begins-takes : (place : Place) (x : Mould) → begins x ≡ Some Opens → role_at place x ≡ Some Opens → takes_statements place ≡ true
+pub begins-takes : (place : Place) (x : PieceKind) → begins x ≡ Some Opens → role_at place x ≡ Some Opens → takes_statements place ≡ true
 unfolding role_at
 begins-takes p.Start x b r = absurd (start-begins x b r)
 begins-takes p.Parameters x b r = absurd (parameters-begins x b r)
 begins-takes p.Declarations x b r = absurd (declarations-begins x b r)
 begins-takes p.Record x b r = absurd (record-begins x b r)
-begins-takes p.Choice x b r = absurd (choice-begins x b r)
-begins-takes p.Labelled x b r = absurd (labelled-begins x b r)
+begins-takes p.Case x b r = absurd (case-begins x b r)
+begins-takes p.Initializations x b r = absurd (initializations-begins x b r)
 begins-takes p.End x b r = let no : ⊥ = cc in absurd no
 begins-takes _ x b r = refl
 
@@ -100,144 +102,144 @@ function-there p.Heads r = refl
 function-there p.Tops r = refl
 function-there _ r = let no : ⊥ = cc in absurd no
 
-pub routine-there : (place : Place) (typ : Option BaseType) → role_at place (routine_mould typ) ≡ Some Opens → is_model place ≡ true
+pub routine-there : (place : Place) (typ : Option BaseType) → role_at place (routine_kind typ) ≡ Some Opens → is_model place ≡ true
 routine-there place None r = procedure-there place r
 routine-there place (Some t) r = function-there place r
 
 -- ---- what closes where
 
-pub closes-heads : (form : Form) → own_limit form ≡ None → role_at p.Heads (mould_of form) ≡ Some Closes → form ≡ (f.Keyword keyword.EndModel)
+pub closes-heads : (form : Form) → own_limit form ≡ None → role_at p.Heads (piece_kind_of form) ≡ Some Closes → form ≡ (f.Keyword keyword.EndModel)
 unfolding role_at
 closes-heads (f.Keyword keyword.EndModel) o r = refl
 closes-heads (f.Routine n fs None) o r = let no : ⊥ = cc in absurd no
 closes-heads (f.Keyword keyword.Else) o r = let no : ⊥ = cc in absurd no
-closes-heads (f.Guarded guard.If x) o r = let no : ⊥ = cc in absurd no
+closes-heads (f.Guarded conditional.If x) o r = let no : ⊥ = cc in absurd no
 closes-heads (f.Routine n fs (Some t)) o r = let no : ⊥ = cc in absurd no
 closes-heads _ o r = let no : ⊥ = cc in absurd no
 
-pub closes-tops : (form : Form) → own_limit form ≡ None → role_at p.Tops (mould_of form) ≡ Some Closes → form ≡ (f.Keyword keyword.EndModel)
+pub closes-tops : (form : Form) → own_limit form ≡ None → role_at p.Tops (piece_kind_of form) ≡ Some Closes → form ≡ (f.Keyword keyword.EndModel)
 unfolding role_at
 closes-tops (f.Keyword keyword.EndModel) o r = refl
 closes-tops (f.Routine n fs None) o r = let no : ⊥ = cc in absurd no
 closes-tops (f.Keyword keyword.Else) o r = let no : ⊥ = cc in absurd no
-closes-tops (f.Guarded guard.If x) o r = let no : ⊥ = cc in absurd no
+closes-tops (f.Guarded conditional.If x) o r = let no : ⊥ = cc in absurd no
 closes-tops (f.Routine n fs (Some t)) o r = let no : ⊥ = cc in absurd no
 closes-tops _ o r = let no : ⊥ = cc in absurd no
 
-pub closes-model : (place : Place) (form : Form) → is_model place ≡ true → own_limit form ≡ None → role_at place (mould_of form) ≡ Some Closes → form ≡ (f.Keyword keyword.EndModel)
+pub closes-model : (place : Place) (form : Form) → is_model place ≡ true → own_limit form ≡ None → role_at place (piece_kind_of form) ≡ Some Closes → form ≡ (f.Keyword keyword.EndModel)
 unfolding role_at
 closes-model p.Heads form i o r = closes-heads form o r
 closes-model p.Tops form i o r = closes-tops form o r
 closes-model _ form i o r = let no : ⊥ = cc in absurd no
 
-pub closes-parameters : (form : Form) → own_limit form ≡ None → role_at p.Parameters (mould_of form) ≡ Some Closes → form ≡ (f.Keyword keyword.EndParameters)
+pub closes-parameters : (form : Form) → own_limit form ≡ None → role_at p.Parameters (piece_kind_of form) ≡ Some Closes → form ≡ (f.Keyword keyword.EndParameters)
 unfolding role_at
 closes-parameters (f.Keyword keyword.EndParameters) o r = refl
 closes-parameters (f.Routine n fs None) o r = let no : ⊥ = cc in absurd no
 closes-parameters (f.Keyword keyword.Else) o r = let no : ⊥ = cc in absurd no
-closes-parameters (f.Guarded guard.If x) o r = let no : ⊥ = cc in absurd no
+closes-parameters (f.Guarded conditional.If x) o r = let no : ⊥ = cc in absurd no
 closes-parameters (f.Routine n fs (Some t)) o r = let no : ⊥ = cc in absurd no
 closes-parameters _ o r = let no : ⊥ = cc in absurd no
 
-pub closes-declarations : (form : Form) → own_limit form ≡ None → role_at p.Declarations (mould_of form) ≡ Some Closes → form ≡ (f.Keyword keyword.EndDeclarations)
+pub closes-declarations : (form : Form) → own_limit form ≡ None → role_at p.Declarations (piece_kind_of form) ≡ Some Closes → form ≡ (f.Keyword keyword.EndDeclarations)
 unfolding role_at
 closes-declarations (f.Keyword keyword.EndDeclarations) o r = refl
 closes-declarations (f.Routine n fs None) o r = let no : ⊥ = cc in absurd no
 closes-declarations (f.Keyword keyword.Else) o r = let no : ⊥ = cc in absurd no
-closes-declarations (f.Guarded guard.If x) o r = let no : ⊥ = cc in absurd no
+closes-declarations (f.Guarded conditional.If x) o r = let no : ⊥ = cc in absurd no
 closes-declarations (f.Routine n fs (Some t)) o r = let no : ⊥ = cc in absurd no
 closes-declarations _ o r = let no : ⊥ = cc in absurd no
 
-pub closes-record : (form : Form) → own_limit form ≡ None → role_at p.Record (mould_of form) ≡ Some Closes → form ≡ (f.Keyword keyword.EndRecord)
+pub closes-record : (form : Form) → own_limit form ≡ None → role_at p.Record (piece_kind_of form) ≡ Some Closes → form ≡ (f.Keyword keyword.EndRecord)
 unfolding role_at
 closes-record (f.Keyword keyword.EndRecord) o r = refl
 closes-record (f.Routine n fs None) o r = let no : ⊥ = cc in absurd no
 closes-record (f.Keyword keyword.Else) o r = let no : ⊥ = cc in absurd no
-closes-record (f.Guarded guard.If x) o r = let no : ⊥ = cc in absurd no
+closes-record (f.Guarded conditional.If x) o r = let no : ⊥ = cc in absurd no
 closes-record (f.Routine n fs (Some t)) o r = let no : ⊥ = cc in absurd no
 closes-record _ o r = let no : ⊥ = cc in absurd no
 
-pub closes-procedure : (form : Form) → own_limit form ≡ None → role_at p.Procedure (mould_of form) ≡ Some Closes → form ≡ (f.Keyword keyword.EndProcedure)
+pub closes-procedure : (form : Form) → own_limit form ≡ None → role_at p.Procedure (piece_kind_of form) ≡ Some Closes → form ≡ (f.Keyword keyword.EndProcedure)
 unfolding role_at
 closes-procedure (f.Keyword keyword.EndProcedure) o r = refl
 closes-procedure (f.Routine n fs None) o r = let no : ⊥ = cc in absurd no
 closes-procedure (f.Keyword keyword.Else) o r = let no : ⊥ = cc in absurd no
-closes-procedure (f.Guarded guard.If x) o r = let no : ⊥ = cc in absurd no
+closes-procedure (f.Guarded conditional.If x) o r = let no : ⊥ = cc in absurd no
 closes-procedure (f.Routine n fs (Some t)) o r = let no : ⊥ = cc in absurd no
 closes-procedure _ o r = let no : ⊥ = cc in absurd no
 
-pub closes-function : (form : Form) → own_limit form ≡ None → role_at p.Function (mould_of form) ≡ Some Closes → form ≡ (f.Keyword keyword.EndFunction)
+pub closes-function : (form : Form) → own_limit form ≡ None → role_at p.Function (piece_kind_of form) ≡ Some Closes → form ≡ (f.Keyword keyword.EndFunction)
 unfolding role_at
 closes-function (f.Keyword keyword.EndFunction) o r = refl
 closes-function (f.Routine n fs None) o r = let no : ⊥ = cc in absurd no
 closes-function (f.Keyword keyword.Else) o r = let no : ⊥ = cc in absurd no
-closes-function (f.Guarded guard.If x) o r = let no : ⊥ = cc in absurd no
+closes-function (f.Guarded conditional.If x) o r = let no : ⊥ = cc in absurd no
 closes-function (f.Routine n fs (Some t)) o r = let no : ⊥ = cc in absurd no
 closes-function _ o r = let no : ⊥ = cc in absurd no
 
-pub closes-arm : (form : Form) → own_limit form ≡ None → role_at p.Arm (mould_of form) ≡ Some Closes → form ≡ (f.Keyword keyword.EndIf)
+pub closes-arm : (form : Form) → own_limit form ≡ None → role_at p.IfArm (piece_kind_of form) ≡ Some Closes → form ≡ (f.Keyword keyword.EndIf)
 unfolding role_at
 closes-arm (f.Keyword keyword.EndIf) o r = refl
 closes-arm (f.Routine n fs None) o r = let no : ⊥ = cc in absurd no
 closes-arm (f.Keyword keyword.Else) o r = let no : ⊥ = cc in absurd no
-closes-arm (f.Guarded guard.If x) o r = let no : ⊥ = cc in absurd no
+closes-arm (f.Guarded conditional.If x) o r = let no : ⊥ = cc in absurd no
 closes-arm (f.Routine n fs (Some t)) o r = let no : ⊥ = cc in absurd no
 closes-arm _ o r = let no : ⊥ = cc in absurd no
 
-pub closes-otherwise : (form : Form) → own_limit form ≡ None → role_at p.Otherwise (mould_of form) ≡ Some Closes → form ≡ (f.Keyword keyword.EndIf)
+pub closes-otherwise : (form : Form) → own_limit form ≡ None → role_at p.IfElse (piece_kind_of form) ≡ Some Closes → form ≡ (f.Keyword keyword.EndIf)
 unfolding role_at
 closes-otherwise (f.Keyword keyword.EndIf) o r = refl
 closes-otherwise (f.Routine n fs None) o r = let no : ⊥ = cc in absurd no
 closes-otherwise (f.Keyword keyword.Else) o r = let no : ⊥ = cc in absurd no
-closes-otherwise (f.Guarded guard.If x) o r = let no : ⊥ = cc in absurd no
+closes-otherwise (f.Guarded conditional.If x) o r = let no : ⊥ = cc in absurd no
 closes-otherwise (f.Routine n fs (Some t)) o r = let no : ⊥ = cc in absurd no
 closes-otherwise _ o r = let no : ⊥ = cc in absurd no
 
-pub closes-choice : (form : Form) → own_limit form ≡ None → role_at p.Choice (mould_of form) ≡ Some Closes → form ≡ (f.Keyword keyword.EndCase)
+pub closes-case : (form : Form) → own_limit form ≡ None → role_at p.Case (piece_kind_of form) ≡ Some Closes → form ≡ (f.Keyword keyword.EndCase)
 unfolding role_at
-closes-choice (f.Keyword keyword.EndCase) o r = refl
-closes-choice (f.Routine n fs None) o r = let no : ⊥ = cc in absurd no
-closes-choice (f.Keyword keyword.Else) o r = let no : ⊥ = cc in absurd no
-closes-choice (f.Guarded guard.If x) o r = let no : ⊥ = cc in absurd no
-closes-choice (f.Routine n fs (Some t)) o r = let no : ⊥ = cc in absurd no
-closes-choice _ o r = let no : ⊥ = cc in absurd no
+closes-case (f.Keyword keyword.EndCase) o r = refl
+closes-case (f.Routine n fs None) o r = let no : ⊥ = cc in absurd no
+closes-case (f.Keyword keyword.Else) o r = let no : ⊥ = cc in absurd no
+closes-case (f.Guarded conditional.If x) o r = let no : ⊥ = cc in absurd no
+closes-case (f.Routine n fs (Some t)) o r = let no : ⊥ = cc in absurd no
+closes-case _ o r = let no : ⊥ = cc in absurd no
 
-pub closes-choice-otherwise : (form : Form) → own_limit form ≡ None → role_at p.ChoiceOtherwise (mould_of form) ≡ Some Closes → form ≡ (f.Keyword keyword.EndCase)
+pub closes-case-else : (form : Form) → own_limit form ≡ None → role_at p.CaseElse (piece_kind_of form) ≡ Some Closes → form ≡ (f.Keyword keyword.EndCase)
 unfolding role_at
-closes-choice-otherwise (f.Keyword keyword.EndCase) o r = refl
-closes-choice-otherwise (f.Routine n fs None) o r = let no : ⊥ = cc in absurd no
-closes-choice-otherwise (f.Keyword keyword.Else) o r = let no : ⊥ = cc in absurd no
-closes-choice-otherwise (f.Guarded guard.If x) o r = let no : ⊥ = cc in absurd no
-closes-choice-otherwise (f.Routine n fs (Some t)) o r = let no : ⊥ = cc in absurd no
-closes-choice-otherwise _ o r = let no : ⊥ = cc in absurd no
+closes-case-else (f.Keyword keyword.EndCase) o r = refl
+closes-case-else (f.Routine n fs None) o r = let no : ⊥ = cc in absurd no
+closes-case-else (f.Keyword keyword.Else) o r = let no : ⊥ = cc in absurd no
+closes-case-else (f.Guarded conditional.If x) o r = let no : ⊥ = cc in absurd no
+closes-case-else (f.Routine n fs (Some t)) o r = let no : ⊥ = cc in absurd no
+closes-case-else _ o r = let no : ⊥ = cc in absurd no
 
-pub closes-grouped : (form : Form) → own_limit form ≡ None → role_at p.Grouped (mould_of form) ≡ Some Closes → form ≡ (f.Keyword keyword.EndDo)
+pub closes-do : (form : Form) → own_limit form ≡ None → role_at p.Do (piece_kind_of form) ≡ Some Closes → form ≡ (f.Keyword keyword.EndDo)
 unfolding role_at
-closes-grouped (f.Keyword keyword.EndDo) o r = refl
-closes-grouped (f.Routine n fs None) o r = let no : ⊥ = cc in absurd no
-closes-grouped (f.Keyword keyword.Else) o r = let no : ⊥ = cc in absurd no
-closes-grouped (f.Guarded guard.If x) o r = let no : ⊥ = cc in absurd no
-closes-grouped (f.Routine n fs (Some t)) o r = let no : ⊥ = cc in absurd no
-closes-grouped _ o r = let no : ⊥ = cc in absurd no
+closes-do (f.Keyword keyword.EndDo) o r = refl
+closes-do (f.Routine n fs None) o r = let no : ⊥ = cc in absurd no
+closes-do (f.Keyword keyword.Else) o r = let no : ⊥ = cc in absurd no
+closes-do (f.Guarded conditional.If x) o r = let no : ⊥ = cc in absurd no
+closes-do (f.Routine n fs (Some t)) o r = let no : ⊥ = cc in absurd no
+closes-do _ o r = let no : ⊥ = cc in absurd no
 
-pub closes-labelled : (form : Form) → own_limit form ≡ None → role_at p.Labelled (mould_of form) ≡ Some Closes → form ≡ (f.Keyword keyword.EndInitializations)
+pub closes-initializations : (form : Form) → own_limit form ≡ None → role_at p.Initializations (piece_kind_of form) ≡ Some Closes → form ≡ (f.Keyword keyword.EndInitializations)
 unfolding role_at
-closes-labelled (f.Keyword keyword.EndInitializations) o r = refl
-closes-labelled (f.Routine n fs None) o r = let no : ⊥ = cc in absurd no
-closes-labelled (f.Keyword keyword.Else) o r = let no : ⊥ = cc in absurd no
-closes-labelled (f.Guarded guard.If x) o r = let no : ⊥ = cc in absurd no
-closes-labelled (f.Routine n fs (Some t)) o r = let no : ⊥ = cc in absurd no
-closes-labelled _ o r = let no : ⊥ = cc in absurd no
+closes-initializations (f.Keyword keyword.EndInitializations) o r = refl
+closes-initializations (f.Routine n fs None) o r = let no : ⊥ = cc in absurd no
+closes-initializations (f.Keyword keyword.Else) o r = let no : ⊥ = cc in absurd no
+closes-initializations (f.Guarded conditional.If x) o r = let no : ⊥ = cc in absurd no
+closes-initializations (f.Routine n fs (Some t)) o r = let no : ⊥ = cc in absurd no
+closes-initializations _ o r = let no : ⊥ = cc in absurd no
 
-pub closes-repeated : (form : Form) → own_limit form ≡ None → role_at p.Repeated (mould_of form) ≡ Some Closes → (c : Expr) × (form ≡ f.Guarded guard.Until c)
+pub closes-repeat : (form : Form) → own_limit form ≡ None → role_at p.Repeat (piece_kind_of form) ≡ Some Closes → (c : Expr) × (form ≡ f.Guarded conditional.Until c)
 unfolding role_at
-closes-repeated (f.Guarded guard.Until c) o r = (c, refl)
-closes-repeated (f.Routine n fs None) o r = let no : ⊥ = cc in absurd no
-closes-repeated (f.Keyword keyword.Else) o r = let no : ⊥ = cc in absurd no
-closes-repeated (f.Guarded guard.If x) o r = let no : ⊥ = cc in absurd no
-closes-repeated (f.Routine n fs (Some t)) o r = let no : ⊥ = cc in absurd no
-closes-repeated _ o r = let no : ⊥ = cc in absurd no
+closes-repeat (f.Guarded conditional.Until c) o r = (c, refl)
+closes-repeat (f.Routine n fs None) o r = let no : ⊥ = cc in absurd no
+closes-repeat (f.Keyword keyword.Else) o r = let no : ⊥ = cc in absurd no
+closes-repeat (f.Guarded conditional.If x) o r = let no : ⊥ = cc in absurd no
+closes-repeat (f.Routine n fs (Some t)) o r = let no : ⊥ = cc in absurd no
+closes-repeat _ o r = let no : ⊥ = cc in absurd no
 
-pub closes-routine : (typ : Option BaseType) (form : Form) → own_limit form ≡ None → role_at (routine_place typ) (mould_of form) ≡ Some Closes → form ≡ end_form typ
+pub closes-routine : (typ : Option BaseType) (form : Form) → own_limit form ≡ None → role_at (routine_place typ) (piece_kind_of form) ≡ Some Closes → form ≡ end_form typ
 closes-routine None form o r = closes-procedure form o r
 closes-routine (Some t) form o r = closes-function form o r

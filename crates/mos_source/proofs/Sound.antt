@@ -1,3 +1,5 @@
+-- What was read holds of a stack that is given a part.
+
 use Rattle.std.proofs.Common.{◌≡◌, ℕ, ◌+◌, ◌≤◌, List, [], ◌∷◌, ◌++◌, length, map, Option, Some, refl, sym, ◌∙◌, ap, subst, arith}
 use Rattle.std.proofs.lemmas.List.{append_assoc}
 use Rattle.mos_tree.specs.declared.declaration.Item.TheVariants as i
@@ -7,16 +9,16 @@ use Rattle.mos_tree.specs.declared.source.Head.{Head}
 use Rattle.mos_tree.specs.declared.source.Top.{Top}
 use Rattle.mos_tree.specs.declared.source.Top.TheVariants as t
 use Rattle.mos_tree.specs.declared.source.RoutinePart.TheVariants as r
-use Rattle.mos_form.specs.declared.form.Form.TheVariants as f
-use Rattle.mos_form.specs.declared.form.Guard.TheVariants as guard
-use Rattle.mos_form.specs.declared.form.Keyword.TheVariants as keyword
-use Rattle.mos_form.specs.declared.form.PieceForm.{PieceForm}
+use Rattle.mos_tree.specs.declared.form.Form.TheVariants as f
+use Rattle.mos_tree.specs.declared.form.ConditionKeyword.TheVariants as conditional
+use Rattle.mos_tree.specs.declared.form.Keyword.TheVariants as keyword
+use Rattle.mos_tree.specs.declared.form.PieceForm.{PieceForm}
 use Rattle.mos_source.specs.declared.frame.Frame.{Frame}
 use Rattle.mos_source.specs.declared.frame.Frame.TheVariants as g
 use Rattle.mos_source.specs.declared.frame.Part.TheVariants as part
-use Rattle.mos_form.specs.Forms.{piece}
-use Rattle.mos_source.specs.Statements.{Written, over, as_long_as, then_one, alternative, arm_form, spell, spell_block, spell_arms, spell_alternatives, depth, alternative_of, tree}
-use Rattle.mos_source.specs.Sources.{Items, record_type, declares, states, Tops, no_top, declares_top, states_top, spell_field, spell_declarations, spell_tops, spell_head, depth_items, depth_tops, declared, tops_of}
+use Rattle.mos_tree.specs.Forms.{piece}
+use Rattle.mos_source.specs.Statements.{Written, forall_, while_, then_one, alternative, arm_form, spell, spell_block, spell_arms, spell_alternatives, depth, alternative_of, tree}
+use Rattle.mos_source.specs.Sources.{Items, record_type, declares, states, Tops, no_top, declares_top, states_top, spell_field, spell_declarations, spell_tops, spell_head, depth_items, depth_tops, declaration_block, tops_of}
 use Rattle.mos_source.specs.Machine.{Stack, add_statement, add_other}
 use Rattle.mos_source.proofs.Steps.{one-end}
 use Rattle.mos_source.proofs.Held.{HeldOwn, Holds}
@@ -61,9 +63,9 @@ added deep (g.Routine heading xs ∷ k) next before w h d e =
     moved deep (g.Routine heading (xs ++ r.Statement (tree w) ∷ []) ∷ k) next (before ++ spell w) e
     (over-more deep (g.Routine heading xs) (g.Routine heading (xs ++ r.Statement (tree w) ∷ [])) k before (spell w) h
     (record { there = h.4.there; parts = states h.4.parts w; are = ap (λ z. z ++ r.Statement (tree w) ∷ []) h.4.are; fits = omega (arith, d, h.4.fits); exact = rw h.4.exact refl }))
-added deep (g.Arm first arms l c body ∷ k) next before w h d e =
-    moved deep (g.Arm first arms l c (body ++ tree w ∷ []) ∷ k) next (before ++ spell w) e
-    (over-more deep (g.Arm first arms l c body) (g.Arm first arms l c (body ++ tree w ∷ [])) k before (spell w) h
+added deep (g.IfArm first arms l c body ∷ k) next before w h d e =
+    moved deep (g.IfArm first arms l c (body ++ tree w ∷ []) ∷ k) next (before ++ spell w) e
+    (over-more deep (g.IfArm first arms l c body) (g.IfArm first arms l c (body ++ tree w ∷ [])) k before (spell w) h
     (record {
       there = h.4.there;
       before = h.4.before;
@@ -75,9 +77,9 @@ added deep (g.Arm first arms l c body ∷ k) next before w h d e =
       fits_body = omega (arith, d, h.4.fits_body);
       exact = rw h.4.exact (append_assoc (spell_arms h.4.before) (piece l (arm_form h.4.before c) ∷ spell_block h.4.block) (spell w));
     }))
-added deep (g.Otherwise first arms body ∷ k) next before w h d e =
-    moved deep (g.Otherwise first arms (body ++ tree w ∷ []) ∷ k) next (before ++ spell w) e
-    (over-more deep (g.Otherwise first arms body) (g.Otherwise first arms (body ++ tree w ∷ [])) k before (spell w) h
+added deep (g.IfElse first arms body ∷ k) next before w h d e =
+    moved deep (g.IfElse first arms (body ++ tree w ∷ []) ∷ k) next (before ++ spell w) e
+    (over-more deep (g.IfElse first arms body) (g.IfElse first arms (body ++ tree w ∷ [])) k before (spell w) h
     (record {
       there = h.4.there;
       before = h.4.before;
@@ -94,45 +96,45 @@ added deep (g.Otherwise first arms body ∷ k) next before w h d e =
       fits_body = omega (arith, d, h.4.fits_body);
       exact = rw h.4.exact (append_assoc (spell_arms h.4.before ++ piece h.4.last (arm_form h.4.before h.4.condition) ∷ spell_block h.4.guarded) (piece h.4.at (f.Keyword keyword.Else) ∷ spell_block h.4.block) (spell w));
     }))
-added deep (g.Chosen l v xs at labels ∷ k) next before w h d e =
-    moved deep (g.Choice l v (xs ++ alternative_of at labels (tree w) ∷ []) ∷ k) next (before ++ spell w) e
-    (over-more deep (g.Chosen l v xs at labels) (g.Choice l v (xs ++ alternative_of at labels (tree w) ∷ [])) k before (spell w) h
+added deep (g.CaseArm l v xs at labels ∷ k) next before w h d e =
+    moved deep (g.Case l v (xs ++ alternative_of at labels (tree w) ∷ []) ∷ k) next (before ++ spell w) e
+    (over-more deep (g.CaseArm l v xs at labels) (g.Case l v (xs ++ alternative_of at labels (tree w) ∷ [])) k before (spell w) h
     (record {
       there = h.4.there;
-      chosen = alternative h.4.chosen at labels w;
+      alternatives = alternative h.4.alternatives at labels w;
       are = ap (λ z. z ++ alternative_of at labels (tree w) ∷ []) h.4.are;
       fits = omega (arith, d, h.4.fits);
-      exact = rw h.4.exact (ap (λ z. piece l (f.Guarded guard.Case v) ∷ z) (one-end (spell_alternatives h.4.chosen) (piece at (f.Alternative labels)) (spell w)));
+      exact = rw h.4.exact (ap (λ z. piece l (f.Guarded conditional.Case v) ∷ z) (one-end (spell_alternatives h.4.alternatives) (piece at (f.Alternative labels)) (spell w)));
     }))
-added deep (g.ChoiceOtherwise l v xs body ∷ k) next before w h d e =
-    moved deep (g.ChoiceOtherwise l v xs (body ++ tree w ∷ []) ∷ k) next (before ++ spell w) e
-    (over-more deep (g.ChoiceOtherwise l v xs body) (g.ChoiceOtherwise l v xs (body ++ tree w ∷ [])) k before (spell w) h
+added deep (g.CaseElse l v xs body ∷ k) next before w h d e =
+    moved deep (g.CaseElse l v xs (body ++ tree w ∷ []) ∷ k) next (before ++ spell w) e
+    (over-more deep (g.CaseElse l v xs body) (g.CaseElse l v xs (body ++ tree w ∷ [])) k before (spell w) h
     (record {
       there = h.4.there;
-      chosen = h.4.chosen;
+      alternatives = h.4.alternatives;
       at = h.4.at;
       block = then_one h.4.block w;
       are = h.4.are;
       body_is = ap (λ z. z ++ tree w ∷ []) h.4.body_is;
       fits = h.4.fits;
       fits_body = omega (arith, d, h.4.fits_body);
-      exact = rw h.4.exact (ap (λ z. piece l (f.Guarded guard.Case v) ∷ z) (append_assoc (spell_alternatives h.4.chosen) (piece h.4.at (f.Keyword keyword.Else) ∷ spell_block h.4.block) (spell w)));
+      exact = rw h.4.exact (ap (λ z. piece l (f.Guarded conditional.Case v) ∷ z) (append_assoc (spell_alternatives h.4.alternatives) (piece h.4.at (f.Keyword keyword.Else) ∷ spell_block h.4.block) (spell w)));
     }))
-added deep (g.Over l index ∷ k) next before w h d e =
+added deep (g.Forall l index ∷ k) next before w h d e =
     respelled deep next (h.0 ++ piece l (f.Forall index) ∷ spell w) (before ++ spell w)
     (sym (ap (λ z. z ++ spell w) (h.3 ∙ ap (λ o. h.0 ++ o) h.4.exact) ∙ one-end h.0 (piece l (f.Forall index)) (spell w)))
-    (added deep k next h.0 (over l index w) h.2 (omega (arith, d)) e)
-added deep (g.AsLongAs l c ∷ k) next before w h d e =
-    respelled deep next (h.0 ++ piece l (f.Guarded guard.While c) ∷ spell w) (before ++ spell w)
-    (sym (ap (λ z. z ++ spell w) (h.3 ∙ ap (λ o. h.0 ++ o) h.4.exact) ∙ one-end h.0 (piece l (f.Guarded guard.While c)) (spell w)))
-    (added deep k next h.0 (as_long_as l c w) h.2 (omega (arith, d)) e)
-added deep (g.Repeated l body ∷ k) next before w h d e =
-    moved deep (g.Repeated l (body ++ tree w ∷ []) ∷ k) next (before ++ spell w) e
-    (over-more deep (g.Repeated l body) (g.Repeated l (body ++ tree w ∷ [])) k before (spell w) h
+    (added deep k next h.0 (forall_ l index w) h.2 (omega (arith, d)) e)
+added deep (g.While l c ∷ k) next before w h d e =
+    respelled deep next (h.0 ++ piece l (f.Guarded conditional.While c) ∷ spell w) (before ++ spell w)
+    (sym (ap (λ z. z ++ spell w) (h.3 ∙ ap (λ o. h.0 ++ o) h.4.exact) ∙ one-end h.0 (piece l (f.Guarded conditional.While c)) (spell w)))
+    (added deep k next h.0 (while_ l c w) h.2 (omega (arith, d)) e)
+added deep (g.Repeat l body ∷ k) next before w h d e =
+    moved deep (g.Repeat l (body ++ tree w ∷ []) ∷ k) next (before ++ spell w) e
+    (over-more deep (g.Repeat l body) (g.Repeat l (body ++ tree w ∷ [])) k before (spell w) h
     (record { there = h.4.there; block = then_one h.4.block w; body_is = ap (λ z. z ++ tree w ∷ []) h.4.body_is; fits = omega (arith, d, h.4.fits); exact = rw h.4.exact refl }))
-added deep (g.Grouped l body ∷ k) next before w h d e =
-    moved deep (g.Grouped l (body ++ tree w ∷ []) ∷ k) next (before ++ spell w) e
-    (over-more deep (g.Grouped l body) (g.Grouped l (body ++ tree w ∷ [])) k before (spell w) h
+added deep (g.Do l body ∷ k) next before w h d e =
+    moved deep (g.Do l (body ++ tree w ∷ []) ∷ k) next (before ++ spell w) e
+    (over-more deep (g.Do l body) (g.Do l (body ++ tree w ∷ [])) k before (spell w) h
     (record { there = h.4.there; block = then_one h.4.block w; body_is = ap (λ z. z ++ tree w ∷ []) h.4.body_is; fits = omega (arith, d, h.4.fits); exact = rw h.4.exact refl }))
 added deep (_ ∷ k) next before w h d e = let no : ⊥ = cc in absurd no
 
@@ -170,21 +172,21 @@ added-top deep (g.Heads l name hs ∷ k) next before make x ps is h e = moved de
 added-top deep (g.Tops l name hs xs ∷ k) next before make x ps is h e = moved deep (g.Tops l name hs (xs ++ x ∷ []) ∷ k) next (before ++ ps) e (topped deep l name hs xs k before make x ps is h)
 added-top deep (_ ∷ k) next before make x ps is h e = let no : ⊥ = cc in absurd no
 
-is-declared : (deep line : ℕ) (items : Items) (end : ℕ) → 1 + depth_items items ≤ deep → IsTop deep (λ xs. declares_top xs line items end) (t.Declarations (declared line items)) (spell_declarations line items end)
+is-declared : (deep line : ℕ) (items : Items) (end : ℕ) → 1 + depth_items items ≤ deep → IsTop deep (λ xs. declares_top xs line items end) (t.Declarations (declaration_block line items)) (spell_declarations line items end)
 is-declared deep line items end d = record { are = λ xs. refl; spelled = λ xs. refl; fits = λ xs h. omega (arith, h, d) }
 
-pub added-declared : (deep : ℕ) (k next : Stack) (before : List PieceForm) (line : ℕ) (items : Items) (end : ℕ) → Holds deep k before → depth_items items + length k ≤ deep → add_other (part.Declared (declared line items)) k ≡ some_stack next → Holds deep next (before ++ spell_declarations line items end)
+pub added-declared : (deep : ℕ) (k next : Stack) (before : List PieceForm) (line : ℕ) (items : Items) (end : ℕ) → Holds deep k before → depth_items items + length k ≤ deep → add_other (part.Declared (declaration_block line items)) k ≡ some_stack next → Holds deep next (before ++ spell_declarations line items end)
 added-declared deep [] next before line items end h d e = let no : ⊥ = cc in absurd no
 added-declared deep (g.Heads l name hs ∷ k) next before line items end h d e =
-    moved deep (g.Tops l name hs (t.Declarations (declared line items) ∷ []) ∷ k) next (before ++ spell_declarations line items end) e
-    (first-topped deep l name hs k before (λ xs. declares_top xs line items end) (t.Declarations (declared line items)) (spell_declarations line items end) (is-declared deep line items end (omega (arith, d))) h)
+    moved deep (g.Tops l name hs (t.Declarations (declaration_block line items) ∷ []) ∷ k) next (before ++ spell_declarations line items end) e
+    (first-topped deep l name hs k before (λ xs. declares_top xs line items end) (t.Declarations (declaration_block line items)) (spell_declarations line items end) (is-declared deep line items end (omega (arith, d))) h)
 added-declared deep (g.Tops l name hs xs ∷ k) next before line items end h d e =
-    moved deep (g.Tops l name hs (xs ++ t.Declarations (declared line items) ∷ []) ∷ k) next (before ++ spell_declarations line items end) e
-    (topped deep l name hs xs k before (λ xs. declares_top xs line items end) (t.Declarations (declared line items)) (spell_declarations line items end) (is-declared deep line items end (omega (arith, d))) h)
+    moved deep (g.Tops l name hs (xs ++ t.Declarations (declaration_block line items) ∷ []) ∷ k) next (before ++ spell_declarations line items end) e
+    (topped deep l name hs xs k before (λ xs. declares_top xs line items end) (t.Declarations (declaration_block line items)) (spell_declarations line items end) (is-declared deep line items end (omega (arith, d))) h)
 added-declared deep (g.Routine heading xs ∷ k) next before line items end h d e =
-    moved deep (g.Routine heading (xs ++ r.Declarations (declared line items) ∷ []) ∷ k) next (before ++ spell_declarations line items end) e
-    (over-more deep (g.Routine heading xs) (g.Routine heading (xs ++ r.Declarations (declared line items) ∷ [])) k before (spell_declarations line items end) h
-    (record { there = h.4.there; parts = declares h.4.parts line items end; are = ap (λ z. z ++ r.Declarations (declared line items) ∷ []) h.4.are; fits = omega (arith, d, h.4.fits); exact = rw h.4.exact refl }))
+    moved deep (g.Routine heading (xs ++ r.Declarations (declaration_block line items) ∷ []) ∷ k) next (before ++ spell_declarations line items end) e
+    (over-more deep (g.Routine heading xs) (g.Routine heading (xs ++ r.Declarations (declaration_block line items) ∷ [])) k before (spell_declarations line items end) h
+    (record { there = h.4.there; parts = declares h.4.parts line items end; are = ap (λ z. z ++ r.Declarations (declaration_block line items) ∷ []) h.4.are; fits = omega (arith, d, h.4.fits); exact = rw h.4.exact refl }))
 added-declared deep (_ ∷ k) next before line items end h d e = let no : ⊥ = cc in absurd no
 
 pub added-record : (deep : ℕ) (k next : Stack) (before : List PieceForm) (line : ℕ) (name : List ℕ) (fields : List FieldGroup) (end : ℕ) → Holds deep k before → length k ≤ deep → add_other (part.Record (i.Record line name fields)) k ≡ some_stack next → Holds deep next (before ++ piece line (f.RecordOf name) ∷ (map spell_field fields ++ piece end (f.Keyword keyword.EndRecord) ∷ []))

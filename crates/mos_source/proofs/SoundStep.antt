@@ -1,3 +1,5 @@
+-- What was read holds behind each piece.
+
 use Rattle.std.proofs.Common.{◌≡◌, ℕ, ◌+◌, ◌≤◌, Bool, true, false, cond, List, [], ◌∷◌, ◌++◌, length, map, Option, Some, None, Ok, refl, sym, ◌∙◌, ap, subst, arith}
 use Rattle.std.specs.Prelude.{nat_lt}
 use Rattle.std.proofs.lemmas.Bool.{ltb-false}
@@ -21,25 +23,25 @@ use Rattle.mos_tree.specs.declared.statement.Arm.{Arm}
 use Rattle.mos_tree.specs.declared.statement.Alternative.{Alternative}
 use Rattle.mos_tree.specs.declared.statement.LabelGroup.{LabelGroup}
 use Rattle.mos_tree.specs.declared.statement.Direction.{Direction}
-use Rattle.mos_form.specs.declared.form.Form.{Form}
-use Rattle.mos_form.specs.declared.form.Form.TheVariants as f
-use Rattle.mos_form.specs.declared.form.Guard.TheVariants as guard
-use Rattle.mos_form.specs.declared.form.Keyword.TheVariants as keyword
-use Rattle.mos_form.specs.declared.form.Mould.TheVariants as m
-use Rattle.mos_form.specs.declared.form.PieceForm.{PieceForm}
+use Rattle.mos_tree.specs.declared.form.Form.{Form}
+use Rattle.mos_tree.specs.declared.form.Form.TheVariants as f
+use Rattle.mos_tree.specs.declared.form.ConditionKeyword.TheVariants as conditional
+use Rattle.mos_tree.specs.declared.form.Keyword.TheVariants as keyword
+use Rattle.mos_tree.specs.declared.form.PieceKind.TheVariants as m
+use Rattle.mos_tree.specs.declared.form.PieceForm.{PieceForm}
 use Rattle.mos_source.specs.declared.frame.Frame.{Frame}
 use Rattle.mos_source.specs.declared.frame.Frame.TheVariants as g
 use Rattle.mos_source.specs.declared.frame.Part.TheVariants as part
 use Rattle.mos_source.specs.declared.place.Role.{Role}
-use Rattle.mos_source.specs.declared.place.Role.TheVariants.{Opens, GoesOn, Stands, Closes}
-use Rattle.mos_form.specs.Forms.{piece, mould_of}
+use Rattle.mos_source.specs.declared.place.Role.TheVariants.{Opens, Continues, StandsAlone, Closes}
+use Rattle.mos_tree.specs.Forms.{piece, piece_kind_of}
 use Rattle.mos_source.specs.Limits.{own_limit, module_limit, is_jobs, is_no_implicit}
 use Rattle.mos_source.specs.Places.{role_at}
-use Rattle.mos_source.specs.Statements.{no_row, named, labelled, Written, single, bare, conditional, choice, repeated, grouped, data_block, nothing, no_arm, arm, without, otherwise, no_alternative, arm_form, spell_rows, spell, spell_block, spell_arms, spell_alternatives, arm_of, tree}
+use Rattle.mos_source.specs.Statements.{no_row, named, labelled, Written, single, bare, if_, case_, repeat_, do_, initializations, nothing, no_arm, arm, without, otherwise, no_alternative, arm_form, spell_rows, spell, spell_block, spell_arms, spell_alternatives, arm_of, tree}
 use Rattle.mos_source.specs.Sources.{no_item, constant, variables, Parts, no_part, Tops, no_top, sets, defines, announces, Source, spell_parameter, spell_field, spell_items, spell_declarations, spell_parts, heading_form, end_form, spell_tops, spell_head, no_implicit, jobs_module, depth_parts, depth_tops, AreModules, IsAllowed, AreAllowed, parts_of, tops_of, tree_of}
-use Rattle.mos_source.specs.Machine.{Stack, place_of, put, opened, alone, go_on, until, add, add_statement, add_other, end, close, enter, block_limit, or_block, broken_limit, unless, step_as, step_in, step}
+use Rattle.mos_source.specs.Machine.{Stack, place_of, push_frame, opened_by, stands_alone, continue_block, until, add, add_statement, add_other, end, close, enter, block_limit, or_block, broken_limit, unless, step_as, step_in, step}
 use Rattle.mos_source.proofs.Held.{is_model, HeldOwn, Holds}
-use Rattle.mos_source.proofs.Roles.{begins-takes, starts, parameters-there, declarations-there, record-there, routine-there, closes-heads, closes-tops, closes-parameters, closes-declarations, closes-record, closes-routine, closes-arm, closes-otherwise, closes-choice, closes-choice-otherwise, closes-repeated, closes-grouped, closes-labelled}
+use Rattle.mos_source.proofs.Roles.{begins-takes, starts, parameters-there, declarations-there, record-there, routine-there, closes-heads, closes-tops, closes-parameters, closes-declarations, closes-record, closes-routine, closes-arm, closes-otherwise, closes-case, closes-case-else, closes-repeat, closes-do, closes-initializations}
 use Rattle.mos_source.proofs.Sound.{some_stack, moved, respelled, HeldOver, over-more, added, IsTop, added-top, added-declared, added-record}
 
 -- ---- a piece that opens
@@ -47,7 +49,7 @@ use Rattle.mos_source.proofs.Sound.{some_stack, moved, respelled, HeldOver, over
 opens-over : (deep : ℕ) (k : Stack) (frame : Frame) (ps : List PieceForm) (x : PieceForm) → Holds deep k ps → HeldOwn deep frame k (x ∷ []) → HeldOver deep frame k (ps ++ x ∷ [])
 opens-over deep k frame ps x h own = (ps, x ∷ [], h, refl, own)
 
-pub sound-opens : (deep : ℕ) (k : Stack) (line : ℕ) (form : Form) (next : Stack) (ps : List PieceForm) → Holds deep k ps → role_at (place_of k) (mould_of form) ≡ Some Opens → length k ≤ deep → put (opened line form) k ≡ some_stack next → Holds deep next (ps ++ piece line form ∷ [])
+pub sound-opens : (deep : ℕ) (k : Stack) (line : ℕ) (form : Form) (next : Stack) (ps : List PieceForm) → Holds deep k ps → role_at (place_of k) (piece_kind_of form) ≡ Some Opens → length k ≤ deep → push_frame (opened_by line form) k ≡ some_stack next → Holds deep next (ps ++ piece line form ∷ [])
 sound-opens deep k line (f.Model name) next ps h r d e =
     let none : k ≡ [] = starts k r in
     let empty : ps ≡ [] = subst (λ z. Holds deep z ps) none h in
@@ -66,27 +68,27 @@ sound-opens deep k line (f.Routine name formals result) next ps h r d e =
     let heading : Heading = record { line = line; name = name; formals = formals; result = result } in
     moved deep (g.Routine heading [] ∷ k) next (ps ++ piece line (f.Routine name formals result) ∷ []) e
     (opens-over deep k (g.Routine heading []) ps (piece line (f.Routine name formals result)) h (record { there = routine-there (place_of k) result r; parts = no_part; are = refl; fits = omega (arith, d); exact = refl }))
-sound-opens deep k line (f.Guarded guard.If c) next ps h r d e =
-    moved deep (g.Arm line [] line c [] ∷ k) next (ps ++ piece line (f.Guarded guard.If c) ∷ []) e
-    (opens-over deep k (g.Arm line [] line c []) ps (piece line (f.Guarded guard.If c)) h (record { there = begins-takes (place_of k) m.If refl r; before = no_arm; block = nothing; line = refl; are = refl; body_is = refl; fits = omega (arith, d); fits_body = omega (arith, d); exact = refl }))
-sound-opens deep k line (f.Guarded guard.Case v) next ps h r d e =
-    moved deep (g.Choice line v [] ∷ k) next (ps ++ piece line (f.Guarded guard.Case v) ∷ []) e
-    (opens-over deep k (g.Choice line v []) ps (piece line (f.Guarded guard.Case v)) h (record { there = begins-takes (place_of k) m.Case refl r; chosen = no_alternative; are = refl; fits = omega (arith, d); exact = refl }))
+sound-opens deep k line (f.Guarded conditional.If c) next ps h r d e =
+    moved deep (g.IfArm line [] line c [] ∷ k) next (ps ++ piece line (f.Guarded conditional.If c) ∷ []) e
+    (opens-over deep k (g.IfArm line [] line c []) ps (piece line (f.Guarded conditional.If c)) h (record { there = begins-takes (place_of k) m.If refl r; before = no_arm; block = nothing; line = refl; are = refl; body_is = refl; fits = omega (arith, d); fits_body = omega (arith, d); exact = refl }))
+sound-opens deep k line (f.Guarded conditional.Case v) next ps h r d e =
+    moved deep (g.Case line v [] ∷ k) next (ps ++ piece line (f.Guarded conditional.Case v) ∷ []) e
+    (opens-over deep k (g.Case line v []) ps (piece line (f.Guarded conditional.Case v)) h (record { there = begins-takes (place_of k) m.Case refl r; alternatives = no_alternative; are = refl; fits = omega (arith, d); exact = refl }))
 sound-opens deep k line (f.Forall index) next ps h r d e =
-    moved deep (g.Over line index ∷ k) next (ps ++ piece line (f.Forall index) ∷ []) e
-    (opens-over deep k (g.Over line index) ps (piece line (f.Forall index)) h (record { there = begins-takes (place_of k) m.Forall refl r; fits = d; exact = refl }))
-sound-opens deep k line (f.Guarded guard.While c) next ps h r d e =
-    moved deep (g.AsLongAs line c ∷ k) next (ps ++ piece line (f.Guarded guard.While c) ∷ []) e
-    (opens-over deep k (g.AsLongAs line c) ps (piece line (f.Guarded guard.While c)) h (record { there = begins-takes (place_of k) m.While refl r; fits = d; exact = refl }))
+    moved deep (g.Forall line index ∷ k) next (ps ++ piece line (f.Forall index) ∷ []) e
+    (opens-over deep k (g.Forall line index) ps (piece line (f.Forall index)) h (record { there = begins-takes (place_of k) m.Forall refl r; fits = d; exact = refl }))
+sound-opens deep k line (f.Guarded conditional.While c) next ps h r d e =
+    moved deep (g.While line c ∷ k) next (ps ++ piece line (f.Guarded conditional.While c) ∷ []) e
+    (opens-over deep k (g.While line c) ps (piece line (f.Guarded conditional.While c)) h (record { there = begins-takes (place_of k) m.While refl r; fits = d; exact = refl }))
 sound-opens deep k line (f.Keyword keyword.Repeat) next ps h r d e =
-    moved deep (g.Repeated line [] ∷ k) next (ps ++ piece line (f.Keyword keyword.Repeat) ∷ []) e
-    (opens-over deep k (g.Repeated line []) ps (piece line (f.Keyword keyword.Repeat)) h (record { there = begins-takes (place_of k) m.Repeat refl r; block = nothing; body_is = refl; fits = omega (arith, d); exact = refl }))
+    moved deep (g.Repeat line [] ∷ k) next (ps ++ piece line (f.Keyword keyword.Repeat) ∷ []) e
+    (opens-over deep k (g.Repeat line []) ps (piece line (f.Keyword keyword.Repeat)) h (record { there = begins-takes (place_of k) m.Repeat refl r; block = nothing; body_is = refl; fits = omega (arith, d); exact = refl }))
 sound-opens deep k line (f.Keyword keyword.Do) next ps h r d e =
-    moved deep (g.Grouped line [] ∷ k) next (ps ++ piece line (f.Keyword keyword.Do) ∷ []) e
-    (opens-over deep k (g.Grouped line []) ps (piece line (f.Keyword keyword.Do)) h (record { there = begins-takes (place_of k) m.Do refl r; block = nothing; body_is = refl; fits = omega (arith, d); exact = refl }))
+    moved deep (g.Do line [] ∷ k) next (ps ++ piece line (f.Keyword keyword.Do) ∷ []) e
+    (opens-over deep k (g.Do line []) ps (piece line (f.Keyword keyword.Do)) h (record { there = begins-takes (place_of k) m.Do refl r; block = nothing; body_is = refl; fits = omega (arith, d); exact = refl }))
 sound-opens deep k line (f.Initializations direction name) next ps h r d e =
-    moved deep (g.Labelled line direction name [] ∷ k) next (ps ++ piece line (f.Initializations direction name) ∷ []) e
-    (opens-over deep k (g.Labelled line direction name []) ps (piece line (f.Initializations direction name)) h (record { there = begins-takes (place_of k) m.Initializations refl r; rows = no_row; are = refl; fits = d; exact = refl }))
+    moved deep (g.Initializations line direction name [] ∷ k) next (ps ++ piece line (f.Initializations direction name) ∷ []) e
+    (opens-over deep k (g.Initializations line direction name []) ps (piece line (f.Initializations direction name)) h (record { there = begins-takes (place_of k) m.Initializations refl r; rows = no_row; are = refl; fits = d; exact = refl }))
 sound-opens deep k line _ next ps h r d e = let no : ⊥ = cc in absurd no
 
 -- ---- a piece that goes on
@@ -113,7 +115,7 @@ option-test x false t e = let no : ⊥ = cc in absurd no
 option-is : (x : List ℕ) → own_limit (f.Options x) ≡ None → x ≡ no_implicit
 option-is x e = option-test x (is_no_implicit x) refl e
 
-goes-heads : (deep l : ℕ) (name : ModelName) (hs : List Head) (k : Stack) (line : ℕ) (form : Form) (next : Stack) (ps : List PieceForm) → Holds deep (g.Heads l name hs ∷ k) ps → own_limit form ≡ None → go_on line form (g.Heads l name hs ∷ k) ≡ some_stack next → Holds deep next (ps ++ piece line form ∷ [])
+goes-heads : (deep l : ℕ) (name : ModelName) (hs : List Head) (k : Stack) (line : ℕ) (form : Form) (next : Stack) (ps : List PieceForm) → Holds deep (g.Heads l name hs ∷ k) ps → own_limit form ≡ None → continue_block line form (g.Heads l name hs ∷ k) ≡ some_stack next → Holds deep next (ps ++ piece line form ∷ [])
 goes-heads deep l name hs k line (f.Uses modules) next ps held o e =
     moved deep (g.Heads l name (hs ++ h.Uses line modules ∷ []) ∷ k) next (ps ++ piece line (f.Uses modules) ∷ []) e
     (record {
@@ -130,7 +132,7 @@ goes-heads deep l name hs k line (f.Options x) next ps held o e =
     })
 goes-heads deep l name hs k line _ next ps held o e = let no : ⊥ = cc in absurd no
 
-goes-parameters : (deep l : ℕ) (xs : List Parameter) (k : Stack) (line : ℕ) (form : Form) (next : Stack) (ps : List PieceForm) → Holds deep (g.Parameters l xs ∷ k) ps → go_on line form (g.Parameters l xs ∷ k) ≡ some_stack next → Holds deep next (ps ++ piece line form ∷ [])
+goes-parameters : (deep l : ℕ) (xs : List Parameter) (k : Stack) (line : ℕ) (form : Form) (next : Stack) (ps : List PieceForm) → Holds deep (g.Parameters l xs ∷ k) ps → continue_block line form (g.Parameters l xs ∷ k) ≡ some_stack next → Holds deep next (ps ++ piece line form ∷ [])
 goes-parameters deep l xs k line (f.Definition name value) next ps held e =
     let x : Parameter = record { line = line; name = name; default = value } in
     moved deep (g.Parameters l (xs ++ x ∷ []) ∷ k) next (ps ++ piece line (f.Definition name value) ∷ []) e
@@ -138,7 +140,7 @@ goes-parameters deep l xs k line (f.Definition name value) next ps held e =
     (record { there = held.4.there; fits = held.4.fits; exact = rw held.4.exact (ap (λ z. piece l (f.Keyword keyword.Parameters) ∷ z) (sym (map-append spell_parameter xs (x ∷ [])))) }))
 goes-parameters deep l xs k line _ next ps held e = let no : ⊥ = cc in absurd no
 
-goes-declarations : (deep l : ℕ) (xs : List Item) (k : Stack) (line : ℕ) (form : Form) (next : Stack) (ps : List PieceForm) → Holds deep (g.Declarations l xs ∷ k) ps → go_on line form (g.Declarations l xs ∷ k) ≡ some_stack next → Holds deep next (ps ++ piece line form ∷ [])
+goes-declarations : (deep l : ℕ) (xs : List Item) (k : Stack) (line : ℕ) (form : Form) (next : Stack) (ps : List PieceForm) → Holds deep (g.Declarations l xs ∷ k) ps → continue_block line form (g.Declarations l xs ∷ k) ≡ some_stack next → Holds deep next (ps ++ piece line form ∷ [])
 goes-declarations deep l xs k line (f.Definition name value) next ps held e =
     let x : Item = i.Constant line name value in
     moved deep (g.Declarations l (xs ++ x ∷ []) ∷ k) next (ps ++ piece line (f.Definition name value) ∷ []) e
@@ -151,7 +153,7 @@ goes-declarations deep l xs k line (f.Typed names typ) next ps held e =
     (record { there = held.4.there; items = variables held.4.items line names typ; are = ap (λ z. z ++ x ∷ []) held.4.are; fits = held.4.fits; exact = rw held.4.exact refl }))
 goes-declarations deep l xs k line _ next ps held e = let no : ⊥ = cc in absurd no
 
-goes-record : (deep l : ℕ) (name : List ℕ) (xs : List FieldGroup) (k : Stack) (line : ℕ) (form : Form) (next : Stack) (ps : List PieceForm) → Holds deep (g.Record l name xs ∷ k) ps → go_on line form (g.Record l name xs ∷ k) ≡ some_stack next → Holds deep next (ps ++ piece line form ∷ [])
+goes-record : (deep l : ℕ) (name : List ℕ) (xs : List FieldGroup) (k : Stack) (line : ℕ) (form : Form) (next : Stack) (ps : List PieceForm) → Holds deep (g.Record l name xs ∷ k) ps → continue_block line form (g.Record l name xs ∷ k) ≡ some_stack next → Holds deep next (ps ++ piece line form ∷ [])
 goes-record deep l name xs k line (f.Typed names typ) next ps held e =
     let x : FieldGroup = record { line = line; names = names; typ = typ } in
     moved deep (g.Record l name (xs ++ x ∷ []) ∷ k) next (ps ++ piece line (f.Typed names typ) ∷ []) e
@@ -159,10 +161,10 @@ goes-record deep l name xs k line (f.Typed names typ) next ps held e =
     (record { there = held.4.there; fits = held.4.fits; exact = rw held.4.exact (ap (λ z. piece l (f.RecordOf name) ∷ z) (sym (map-append spell_field xs (x ∷ [])))) }))
 goes-record deep l name xs k line _ next ps held e = let no : ⊥ = cc in absurd no
 
-goes-arm : (deep first : ℕ) (arms : List (Arm Statement)) (l : ℕ) (c : Expr) (body : List Statement) (k : Stack) (line : ℕ) (form : Form) (next : Stack) (ps : List PieceForm) → Holds deep (g.Arm first arms l c body ∷ k) ps → go_on line form (g.Arm first arms l c body ∷ k) ≡ some_stack next → Holds deep next (ps ++ piece line form ∷ [])
-goes-arm deep first arms l c body k line (f.Guarded guard.Elif condition) next ps held e =
-    moved deep (g.Arm first (arms ++ arm_of l c body ∷ []) line condition [] ∷ k) next (ps ++ piece line (f.Guarded guard.Elif condition) ∷ []) e
-    (over-more deep (g.Arm first arms l c body) (g.Arm first (arms ++ arm_of l c body ∷ []) line condition []) k ps (piece line (f.Guarded guard.Elif condition) ∷ []) held
+goes-arm : (deep first : ℕ) (arms : List (Arm Statement)) (l : ℕ) (c : Expr) (body : List Statement) (k : Stack) (line : ℕ) (form : Form) (next : Stack) (ps : List PieceForm) → Holds deep (g.IfArm first arms l c body ∷ k) ps → continue_block line form (g.IfArm first arms l c body ∷ k) ≡ some_stack next → Holds deep next (ps ++ piece line form ∷ [])
+goes-arm deep first arms l c body k line (f.Guarded conditional.Elif condition) next ps held e =
+    moved deep (g.IfArm first (arms ++ arm_of l c body ∷ []) line condition [] ∷ k) next (ps ++ piece line (f.Guarded conditional.Elif condition) ∷ []) e
+    (over-more deep (g.IfArm first arms l c body) (g.IfArm first (arms ++ arm_of l c body ∷ []) line condition []) k ps (piece line (f.Guarded conditional.Elif condition) ∷ []) held
     (record {
       there = held.4.there;
       before = arm held.4.before l c held.4.block;
@@ -175,8 +177,8 @@ goes-arm deep first arms l c body k line (f.Guarded guard.Elif condition) next p
       exact = rw held.4.exact refl;
     }))
 goes-arm deep first arms l c body k line (f.Keyword keyword.Else) next ps held e =
-    moved deep (g.Otherwise first (arms ++ arm_of l c body ∷ []) [] ∷ k) next (ps ++ piece line (f.Keyword keyword.Else) ∷ []) e
-    (over-more deep (g.Arm first arms l c body) (g.Otherwise first (arms ++ arm_of l c body ∷ []) []) k ps (piece line (f.Keyword keyword.Else) ∷ []) held
+    moved deep (g.IfElse first (arms ++ arm_of l c body ∷ []) [] ∷ k) next (ps ++ piece line (f.Keyword keyword.Else) ∷ []) e
+    (over-more deep (g.IfArm first arms l c body) (g.IfElse first (arms ++ arm_of l c body ∷ []) []) k ps (piece line (f.Keyword keyword.Else) ∷ []) held
     (record {
       there = held.4.there;
       before = held.4.before;
@@ -195,39 +197,39 @@ goes-arm deep first arms l c body k line (f.Keyword keyword.Else) next ps held e
     }))
 goes-arm deep first arms l c body k line _ next ps held e = let no : ⊥ = cc in absurd no
 
-goes-choice : (deep l : ℕ) (v : Expr) (xs : List (Alternative Statement)) (k : Stack) (line : ℕ) (form : Form) (next : Stack) (ps : List PieceForm) → Holds deep (g.Choice l v xs ∷ k) ps → go_on line form (g.Choice l v xs ∷ k) ≡ some_stack next → Holds deep next (ps ++ piece line form ∷ [])
-goes-choice deep l v xs k line (f.Alternative labels) next ps held e =
-    moved deep (g.Chosen l v xs line labels ∷ k) next (ps ++ piece line (f.Alternative labels) ∷ []) e
-    (over-more deep (g.Choice l v xs) (g.Chosen l v xs line labels) k ps (piece line (f.Alternative labels) ∷ []) held
-    (record { there = held.4.there; chosen = held.4.chosen; are = held.4.are; fits = held.4.fits; exact = rw held.4.exact refl }))
-goes-choice deep l v xs k line (f.Keyword keyword.Else) next ps held e =
-    moved deep (g.ChoiceOtherwise l v xs [] ∷ k) next (ps ++ piece line (f.Keyword keyword.Else) ∷ []) e
-    (over-more deep (g.Choice l v xs) (g.ChoiceOtherwise l v xs []) k ps (piece line (f.Keyword keyword.Else) ∷ []) held
-    (record { there = held.4.there; chosen = held.4.chosen; at = line; block = nothing; are = held.4.are; body_is = refl; fits = held.4.fits; fits_body = omega (arith, held.4.fits); exact = rw held.4.exact refl }))
-goes-choice deep l v xs k line _ next ps held e = let no : ⊥ = cc in absurd no
+goes-case : (deep l : ℕ) (v : Expr) (xs : List (Alternative Statement)) (k : Stack) (line : ℕ) (form : Form) (next : Stack) (ps : List PieceForm) → Holds deep (g.Case l v xs ∷ k) ps → continue_block line form (g.Case l v xs ∷ k) ≡ some_stack next → Holds deep next (ps ++ piece line form ∷ [])
+goes-case deep l v xs k line (f.Alternative labels) next ps held e =
+    moved deep (g.CaseArm l v xs line labels ∷ k) next (ps ++ piece line (f.Alternative labels) ∷ []) e
+    (over-more deep (g.Case l v xs) (g.CaseArm l v xs line labels) k ps (piece line (f.Alternative labels) ∷ []) held
+    (record { there = held.4.there; alternatives = held.4.alternatives; are = held.4.are; fits = held.4.fits; exact = rw held.4.exact refl }))
+goes-case deep l v xs k line (f.Keyword keyword.Else) next ps held e =
+    moved deep (g.CaseElse l v xs [] ∷ k) next (ps ++ piece line (f.Keyword keyword.Else) ∷ []) e
+    (over-more deep (g.Case l v xs) (g.CaseElse l v xs []) k ps (piece line (f.Keyword keyword.Else) ∷ []) held
+    (record { there = held.4.there; alternatives = held.4.alternatives; at = line; block = nothing; are = held.4.are; body_is = refl; fits = held.4.fits; fits_body = omega (arith, held.4.fits); exact = rw held.4.exact refl }))
+goes-case deep l v xs k line _ next ps held e = let no : ⊥ = cc in absurd no
 
-goes-labelled : (deep l : ℕ) (d : Direction) (n : Expr) (xs : List LabelGroup) (k : Stack) (line : ℕ) (form : Form) (next : Stack) (ps : List PieceForm) → Holds deep (g.Labelled l d n xs ∷ k) ps → go_on line form (g.Labelled l d n xs ∷ k) ≡ some_stack next → Holds deep next (ps ++ piece line form ∷ [])
-goes-labelled deep l d n xs k line (f.Bare name) next ps held e =
+goes-initializations : (deep l : ℕ) (d : Direction) (n : Expr) (xs : List LabelGroup) (k : Stack) (line : ℕ) (form : Form) (next : Stack) (ps : List PieceForm) → Holds deep (g.Initializations l d n xs ∷ k) ps → continue_block line form (g.Initializations l d n xs ∷ k) ≡ some_stack next → Holds deep next (ps ++ piece line form ∷ [])
+goes-initializations deep l d n xs k line (f.Bare name) next ps held e =
     let x : LabelGroup = record { line = line; labels = record { name = name; shown = None } ∷ [] } in
-    moved deep (g.Labelled l d n (xs ++ x ∷ []) ∷ k) next (ps ++ piece line (f.Bare name) ∷ []) e
-    (over-more deep (g.Labelled l d n xs) (g.Labelled l d n (xs ++ x ∷ [])) k ps (piece line (f.Bare name) ∷ []) held
+    moved deep (g.Initializations l d n (xs ++ x ∷ []) ∷ k) next (ps ++ piece line (f.Bare name) ∷ []) e
+    (over-more deep (g.Initializations l d n xs) (g.Initializations l d n (xs ++ x ∷ [])) k ps (piece line (f.Bare name) ∷ []) held
     (record { there = held.4.there; rows = named held.4.rows line name; are = ap (λ z. z ++ x ∷ []) held.4.are; fits = held.4.fits; exact = rw held.4.exact refl }))
-goes-labelled deep l d n xs k line (f.Labels labels) next ps held e =
+goes-initializations deep l d n xs k line (f.Labels labels) next ps held e =
     let x : LabelGroup = record { line = line; labels = labels } in
-    moved deep (g.Labelled l d n (xs ++ x ∷ []) ∷ k) next (ps ++ piece line (f.Labels labels) ∷ []) e
-    (over-more deep (g.Labelled l d n xs) (g.Labelled l d n (xs ++ x ∷ [])) k ps (piece line (f.Labels labels) ∷ []) held
+    moved deep (g.Initializations l d n (xs ++ x ∷ []) ∷ k) next (ps ++ piece line (f.Labels labels) ∷ []) e
+    (over-more deep (g.Initializations l d n xs) (g.Initializations l d n (xs ++ x ∷ [])) k ps (piece line (f.Labels labels) ∷ []) held
     (record { there = held.4.there; rows = labelled held.4.rows line labels; are = ap (λ z. z ++ x ∷ []) held.4.are; fits = held.4.fits; exact = rw held.4.exact refl }))
-goes-labelled deep l d n xs k line _ next ps held e = let no : ⊥ = cc in absurd no
+goes-initializations deep l d n xs k line _ next ps held e = let no : ⊥ = cc in absurd no
 
-pub sound-goes : (deep : ℕ) (k : Stack) (line : ℕ) (form : Form) (next : Stack) (ps : List PieceForm) → Holds deep k ps → own_limit form ≡ None → go_on line form k ≡ some_stack next → Holds deep next (ps ++ piece line form ∷ [])
+pub sound-goes : (deep : ℕ) (k : Stack) (line : ℕ) (form : Form) (next : Stack) (ps : List PieceForm) → Holds deep k ps → own_limit form ≡ None → continue_block line form k ≡ some_stack next → Holds deep next (ps ++ piece line form ∷ [])
 sound-goes deep [] line form next ps held o e = let no : ⊥ = cc in absurd no
 sound-goes deep (g.Heads l name hs ∷ k) line form next ps held o e = goes-heads deep l name hs k line form next ps held o e
 sound-goes deep (g.Parameters l xs ∷ k) line form next ps held o e = goes-parameters deep l xs k line form next ps held e
 sound-goes deep (g.Declarations l xs ∷ k) line form next ps held o e = goes-declarations deep l xs k line form next ps held e
 sound-goes deep (g.Record l name xs ∷ k) line form next ps held o e = goes-record deep l name xs k line form next ps held e
-sound-goes deep (g.Arm first arms l c body ∷ k) line form next ps held o e = goes-arm deep first arms l c body k line form next ps held e
-sound-goes deep (g.Choice l v xs ∷ k) line form next ps held o e = goes-choice deep l v xs k line form next ps held e
-sound-goes deep (g.Labelled l d n xs ∷ k) line form next ps held o e = goes-labelled deep l d n xs k line form next ps held e
+sound-goes deep (g.IfArm first arms l c body ∷ k) line form next ps held o e = goes-arm deep first arms l c body k line form next ps held e
+sound-goes deep (g.Case l v xs ∷ k) line form next ps held o e = goes-case deep l v xs k line form next ps held e
+sound-goes deep (g.Initializations l d n xs ∷ k) line form next ps held o e = goes-initializations deep l d n xs k line form next ps held e
 sound-goes deep (_ ∷ k) line form next ps held o e = let no : ⊥ = cc in absurd no
 
 -- ---- a piece that stands alone
@@ -242,21 +244,21 @@ held-length deep (g.Parameters l xs ∷ k) ps held = omega (arith, held.4.fits)
 held-length deep (g.Declarations l xs ∷ k) ps held = omega (arith, held.4.fits)
 held-length deep (g.Record l name xs ∷ k) ps held = omega (arith, held.4.fits)
 held-length deep (g.Routine heading xs ∷ k) ps held = omega (arith, held.4.fits)
-held-length deep (g.Arm first arms l c body ∷ k) ps held = omega (arith, held.4.fits)
-held-length deep (g.Otherwise first arms body ∷ k) ps held = omega (arith, held.4.fits)
-held-length deep (g.Choice l v xs ∷ k) ps held = omega (arith, held.4.fits)
-held-length deep (g.Chosen l v xs at labels ∷ k) ps held = omega (arith, held.4.fits)
-held-length deep (g.ChoiceOtherwise l v xs body ∷ k) ps held = omega (arith, held.4.fits)
-held-length deep (g.Over l index ∷ k) ps held = omega (arith, held.4.fits)
-held-length deep (g.AsLongAs l c ∷ k) ps held = omega (arith, held.4.fits)
-held-length deep (g.Repeated l body ∷ k) ps held = omega (arith, held.4.fits)
-held-length deep (g.Grouped l body ∷ k) ps held = omega (arith, held.4.fits)
-held-length deep (g.Labelled l d n xs ∷ k) ps held = omega (arith, held.4.fits)
+held-length deep (g.IfArm first arms l c body ∷ k) ps held = omega (arith, held.4.fits)
+held-length deep (g.IfElse first arms body ∷ k) ps held = omega (arith, held.4.fits)
+held-length deep (g.Case l v xs ∷ k) ps held = omega (arith, held.4.fits)
+held-length deep (g.CaseArm l v xs at labels ∷ k) ps held = omega (arith, held.4.fits)
+held-length deep (g.CaseElse l v xs body ∷ k) ps held = omega (arith, held.4.fits)
+held-length deep (g.Forall l index ∷ k) ps held = omega (arith, held.4.fits)
+held-length deep (g.While l c ∷ k) ps held = omega (arith, held.4.fits)
+held-length deep (g.Repeat l body ∷ k) ps held = omega (arith, held.4.fits)
+held-length deep (g.Do l body ∷ k) ps held = omega (arith, held.4.fits)
+held-length deep (g.Initializations l d n xs ∷ k) ps held = omega (arith, held.4.fits)
 
 is-forward : (deep : ℕ) (heading : Heading) → IsTop deep (λ xs. announces xs heading) (t.Forward heading) (piece heading.line (f.Forward heading.name heading.formals heading.result) ∷ [])
 is-forward deep heading = record { are = λ xs. refl; spelled = λ xs. refl; fits = λ xs d. d }
 
-pub sound-stands : (deep : ℕ) (k : Stack) (line : ℕ) (form : Form) (next : Stack) (ps : List PieceForm) → Holds deep k ps → add (alone line form) k ≡ some_stack next → Holds deep next (ps ++ piece line form ∷ [])
+pub sound-stands : (deep : ℕ) (k : Stack) (line : ℕ) (form : Form) (next : Stack) (ps : List PieceForm) → Holds deep k ps → add (stands_alone line form) k ≡ some_stack next → Holds deep next (ps ++ piece line form ∷ [])
 sound-stands deep k line (f.Simple x) next ps held e = added deep k next ps (single line x) held (omega (arith, held-length deep k ps held)) e
 sound-stands deep k line (f.Bare name) next ps held e = added deep k next ps (bare line name) held (omega (arith, held-length deep k ps held)) e
 sound-stands deep k line (f.Forward name formals result) next ps held e =
@@ -301,7 +303,7 @@ closes-source deep l name hs tops k line next ps none allowed fits exact e =
       is = refl;
     })
 
-pub sound-closes : (deep : ℕ) (k : Stack) (line : ℕ) (form : Form) (next : Stack) (ps : List PieceForm) → Holds deep k ps → own_limit form ≡ None → role_at (place_of k) (mould_of form) ≡ Some Closes → close line form k ≡ some_stack next → Holds deep next (ps ++ piece line form ∷ [])
+pub sound-closes : (deep : ℕ) (k : Stack) (line : ℕ) (form : Form) (next : Stack) (ps : List PieceForm) → Holds deep k ps → own_limit form ≡ None → role_at (place_of k) (piece_kind_of form) ≡ Some Closes → close line form k ≡ some_stack next → Holds deep next (ps ++ piece line form ∷ [])
 sound-closes deep [] line form next ps held o r e = let no : ⊥ = cc in absurd no
 sound-closes deep (g.Heads l name hs ∷ k) line form next ps held o r e =
     as-form deep next ps line form (f.Keyword keyword.EndModel) (closes-heads form o r)
@@ -326,51 +328,51 @@ sound-closes deep (g.Routine heading xs ∷ k) line form next ps held o r e =
     (closing-is deep next ps held.0 held.1 (piece heading.line (heading_form heading) ∷ spell_parts held.4.parts) (piece heading.line (heading_form heading) ∷ (spell_parts held.4.parts ++ piece line (end_form heading.result) ∷ [])) (piece line (end_form heading.result)) held.3 held.4.exact refl
     (added-top deep k next held.0 (λ zs. defines zs heading held.4.parts line) (t.Routine (record { heading = heading; parts = parts_of held.4.parts })) (piece heading.line (heading_form heading) ∷ (spell_parts held.4.parts ++ piece line (end_form heading.result) ∷ [])) (is-defined deep heading held.4.parts line (omega (arith, held.4.fits, some-blocks k held.4.there))) held.2
     (subst (λ z. add_other (part.Top (t.Routine (record { heading = heading; parts = z }))) k ≡ some_stack next) held.4.are e)))
-sound-closes deep (g.Arm first arms l c body ∷ k) line form next ps held o r e =
-    let w : Written = conditional held.4.before l c held.4.block without line in
+sound-closes deep (g.IfArm first arms l c body ∷ k) line form next ps held o r e =
+    let w : Written = if_ held.4.before l c held.4.block without line in
     let is : s.If first (arms ++ arm_of l c body ∷ []) [] ≡ tree w = rw (held.4.line, held.4.are, held.4.body_is) refl in
     as-form deep next ps line form (f.Keyword keyword.EndIf) (closes-arm form o r)
     (closing-is deep next ps held.0 held.1 (spell_arms held.4.before ++ piece l (arm_form held.4.before c) ∷ spell_block held.4.block) (spell w) (piece line (f.Keyword keyword.EndIf)) held.3 held.4.exact (sym (append_assoc (spell_arms held.4.before) (piece l (arm_form held.4.before c) ∷ spell_block held.4.block) (piece line (f.Keyword keyword.EndIf) ∷ [])))
     (added deep k next held.0 w held.2 (omega (arith, held.4.fits, held.4.fits_body)) (as-statement k next (s.If first (arms ++ arm_of l c body ∷ []) []) (tree w) is e)))
-sound-closes deep (g.Otherwise first arms body ∷ k) line form next ps held o r e =
-    let w : Written = conditional held.4.before held.4.last held.4.condition held.4.guarded (otherwise held.4.at held.4.block) line in
+sound-closes deep (g.IfElse first arms body ∷ k) line form next ps held o r e =
+    let w : Written = if_ held.4.before held.4.last held.4.condition held.4.guarded (otherwise held.4.at held.4.block) line in
     let is : s.If first arms body ≡ tree w = rw (held.4.line, held.4.are, held.4.body_is) refl in
     as-form deep next ps line form (f.Keyword keyword.EndIf) (closes-otherwise form o r)
     (closing-is deep next ps held.0 held.1 ((spell_arms held.4.before ++ piece held.4.last (arm_form held.4.before held.4.condition) ∷ spell_block held.4.guarded) ++ piece held.4.at (f.Keyword keyword.Else) ∷ spell_block held.4.block) (spell w) (piece line (f.Keyword keyword.EndIf)) held.3 held.4.exact
     (sym (append_assoc (spell_arms held.4.before ++ piece held.4.last (arm_form held.4.before held.4.condition) ∷ spell_block held.4.guarded) (piece held.4.at (f.Keyword keyword.Else) ∷ spell_block held.4.block) (piece line (f.Keyword keyword.EndIf) ∷ [])
     ∙ append_assoc (spell_arms held.4.before) (piece held.4.last (arm_form held.4.before held.4.condition) ∷ spell_block held.4.guarded) (piece held.4.at (f.Keyword keyword.Else) ∷ (spell_block held.4.block ++ piece line (f.Keyword keyword.EndIf) ∷ []))))
     (added deep k next held.0 w held.2 (omega (arith, held.4.fits, held.4.fits_guarded, held.4.fits_body)) (as-statement k next (s.If first arms body) (tree w) is e)))
-sound-closes deep (g.Choice l v xs ∷ k) line form next ps held o r e =
-    let w : Written = choice l v held.4.chosen without line in
+sound-closes deep (g.Case l v xs ∷ k) line form next ps held o r e =
+    let w : Written = case_ l v held.4.alternatives without line in
     let is : s.Case l v xs [] ≡ tree w = rw held.4.are refl in
-    as-form deep next ps line form (f.Keyword keyword.EndCase) (closes-choice form o r)
-    (closing-is deep next ps held.0 held.1 (piece l (f.Guarded guard.Case v) ∷ spell_alternatives held.4.chosen) (spell w) (piece line (f.Keyword keyword.EndCase)) held.3 held.4.exact refl
+    as-form deep next ps line form (f.Keyword keyword.EndCase) (closes-case form o r)
+    (closing-is deep next ps held.0 held.1 (piece l (f.Guarded conditional.Case v) ∷ spell_alternatives held.4.alternatives) (spell w) (piece line (f.Keyword keyword.EndCase)) held.3 held.4.exact refl
     (added deep k next held.0 w held.2 (omega (arith, held.4.fits)) (as-statement k next (s.Case l v xs []) (tree w) is e)))
-sound-closes deep (g.ChoiceOtherwise l v xs body ∷ k) line form next ps held o r e =
-    let w : Written = choice l v held.4.chosen (otherwise held.4.at held.4.block) line in
+sound-closes deep (g.CaseElse l v xs body ∷ k) line form next ps held o r e =
+    let w : Written = case_ l v held.4.alternatives (otherwise held.4.at held.4.block) line in
     let is : s.Case l v xs body ≡ tree w = rw (held.4.are, held.4.body_is) refl in
-    as-form deep next ps line form (f.Keyword keyword.EndCase) (closes-choice-otherwise form o r)
-    (closing-is deep next ps held.0 held.1 (piece l (f.Guarded guard.Case v) ∷ (spell_alternatives held.4.chosen ++ piece held.4.at (f.Keyword keyword.Else) ∷ spell_block held.4.block)) (spell w) (piece line (f.Keyword keyword.EndCase)) held.3 held.4.exact
-    (ap (λ z. piece l (f.Guarded guard.Case v) ∷ z) (sym (append_assoc (spell_alternatives held.4.chosen) (piece held.4.at (f.Keyword keyword.Else) ∷ spell_block held.4.block) (piece line (f.Keyword keyword.EndCase) ∷ []))))
+    as-form deep next ps line form (f.Keyword keyword.EndCase) (closes-case-else form o r)
+    (closing-is deep next ps held.0 held.1 (piece l (f.Guarded conditional.Case v) ∷ (spell_alternatives held.4.alternatives ++ piece held.4.at (f.Keyword keyword.Else) ∷ spell_block held.4.block)) (spell w) (piece line (f.Keyword keyword.EndCase)) held.3 held.4.exact
+    (ap (λ z. piece l (f.Guarded conditional.Case v) ∷ z) (sym (append_assoc (spell_alternatives held.4.alternatives) (piece held.4.at (f.Keyword keyword.Else) ∷ spell_block held.4.block) (piece line (f.Keyword keyword.EndCase) ∷ []))))
     (added deep k next held.0 w held.2 (omega (arith, held.4.fits, held.4.fits_body)) (as-statement k next (s.Case l v xs body) (tree w) is e)))
-sound-closes deep (g.Repeated l body ∷ k) line form next ps held o r e =
-    let until-is : (c : Expr) × (form ≡ f.Guarded guard.Until c) = closes-repeated form o r in
-    let w : Written = repeated l held.4.block line until-is.0 in
+sound-closes deep (g.Repeat l body ∷ k) line form next ps held o r e =
+    let until-is : (c : Expr) × (form ≡ f.Guarded conditional.Until c) = closes-repeat form o r in
+    let w : Written = repeat_ l held.4.block line until-is.0 in
     let is : s.Repeat l body line until-is.0 ≡ tree w = rw held.4.body_is refl in
     let e2 : add_statement (s.Repeat l body line until-is.0) k ≡ some_stack next = subst (λ z. add (until line z l body) k ≡ some_stack next) until-is.1 e in
-    as-form deep next ps line form (f.Guarded guard.Until until-is.0) until-is.1
-    (closing-is deep next ps held.0 held.1 (piece l (f.Keyword keyword.Repeat) ∷ spell_block held.4.block) (spell w) (piece line (f.Guarded guard.Until until-is.0)) held.3 held.4.exact refl
+    as-form deep next ps line form (f.Guarded conditional.Until until-is.0) until-is.1
+    (closing-is deep next ps held.0 held.1 (piece l (f.Keyword keyword.Repeat) ∷ spell_block held.4.block) (spell w) (piece line (f.Guarded conditional.Until until-is.0)) held.3 held.4.exact refl
     (added deep k next held.0 w held.2 (omega (arith, held.4.fits)) (as-statement k next (s.Repeat l body line until-is.0) (tree w) is e2)))
-sound-closes deep (g.Grouped l body ∷ k) line form next ps held o r e =
-    let w : Written = grouped l held.4.block line in
+sound-closes deep (g.Do l body ∷ k) line form next ps held o r e =
+    let w : Written = do_ l held.4.block line in
     let is : s.Do l body ≡ tree w = rw held.4.body_is refl in
-    as-form deep next ps line form (f.Keyword keyword.EndDo) (closes-grouped form o r)
+    as-form deep next ps line form (f.Keyword keyword.EndDo) (closes-do form o r)
     (closing-is deep next ps held.0 held.1 (piece l (f.Keyword keyword.Do) ∷ spell_block held.4.block) (spell w) (piece line (f.Keyword keyword.EndDo)) held.3 held.4.exact refl
     (added deep k next held.0 w held.2 (omega (arith, held.4.fits)) (as-statement k next (s.Do l body) (tree w) is e)))
-sound-closes deep (g.Labelled l d n xs ∷ k) line form next ps held o r e =
-    let w : Written = data_block l d n held.4.rows line in
+sound-closes deep (g.Initializations l d n xs ∷ k) line form next ps held o r e =
+    let w : Written = initializations l d n held.4.rows line in
     let is : s.Initializations l d n xs ≡ tree w = rw held.4.are refl in
-    as-form deep next ps line form (f.Keyword keyword.EndInitializations) (closes-labelled form o r)
+    as-form deep next ps line form (f.Keyword keyword.EndInitializations) (closes-initializations form o r)
     (closing-is deep next ps held.0 held.1 (piece l (f.Initializations d n) ∷ spell_rows held.4.rows) (spell w) (piece line (f.Keyword keyword.EndInitializations)) held.3 held.4.exact refl
     (added deep k next held.0 w held.2 (omega (arith, held.4.fits)) (as-statement k next (s.Initializations l d n xs) (tree w) is e)))
 sound-closes deep (_ ∷ k) line form next ps held o r e = let no : ⊥ = cc in absurd no
@@ -396,13 +398,13 @@ fits-test deep n false t e = ltb-false deep n t
 pub fits-is : (deep n : ℕ) → block_limit deep Opens n ≡ None → n ≤ deep
 fits-is deep n e = fits-test deep n (nat_lt deep n) refl e
 
-sound-enter : (deep : ℕ) (role : Role) (k : Stack) (line : ℕ) (form : Form) (next : Stack) (ps : List PieceForm) → Holds deep k ps → role_at (place_of k) (mould_of form) ≡ Some role → own_limit form ≡ None → block_limit deep role (length k) ≡ None → enter role line form k ≡ some_stack next → Holds deep next (ps ++ piece line form ∷ [])
+sound-enter : (deep : ℕ) (role : Role) (k : Stack) (line : ℕ) (form : Form) (next : Stack) (ps : List PieceForm) → Holds deep k ps → role_at (place_of k) (piece_kind_of form) ≡ Some role → own_limit form ≡ None → block_limit deep role (length k) ≡ None → enter role line form k ≡ some_stack next → Holds deep next (ps ++ piece line form ∷ [])
 sound-enter deep Opens k line form next ps held r o b e = sound-opens deep k line form next ps held r (fits-is deep (length k) b) e
-sound-enter deep GoesOn k line form next ps held r o b e = sound-goes deep k line form next ps held o e
-sound-enter deep Stands k line form next ps held r o b e = sound-stands deep k line form next ps held e
+sound-enter deep Continues k line form next ps held r o b e = sound-goes deep k line form next ps held o e
+sound-enter deep StandsAlone k line form next ps held r o b e = sound-stands deep k line form next ps held e
 sound-enter deep Closes k line form next ps held r o b e = sound-closes deep k line form next ps held o r e
 
-sound-role : (deep : ℕ) (role : Option Role) (k : Stack) (line : ℕ) (form : Form) (next : Stack) (ps : List PieceForm) → Holds deep k ps → role_at (place_of k) (mould_of form) ≡ role → step_in deep role line form k ≡ Ok next → Holds deep next (ps ++ piece line form ∷ [])
+sound-role : (deep : ℕ) (role : Option Role) (k : Stack) (line : ℕ) (form : Form) (next : Stack) (ps : List PieceForm) → Holds deep k ps → role_at (place_of k) (piece_kind_of form) ≡ role → step_in deep role line form k ≡ Ok next → Holds deep next (ps ++ piece line form ∷ [])
 unfolding step_as
 sound-role deep None k line form next ps held r e = let no : ⊥ = cc in absurd no
 sound-role deep (Some role) k line form next ps held r e =
@@ -413,4 +415,4 @@ sound-role deep (Some role) k line form next ps held r e =
 -- what is held behind a piece that is taken
 pub sound : (deep : ℕ) (k next : Stack) (x : PieceForm) (ps : List PieceForm) → Holds deep k ps → step deep k x ≡ Ok next → Holds deep next (ps ++ x ∷ [])
 unfolding step
-sound deep k next x ps held e = sound-role deep (role_at (place_of k) (mould_of x.form)) k x.line x.form next ps held refl e
+sound deep k next x ps held e = sound-role deep (role_at (place_of k) (piece_kind_of x.form)) k x.line x.form next ps held refl e

@@ -1,27 +1,29 @@
+-- Steps of the machine, one by one.
+
 use Rattle.std.proofs.Common.{◌≡◌, ℕ, ◌≤◌, true, false, List, [], ◌∷◌, ◌++◌, length, Some, None, Ok, refl, ◌∙◌, ap}
 use Rattle.std.specs.Prelude.{nat_lt}
 use Rattle.std.proofs.lemmas.Bool.{le-ltb}
 use Rattle.std.proofs.lemmas.List.{append_assoc}
-use Rattle.mos_form.specs.declared.form.Form.{Form}
-use Rattle.mos_form.specs.declared.form.Mould.{Mould}
-use Rattle.mos_form.specs.declared.form.PieceForm.{PieceForm}
+use Rattle.mos_tree.specs.declared.form.Form.{Form}
+use Rattle.mos_tree.specs.declared.form.PieceKind.{PieceKind}
+use Rattle.mos_tree.specs.declared.form.PieceForm.{PieceForm}
 use Rattle.mos_source.specs.declared.frame.Frame.{Frame}
 use Rattle.mos_source.specs.declared.place.Place.{Place}
 use Rattle.mos_source.specs.declared.place.Role.{Role}
 use Rattle.mos_source.specs.declared.place.Role.TheVariants.{Opens}
-use Rattle.mos_form.specs.Forms.{mould_of, piece}
+use Rattle.mos_tree.specs.Forms.{piece_kind_of, piece}
 use Rattle.mos_source.specs.Limits.{own_limit}
 use Rattle.mos_source.specs.Places.{takes_statements, begins, role_at}
-use Rattle.mos_source.specs.Machine.{Stack, place_of, put, opened, enter, block_limit, step_as, step, run}
+use Rattle.mos_source.specs.Machine.{Stack, place_of, push_frame, opened_by, enter, block_limit, step_as, step, run}
 
 -- a statement may begin here
 abbrev pub Takes : Stack → Type 0
 Takes k = takes_statements (place_of k) ≡ true
 
 -- the first piece of a statement does the same at each of these places
-pub role-of-statement : (place : Place) (mould : Mould) (role : Role) → takes_statements place ≡ true → begins mould ≡ Some role → role_at place mould ≡ Some role
+pub role-of-statement : (place : Place) (piece_kind : PieceKind) (role : Role) → takes_statements place ≡ true → begins piece_kind ≡ Some role → role_at place piece_kind ≡ Some role
 unfolding role_at
-role-of-statement place mould role t b = rw (t, b) refl
+role-of-statement place piece_kind role t b = rw (t, b) refl
 
 pub block-fits : (deep blocks : ℕ) → blocks ≤ deep → block_limit deep Opens blocks ≡ None
 block-fits deep blocks h =
@@ -29,7 +31,7 @@ block-fits deep blocks h =
     rw small refl
 
 -- a piece without a limit of its own, in its role
-pub step-role : (deep : ℕ) (k : Stack) (x : PieceForm) (role : Role) (next : Stack) → role_at (place_of k) (mould_of x.form) ≡ Some role → own_limit x.form ≡ None → block_limit deep role (length k) ≡ None → enter role x.line x.form k ≡ Some next → step deep k x ≡ Ok next
+pub step-role : (deep : ℕ) (k : Stack) (x : PieceForm) (role : Role) (next : Stack) → role_at (place_of k) (piece_kind_of x.form) ≡ Some role → own_limit x.form ≡ None → block_limit deep role (length k) ≡ None → enter role x.line x.form k ≡ Some next → step deep k x ≡ Ok next
 unfolding step step_as
 step-role deep k x role next r o b e = rw (r, o, b, e) refl
 
@@ -38,9 +40,9 @@ pub run-step : (deep : ℕ) (k next : Stack) (x : PieceForm) (xs : List PieceFor
 run-step deep k next x xs e = rw e refl
 
 -- a piece that opens a block
-pub run-open : (deep : ℕ) (k : Stack) (line : ℕ) (form : Form) (frame : Frame) (xs : List PieceForm) → role_at (place_of k) (mould_of form) ≡ Some Opens → own_limit form ≡ None → opened line form ≡ Some frame → length k ≤ deep → run deep k (piece line form ∷ xs) ≡ run deep (frame ∷ k) xs
+pub run-open : (deep : ℕ) (k : Stack) (line : ℕ) (form : Form) (frame : Frame) (xs : List PieceForm) → role_at (place_of k) (piece_kind_of form) ≡ Some Opens → own_limit form ≡ None → opened_by line form ≡ Some frame → length k ≤ deep → run deep k (piece line form ∷ xs) ≡ run deep (frame ∷ k) xs
 run-open deep k line form frame xs r o e h =
-    let entered : enter Opens line form k ≡ Some (frame ∷ k) = ap (λ x. put x k) e in
+    let entered : enter Opens line form k ≡ Some (frame ∷ k) = ap (λ x. push_frame x k) e in
     run-step deep k (frame ∷ k) (piece line form) xs (step-role deep k (piece line form) Opens (frame ∷ k) r o (block-fits deep (length k) h) entered)
 
 -- one piece behind others, and behind that the rest

@@ -1,23 +1,29 @@
+-- Whole runs of the machine, and what the call answers.
+
 use Rattle.std.proofs.Common.{◌≡◌, ℕ, ◌≤◌, List, [], ◌∷◌, ◌++◌, length, Option, Some, None, Result, Ok, Err, refl, sym, ◌∙◌, ap, subst, arith}
 use Rattle.std.specs.Prelude.{IfOk, IfErr}
 use Rattle.std.proofs.lemmas.List.{append-nil}
 use Rattle.mos_text.specs.declared.kind.Kind.{Kind}
 use Rattle.mos_text.specs.declared.kind.Kind.TheVariants as kind
 use Rattle.mos_tree.specs.declared.source.Tree.{Tree}
+use Rattle.mos_tree.specs.Sizes.{size_of_tree, size_of_pieces}
 use Rattle.mos_source.specs.declared.fault.PieceFault.{PieceFault}
 use Rattle.mos_source.specs.declared.fault.PieceFault.TheVariants as fault
-use Rattle.mos_form.specs.declared.form.Form.{Form}
-use Rattle.mos_form.specs.declared.form.PieceForm.{PieceForm}
+use Rattle.mos_tree.specs.declared.form.Form.{Form}
+use Rattle.mos_tree.specs.declared.form.PieceForm.{PieceForm}
 use Rattle.mos_source.specs.declared.frame.Frame.TheVariants as g
 use Rattle.mos_source.specs.declared.place.Role.{Role}
-use Rattle.mos_source.specs.declared.place.Role.TheVariants.{Opens, GoesOn, Stands, Closes}
+use Rattle.mos_source.specs.declared.place.Role.TheVariants.{Opens, Continues, StandsAlone, Closes}
 use Rattle.mos_source.specs.Sources.{Source, spell_source, tree_of, limit, IsWithin, IsSource}
-use Rattle.mos_source.specs.Faults.{Begins, IsStuck, IsKind, too_early, FaultyAt}
-use Rattle.mos_form.specs.Forms.{mould_of}
+use Rattle.mos_source.specs.Faults.{Begins, IsStuck, IsKind, too_early, line_of_first, FaultyOn}
+use Rattle.mos_tree.specs.Forms.{piece_kind_of}
 use Rattle.mos_source.specs.Limits.{own_limit}
 use Rattle.mos_source.specs.Places.{role_at}
-use Rattle.mos_source.specs.Answers.{IsTree, Gives, IsFaultOf}
-use Rattle.mos_source.specs.Machine.{Stack, place_of, enter, block_limit, or_block, step_as, step_in, step, Outcome, done, stopped, finished, at_end, behind, run, Answers}
+use Rattle.mos_source.specs.Answers.{IsTree, Gives, IsFaultOf, BreaksBy}
+use Rattle.mos_source.specs.Laws.{ProductionsBreak}
+use Rattle.mos_source.specs.Productions.{BreaksAt}
+use Rattle.mos_source.specs.Machine.{Stack, place_of, enter, block_limit, or_block, step_as, step_in, step, Outcome, done, stopped, finished_tree, at_end, behind, run}
+use Rattle.mos_source.specs.Runs.{Answers}
 use Rattle.mos_source.proofs.Steps.{block-fits, run-step, one-end}
 use Rattle.mos_source.proofs.CompleteSource.{source-read}
 use Rattle.mos_source.proofs.Held.{Holds}
@@ -25,6 +31,7 @@ use Rattle.mos_source.proofs.Sound.{some_stack, respelled}
 use Rattle.mos_source.proofs.SoundStep.{sound, goes-is, no-limit, fits-is}
 use Rattle.mos_source.proofs.Completing.{Closed, closing}
 use Rattle.mos_source.proofs.Naming.{named-step}
+use Rattle.mos_source.proofs.TreeSizes.{size_of_source}
 
 -- ---- a whole run
 
@@ -34,7 +41,7 @@ pub record Found (deep : ℕ) (ps : List PieceForm) (tree : Tree) : Type 0 where
   pub exact : ps ≡ spell_source source
   pub is : tree ≡ tree_of source
 
-found-end : (deep : ℕ) (k : Stack) (ps : List PieceForm) (tree : Tree) → Holds deep k ps → at_end (finished k) ≡ done tree → Found deep ps tree
+found-end : (deep : ℕ) (k : Stack) (ps : List PieceForm) (tree : Tree) → Holds deep k ps → at_end (finished_tree k) ≡ done tree → Found deep ps tree
 found-end deep [] ps tree held e = let no : ⊥ = cc in absurd no
 found-end deep (g.End x ∷ k) ps tree held e =
     let same : x ≡ tree = cc in
@@ -64,8 +71,8 @@ step-deeper-as deep deeper Opens line form k next h e =
     let fits : length k ≤ deep = fits-is deep (length k) limits.1 in
     let room : block_limit deeper Opens (length k) ≡ None = block-fits deeper (length k) (omega (arith, fits, h)) in
     rw (limits.0, room, is.1) refl
-step-deeper-as deep deeper GoesOn line form k next h e = e
-step-deeper-as deep deeper Stands line form k next h e = e
+step-deeper-as deep deeper Continues line form k next h e = e
+step-deeper-as deep deeper StandsAlone line form k next h e = e
 step-deeper-as deep deeper Closes line form k next h e = e
 
 deeper-in : (deep deeper : ℕ) (role : Option Role) (line : ℕ) (form : Form) (k next : Stack) → deep ≤ deeper → step_in deep role line form k ≡ Ok next → step_in deeper role line form k ≡ Ok next
@@ -74,11 +81,11 @@ deeper-in deep deeper (Some role) line form k next h e = step-deeper-as deep dee
 
 pub step-deeper : (deep deeper : ℕ) (k : Stack) (x : PieceForm) (next : Stack) → deep ≤ deeper → step deep k x ≡ Ok next → step deeper k x ≡ Ok next
 unfolding step
-step-deeper deep deeper k x next h e = deeper-in deep deeper (role_at (place_of k) (mould_of x.form)) x.line x.form k next h e
+step-deeper deep deeper k x next h e = deeper-in deep deeper (role_at (place_of k) (piece_kind_of x.form)) x.line x.form k next h e
 
 -- what is wrong behind the last piece that was taken
 abbrev pub IsWrong : ℕ → Stack → List PieceForm → Kind → Type 0
-IsWrong deep top [] wrong = (finished top ≡ None) × (wrong ≡ kind.Syntax)
+IsWrong deep top [] wrong = (finished_tree top ≡ None) × (wrong ≡ kind.Syntax)
 IsWrong deep top (x ∷ after) wrong = step deep top x ≡ Err wrong
 
 pub record Stop (deep : ℕ) (k : Stack) (ps xs : List PieceForm) (wrong : Kind) (left : List PieceForm) : Type 0 where
@@ -98,7 +105,7 @@ HeldDeep deep k ps = (deeper : ℕ) → deep ≤ deeper → Holds deeper k ps
 as-stop : (deep : ℕ) (k : Stack) (ps xs : List PieceForm) (a b : Kind) (left other : List PieceForm) → a ≡ b → left ≡ other → Stop deep k ps xs a left → Stop deep k ps xs b other
 as-stop deep k ps xs a b left other e h it = subst (λ z. Stop deep k ps xs b z) h (subst (λ z. Stop deep k ps xs z left) e it)
 
-stop-end : (deep : ℕ) (k : Stack) (ps : List PieceForm) (wrong : Kind) (left : List PieceForm) (o : Option Tree) → finished k ≡ o → HeldDeep deep k ps → at_end o ≡ stopped wrong left → Stop deep k ps [] wrong left
+stop-end : (deep : ℕ) (k : Stack) (ps : List PieceForm) (wrong : Kind) (left : List PieceForm) (o : Option Tree) → finished_tree k ≡ o → HeldDeep deep k ps → at_end o ≡ stopped wrong left → Stop deep k ps [] wrong left
 stop-end deep k ps wrong left None f held e =
     let same : kind.Syntax ≡ wrong = cc in
     let rest : no_pieces ≡ left = cc in
@@ -124,7 +131,7 @@ stop-behind deep k x xs ps wrong left (Err found) s held e go =
     (record { before = []; top = k; cut = refl; held = λ deeper h. respelled deeper k ps (ps ++ []) (sym (append-nil ps)) (held deeper h); goes = λ deeper h ys. refl; stuck = s })
 
 pub run-stopped : (deep : ℕ) (xs : List PieceForm) (k : Stack) (ps : List PieceForm) (wrong : Kind) (left : List PieceForm) → HeldDeep deep k ps → run deep k xs ≡ stopped wrong left → Stop deep k ps xs wrong left
-run-stopped deep [] k ps wrong left held e = stop-end deep k ps wrong left (finished k) refl held e
+run-stopped deep [] k ps wrong left held e = stop-end deep k ps wrong left (finished_tree k) refl held e
 run-stopped deep (x ∷ xs) k ps wrong left held e = stop-behind deep k x xs ps wrong left (step deep k x) refl held e (λ next qs h d. run-stopped deep xs next qs wrong left h d)
 
 named : (before : List PieceForm) (top : Stack) (left : List PieceForm) (wrong : Kind) → HeldDeep limit top before → ((deeper : ℕ) → limit ≤ deeper → (ys : List PieceForm) → run deeper [] (before ++ ys) ≡ run deeper top ys) → IsWrong limit top left wrong → IsKind before left wrong
@@ -139,7 +146,7 @@ begins before top held =
     let it : Closed limit before = closing limit (length top) top before (omega arith) held in
     record { source = it.held.source; within = it.held.within; rest = it.rest; exact = sym it.held.exact }
 
-run-wrong : (deep : ℕ) (k : Stack) (x : PieceForm) (xs : List PieceForm) (wrong : Kind) → step deep k x ≡ Err wrong → run deep k (x ∷ xs) ≡ stopped wrong (x ∷ xs)
+pub run-wrong : (deep : ℕ) (k : Stack) (x : PieceForm) (xs : List PieceForm) (wrong : Kind) → step deep k x ≡ Err wrong → run deep k (x ∷ xs) ≡ stopped wrong (x ∷ xs)
 run-wrong deep k x xs wrong e = rw e refl
 
 pub is-stuck : (before : List PieceForm) (top : Stack) (left : List PieceForm) (wrong : Kind) → ((ys : List PieceForm) → run limit [] (before ++ ys) ≡ run limit top ys) → IsWrong limit top left wrong → IsStuck before left
@@ -152,14 +159,14 @@ is-stuck before top (y ∷ ys) wrong goes stuck = λ other.
     let half : run limit [] (before ++ y ∷ other.rest) ≡ stopped wrong (y ∷ other.rest) = goes (y ∷ other.rest) ∙ run-wrong limit top y other.rest wrong stuck in
     cc
 
-pub faulty : (pieces : List PieceForm) (wrong : Kind) (left : List PieceForm) → run limit [] pieces ≡ stopped wrong left → FaultyAt pieces (length left) wrong
+pub faulty : (pieces : List PieceForm) (wrong : Kind) (left : List PieceForm) → run limit [] pieces ≡ stopped wrong left → FaultyOn pieces (line_of_first left) wrong
 faulty pieces wrong left e =
     let it : Stop limit [] [] pieces wrong left = run-stopped limit pieces [] [] wrong left (λ deeper h. refl) e in
     record {
       before = it.before;
       after = left;
       cut = it.cut;
-      there = refl;
+      line_is = refl;
       faulty = record {
         begun = begins it.before it.top (it.held limit (omega arith));
         stuck = is-stuck it.before it.top left wrong (it.goes limit (omega arith)) it.stuck;
@@ -182,7 +189,7 @@ is-found pieces result a = found-answer pieces (run limit [] pieces) result refl
 gives : (x : Source) (result : Result Tree PieceFault) → Answers (done (tree_of x)) result → Gives result (tree_of x)
 gives x (Ok y) a = a
 gives x (Err fault.NoMemory) a = tt
-gives x (Err (fault.At left wrong)) a = absurd a
+gives x (Err (fault.At line wrong)) a = absurd a
 
 pub is-only : (pieces : List PieceForm) (result : Result Tree PieceFault) → Answers (run limit [] pieces) result → (x : Source) → IsSource pieces x → Gives result (tree_of x)
 is-only pieces result a x is =
@@ -192,9 +199,27 @@ is-only pieces result a x is =
 faulty-answer : (pieces : List PieceForm) (o : Outcome) (result : Result Tree PieceFault) → run limit [] pieces ≡ o → Answers o result → IfErr result (IsFaultOf pieces)
 faulty-answer pieces o (Ok x) e a = tt
 faulty-answer pieces o (Err fault.NoMemory) e a = tt
-faulty-answer pieces (done tree) (Err (fault.At left wrong)) e a = absurd a
-faulty-answer pieces (stopped found rest) (Err (fault.At left wrong)) e a =
-    subst (λ z. FaultyAt pieces left z) (sym a.1) (subst (λ z. FaultyAt pieces z found) (sym a.0) (faulty pieces found rest e))
+faulty-answer pieces (done tree) (Err (fault.At line wrong)) e a = absurd a
+faulty-answer pieces (stopped found rest) (Err (fault.At line wrong)) e a =
+    subst (λ z. FaultyOn pieces line z) (sym a.1) (subst (λ z. FaultyOn pieces z found) (sym a.0) (faulty pieces found rest e))
 
 pub is-faulty : (pieces : List PieceForm) (result : Result Tree PieceFault) → Answers (run limit [] pieces) result → IfErr result (IsFaultOf pieces)
 is-faulty pieces result a = faulty-answer pieces (run limit [] pieces) result refl a
+
+breaks-answer : ProductionsBreak → (pieces : List PieceForm) (result : Result Tree PieceFault) → IfErr result (IsFaultOf pieces) → IfErr result (BreaksBy pieces)
+breaks-answer law pieces (Ok x) h = tt
+breaks-answer law pieces (Err fault.NoMemory) h = tt
+breaks-answer law pieces (Err (fault.At line wrong)) h =
+    record { before = h.before; after = h.after; cut = h.cut; line_is = h.line_is; faulty = h.faulty; breaks = subst (λ z. BreaksAt z h.after) (sym h.cut) (law h.before h.after h.faulty) }
+
+-- the faulty piece is the one at which the productions break
+pub is-break : ProductionsBreak → (pieces : List PieceForm) (result : Result Tree PieceFault) → Answers (run limit [] pieces) result → IfErr result (BreaksBy pieces)
+is-break law pieces result a = breaks-answer law pieces result (is-faulty pieces result a)
+
+no-larger : (pieces : List PieceForm) (result : Result Tree PieceFault) → IfOk result (IsTree pieces) → IfOk result (λ tree. size_of_tree tree ≤ size_of_pieces pieces)
+no-larger pieces (Ok tree) h = omega (arith, size_of_source h.0, ap size_of_tree h.2, ap size_of_pieces h.1.exact)
+no-larger pieces (Err x) h = tt
+
+-- the tree is no larger than its pieces
+pub is-no-larger : (pieces : List PieceForm) (result : Result Tree PieceFault) → Answers (run limit [] pieces) result → IfOk result (λ tree. size_of_tree tree ≤ size_of_pieces pieces)
+is-no-larger pieces result a = no-larger pieces result (is-found pieces result a)

@@ -1,11 +1,11 @@
 -- The faulty piece: behind the longest run of pieces with which some source begins. And its kind.
 
-use Rattle.std.specs.Prelude.{◌≡◌, ℕ, List, [], ◌∷◌, ◌++◌, length}
+use Rattle.std.specs.Prelude.{◌≡◌, ℕ, List, [], ◌∷◌, ◌++◌, Option, Some, None}
 use Rattle.mos_text.specs.declared.kind.Kind.{Kind}
 use Rattle.mos_text.specs.declared.kind.Kind.TheVariants as k
-use Rattle.mos_form.specs.declared.form.Mould.{Mould}
-use Rattle.mos_form.specs.declared.form.PieceForm.{PieceForm}
-use Rattle.mos_form.specs.Forms.{mould_of}
+use Rattle.mos_tree.specs.declared.form.PieceKind.{PieceKind}
+use Rattle.mos_tree.specs.declared.form.PieceForm.{PieceForm}
+use Rattle.mos_tree.specs.Forms.{piece_kind_of}
 use Rattle.mos_source.specs.Limits.{broken}
 use Rattle.mos_source.specs.Sources.{Source, spell_source, IsWithin, limit}
 
@@ -26,10 +26,10 @@ pub record IsFaulty (before after : List PieceForm) : Type 0 where
   pub begun : Begins before
   pub stuck : IsStuck before after
 
--- another piece of this mould could stand behind these, however deep the blocks
-pub record CouldStand (before : List PieceForm) (mould : Mould) : Type 0 where
+-- another piece of this kind could stand behind these, however deep the blocks
+pub record CouldStand (before : List PieceForm) (piece_kind : PieceKind) : Type 0 where
   pub other : PieceForm
-  pub alike : mould_of other.form ≡ mould
+  pub alike : piece_kind_of other.form ≡ piece_kind
   pub source : Source
   pub deep : ℕ
   pub within : IsWithin deep source
@@ -39,14 +39,19 @@ pub record CouldStand (before : List PieceForm) (mould : Mould) : Type 0 where
 -- the kind of the fault: the limit that the piece breaks where it could stand but for this limit
 pub data IsKind (before : List PieceForm) : List PieceForm → Kind → Type 0 where
   too_early : IsKind before [] k.Syntax
-  beyond : (x : PieceForm) (after : List PieceForm) → CouldStand before (mould_of x.form) → IsKind before (x ∷ after) (broken x.form)
-  misplaced : (x : PieceForm) (after : List PieceForm) → (CouldStand before (mould_of x.form) → ⊥) → IsKind before (x ∷ after) k.Syntax
+  beyond : (x : PieceForm) (after : List PieceForm) → CouldStand before (piece_kind_of x.form) → IsKind before (x ∷ after) (broken x.form)
+  misplaced : (x : PieceForm) (after : List PieceForm) → (CouldStand before (piece_kind_of x.form) → ⊥) → IsKind before (x ∷ after) k.Syntax
 
--- the pieces are faulty with so many of them left, by this kind
-pub record FaultyAt (pieces : List PieceForm) (left : ℕ) (kind : Kind) : Type 0 where
+-- the line of the first of these pieces; where there is none, there is no line
+abbrev pub line_of_first : List PieceForm → Option ℕ
+line_of_first [] = None
+line_of_first (x ∷ after) = Some x.line
+
+-- the faulty one of these pieces is on this line, and its fault of this kind
+pub record FaultyOn (pieces : List PieceForm) (line : Option ℕ) (kind : Kind) : Type 0 where
   pub before : List PieceForm
   pub after : List PieceForm
   pub cut : pieces ≡ before ++ after
-  pub there : length after ≡ left
+  pub line_is : line ≡ line_of_first after
   pub faulty : IsFaulty before after
   pub named : IsKind before after kind

@@ -1,11 +1,9 @@
 -- Laws of sources and faulty pieces.
 
 use Rattle.std.specs.Prelude.{◌≡◌, ◌⊎◌, ℕ, true, List, [], ◌++◌}
-use Rattle.mos_form.specs.declared.form.Mould.{Mould}
-use Rattle.mos_form.specs.declared.form.PieceForm.{PieceForm}
-use Rattle.mos_tree.specs.Texts.{texts_of_tree}
-use Rattle.mos_form.specs.Texts.{texts_of_pieces}
-use Rattle.mos_source.specs.Sources.{Source, IsSource, spell_source, tree_of}
+use Rattle.mos_tree.specs.declared.form.PieceKind.{PieceKind}
+use Rattle.mos_tree.specs.declared.form.PieceForm.{PieceForm}
+use Rattle.mos_source.specs.Sources.{Source, IsSource, tree_of}
 use Rattle.mos_source.specs.Faults.{IsFaulty}
 use Rattle.mos_source.specs.Productions.{Rule, source, statement_is, differ, Reading, took, Reads, BreaksAt}
 
@@ -29,10 +27,6 @@ HasFault pieces = (before : List PieceForm) × (after : List PieceForm) × (piec
 abbrev pub HaveOneOfBoth : Type 0
 HaveOneOfBoth = (pieces : List PieceForm) → ((x : Source) × IsSource pieces x) ⊎ HasFault pieces
 
--- the names and texts of a tree are those of its pieces, in order
-abbrev pub TreesHaveTheirTexts : Type 0
-TreesHaveTheirTexts = (x : Source) → texts_of_tree (tree_of x) ≡ texts_of_pieces (spell_source x)
-
 -- the productions break at the faulty piece alone
 abbrev pub ProductionsBreakThere : Type 0
 ProductionsBreakThere = (before after : List PieceForm) → BreaksAt (before ++ after) after → IsFaulty before after
@@ -43,7 +37,7 @@ ProductionsBreak = (before after : List PieceForm) → IsFaulty before after →
 
 -- the alternatives of the grammar differ in the forms of their first pieces
 abbrev pub AlternativesDiffer : Type 0
-AlternativesDiffer = (x : Mould) → (differ source x ≡ true) × (differ statement_is x ≡ true)
+AlternativesDiffer = (x : PieceKind) → (differ source x ≡ true) × (differ statement_is x ≡ true)
 
 -- a production reads pieces in one way
 abbrev pub ProductionsReadOneWay : Type 0

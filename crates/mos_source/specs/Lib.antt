@@ -5,5 +5,6 @@ pub mod Limits
 pub mod Machine
 pub mod Places
 pub mod Productions
+pub mod Runs
 pub mod Sources
 pub mod Statements

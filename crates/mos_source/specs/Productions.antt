@@ -1,10 +1,10 @@
 -- The grammar of a source over the forms of its pieces, and the first piece that a production cannot take.
 
 use Rattle.std.specs.Prelude.{◌≡◌, ◌≢◌, ℕ, suc, Bool, true, false, ◌||◌, ◌&&◌, not, nat_eq, nat_le, if◌then◌else◌, ◌⊎◌, List, [], ◌∷◌, is_some}
-use Rattle.mos_form.specs.declared.form.Mould.{Mould}
-use Rattle.mos_form.specs.declared.form.Mould.TheVariants as m
-use Rattle.mos_form.specs.declared.form.PieceForm.{PieceForm}
-use Rattle.mos_form.specs.Forms.{mould_of}
+use Rattle.mos_tree.specs.declared.form.PieceKind.{PieceKind}
+use Rattle.mos_tree.specs.declared.form.PieceKind.TheVariants as m
+use Rattle.mos_tree.specs.declared.form.PieceForm.{PieceForm}
+use Rattle.mos_tree.specs.Forms.{piece_kind_of}
 use Rattle.mos_source.specs.Limits.{own_limit}
 use Rattle.mos_source.specs.Sources.{limit}
 
@@ -14,8 +14,8 @@ infixr 20 ◌or◌
 
 -- parts of a production: `a ~ b` is a sequence, `a or b` a choice
 pub data Rule : Type 0 where
-  one : Mould → Rule  -- one piece of this form
-  block : Mould → Rule → Rule  -- a piece that opens a block, and what stands behind it in the block
+  one : PieceKind → Rule  -- one piece of this form
+  block : PieceKind → Rule → Rule  -- a piece that opens a block, and what stands behind it in the block
   ◌~◌ : Rule → Rule → Rule
   ◌or◌ : Rule → Rule → Rule
   optional : Rule → Rule
@@ -34,6 +34,7 @@ parameters_block = many (one m.Definition) ~ one m.EndParameters
 abbrev pub record_block : Rule
 record_block = many (one m.Typed) ~ one m.EndRecord
 
+-- in `declarations`
 abbrev pub item : Rule
 item = one m.Definition or one m.Typed or block m.RecordOf record_block
 
@@ -41,6 +42,7 @@ item = one m.Definition or one m.Typed or block m.RecordOf record_block
 abbrev pub declarations_block : Rule
 declarations_block = many item ~ one m.EndDeclarations
 
+-- a block of `declarations`
 abbrev pub declarations : Rule
 declarations = block m.Declarations declarations_block
 
@@ -52,9 +54,11 @@ procedure_block = many (declarations or statement) ~ one m.EndProcedure
 abbrev pub function_block : Rule
 function_block = many (declarations or statement) ~ one m.EndFunction
 
+-- a procedure or a function
 abbrev pub routine : Rule
 routine = block m.Procedure procedure_block or block m.Function function_block
 
+-- what stands in a model behind its heads
 abbrev pub top : Rule
 top = block m.Parameters parameters_block or declarations or routine or one m.Forward or statement
 
@@ -66,9 +70,11 @@ tops = many top ~ one m.EndModel
 abbrev pub heads : Rule
 heads = many head ~ tops
 
+-- a whole source
 abbrev pub source : Rule
 source = one m.Model ~ heads
 
+-- `else` with what stands under it
 abbrev pub otherwise : Rule
 otherwise = one m.Else ~ many statement
 
@@ -102,7 +108,7 @@ statement_is =
 -- ---- forms
 
 -- each form has a number of its own
-abbrev pub number_of : Mould → ℕ
+abbrev pub number_of : PieceKind → ℕ
 number_of m.Unknown = 0
 number_of m.Model = 1
 number_of m.Uses = 2
@@ -140,11 +146,12 @@ number_of m.Initializations = 33
 number_of m.Labels = 34
 number_of m.EndInitializations = 35
 
-abbrev pub same : Mould → Mould → Bool
+-- one form twice
+abbrev pub same : PieceKind → PieceKind → Bool
 same a b = nat_eq (number_of a) (number_of b)
 
 -- the pieces that open a block
-abbrev pub opens_block : Mould → Bool
+abbrev pub opens_block : PieceKind → Bool
 opens_block m.Parameters = true
 opens_block m.Declarations = true
 opens_block m.RecordOf = true
@@ -161,20 +168,20 @@ opens_block _ = false
 
 -- whether a piece inside so many open blocks breaks a limit
 abbrev pub breaks_limit : ℕ → PieceForm → Bool
-breaks_limit depth x = is_some (own_limit x.form) || (opens_block (mould_of x.form) && nat_le limit depth)
+breaks_limit depth x = is_some (own_limit x.form) || (opens_block (piece_kind_of x.form) && nat_le limit depth)
 
 -- the form that counts inside so many open blocks: a piece that breaks a limit has none
-unfoldable pub form_at : ℕ → PieceForm → Mould
-form_at depth x = if breaks_limit depth x then m.Unknown else mould_of x.form
+unfoldable pub form_at : ℕ → PieceForm → PieceKind
+form_at depth x = if breaks_limit depth x then m.Unknown else piece_kind_of x.form
 
 -- the form of the first piece; where there is no piece, there is no form
-abbrev pub front : ℕ → List PieceForm → Mould
+abbrev pub front : ℕ → List PieceForm → PieceKind
 front depth [] = m.Unknown
 front depth (x ∷ xs) = form_at depth x
 
 -- whether a part begins with a piece of this form, where it is known of statements (`named`). No part
 -- that is chosen or entered begins with one that may be missing
-abbrev pub begins_if : Bool → Rule → Mould → Bool
+abbrev pub begins_if : Bool → Rule → PieceKind → Bool
 begins_if named (one form) x = same form x
 begins_if named (block form rest) x = same form x
 begins_if named (a ~ b) x = begins_if named a x
@@ -184,11 +191,11 @@ begins_if named (many a) x = begins_if named a x
 begins_if named statement x = named
 
 -- whether a part begins with a piece of this form; no form of statement begins with a statement
-abbrev pub begins : Rule → Mould → Bool
+abbrev pub begins : Rule → PieceKind → Bool
 begins rule x = begins_if (begins_if false statement_is x) rule x
 
 -- whether of the alternatives of each choice in a part at most one begins with a piece of this form
-abbrev pub differ : Rule → Mould → Bool
+abbrev pub differ : Rule → PieceKind → Bool
 differ (block form rest) x = differ rest x
 differ (a ~ b) x = differ a x && differ b x
 differ (a or b) x = not (begins a x && begins b x) && (differ a x && differ b x)
@@ -206,11 +213,11 @@ pub data Reading : Type 0 where
 -- so a production that stands inside `depth` open blocks reads pieces
 pub data Reads : Rule → ℕ → List PieceForm → Reading → Type 0 where
   -- one piece is taken where it has its form, and breaks where it is not there or has another form
-  takes : (form : Mould) (depth : ℕ) (x : PieceForm) (xs : List PieceForm) → same form (form_at depth x) ≡ true → Reads (one form) depth (x ∷ xs) (took xs)
-  breaks : (form : Mould) (depth : ℕ) (pieces : List PieceForm) → same form (front depth pieces) ≡ false → Reads (one form) depth pieces (broke pieces)
+  takes : (form : PieceKind) (depth : ℕ) (x : PieceForm) (xs : List PieceForm) → same form (form_at depth x) ≡ true → Reads (one form) depth (x ∷ xs) (took xs)
+  breaks : (form : PieceKind) (depth : ℕ) (pieces : List PieceForm) → same form (front depth pieces) ≡ false → Reads (one form) depth pieces (broke pieces)
   -- behind the piece that opens a block the depth is one more
-  opens : (form : Mould) (rest : Rule) (depth : ℕ) (x : PieceForm) (xs : List PieceForm) (end : Reading) → same form (form_at depth x) ≡ true → Reads rest (suc depth) xs end → Reads (block form rest) depth (x ∷ xs) end
-  opens_not : (form : Mould) (rest : Rule) (depth : ℕ) (pieces : List PieceForm) → same form (front depth pieces) ≡ false → Reads (block form rest) depth pieces (broke pieces)
+  opens : (form : PieceKind) (rest : Rule) (depth : ℕ) (x : PieceForm) (xs : List PieceForm) (end : Reading) → same form (form_at depth x) ≡ true → Reads rest (suc depth) xs end → Reads (block form rest) depth (x ∷ xs) end
+  opens_not : (form : PieceKind) (rest : Rule) (depth : ℕ) (pieces : List PieceForm) → same form (front depth pieces) ≡ false → Reads (block form rest) depth pieces (broke pieces)
   -- a sequence breaks where its first part does
   breaks_first : (a b : Rule) (depth : ℕ) (pieces left : List PieceForm) → Reads a depth pieces (broke left) → Reads (a ~ b) depth pieces (broke left)
   -- a sequence whose first part takes pieces reads on behind these

@@ -19,11 +19,11 @@ use Rattle.mos_tree.specs.declared.source.RoutinePart.TheVariants as r
 use Rattle.mos_tree.specs.declared.source.Top.{Top}
 use Rattle.mos_tree.specs.declared.source.Top.TheVariants as t
 use Rattle.mos_tree.specs.declared.source.Tree.{Tree}
-use Rattle.mos_form.specs.declared.form.Form.{Form}
-use Rattle.mos_form.specs.declared.form.Form.TheVariants as f
-use Rattle.mos_form.specs.declared.form.Keyword.TheVariants as keyword
-use Rattle.mos_form.specs.declared.form.PieceForm.{PieceForm}
-use Rattle.mos_form.specs.Forms.{piece}
+use Rattle.mos_tree.specs.declared.form.Form.{Form}
+use Rattle.mos_tree.specs.declared.form.Form.TheVariants as f
+use Rattle.mos_tree.specs.declared.form.Keyword.TheVariants as keyword
+use Rattle.mos_tree.specs.declared.form.PieceForm.{PieceForm}
+use Rattle.mos_tree.specs.Forms.{piece}
 use Rattle.mos_source.specs.Statements.{Written, spell, depth, tree}
 
 -- items of `declarations`, the last one last
@@ -58,33 +58,41 @@ pub record Source : Type 0 where
 
 -- ---- pieces
 
+-- the piece of a parameter
 abbrev pub spell_parameter : Parameter → PieceForm
 spell_parameter x = piece x.line (f.Definition x.name x.default)
 
+-- the piece of fields of one type
 abbrev pub spell_field : FieldGroup → PieceForm
 spell_field x = piece x.line (f.Typed x.names x.typ)
 
+-- the pieces of items
 abbrev pub spell_items : Items → List PieceForm
 spell_items no_item = []
 spell_items (constant xs line name value) = spell_items xs ++ piece line (f.Definition name value) ∷ []
 spell_items (variables xs line names typ) = spell_items xs ++ piece line (f.Typed names typ) ∷ []
 spell_items (record_type xs line name fields end) = spell_items xs ++ piece line (f.RecordOf name) ∷ (map spell_field fields ++ piece end (f.Keyword keyword.EndRecord) ∷ [])
 
+-- the pieces of a block of `declarations`
 abbrev pub spell_declarations : ℕ → Items → ℕ → List PieceForm
 spell_declarations line items end = piece line (f.Keyword keyword.Declarations) ∷ (spell_items items ++ piece end (f.Keyword keyword.EndDeclarations) ∷ [])
 
+-- the pieces of what stands in a routine
 abbrev pub spell_parts : Parts → List PieceForm
 spell_parts no_part = []
 spell_parts (declares xs line items end) = spell_parts xs ++ spell_declarations line items end
 spell_parts (states xs w) = spell_parts xs ++ spell w
 
+-- the form of the piece that heads a routine
 abbrev pub heading_form : Heading → Form
 heading_form x = f.Routine x.name x.formals x.result
 
+-- the form of the piece that ends one
 abbrev pub end_form : Option BaseType → Form
 end_form None = (f.Keyword keyword.EndProcedure)
 end_form (Some typ) = (f.Keyword keyword.EndFunction)
 
+-- the pieces of what stands in a model behind its heads
 abbrev pub spell_tops : Tops → List PieceForm
 spell_tops no_top = []
 spell_tops (sets xs line parameters end) = spell_tops xs ++ piece line (f.Keyword keyword.Parameters) ∷ (map spell_parameter parameters ++ piece end (f.Keyword keyword.EndParameters) ∷ [])
@@ -101,10 +109,12 @@ no_implicit = codes "noimplicit"
 abbrev pub jobs_module : List ℕ
 jobs_module = codes "mmjobs"
 
+-- the piece of a head
 abbrev pub spell_head : Head → PieceForm
 spell_head (h.Uses line modules) = piece line (f.Uses modules)
 spell_head (h.NoImplicit line) = piece line (f.Options no_implicit)
 
+-- the pieces of a source
 abbrev pub spell_source : Source → List PieceForm
 spell_source x = piece x.line (f.Model x.name) ∷ (map spell_head x.heads ++ (spell_tops x.tops ++ piece x.end (f.Keyword keyword.EndModel) ∷ []))
 
@@ -117,6 +127,7 @@ depth_items (constant xs line name value) = depth_items xs
 depth_items (variables xs line names typ) = depth_items xs
 depth_items (record_type xs line name fields end) = max (depth_items xs) 1
 
+-- how deep the blocks of a routine go
 abbrev pub depth_parts : Parts → ℕ
 depth_parts no_part = 0
 depth_parts (declares xs line items end) = max (depth_parts xs) (1 + depth_items items)
@@ -136,38 +147,45 @@ abbrev pub AreModules : List (List ℕ) → Type 0
 AreModules [] = Unit {0}
 AreModules (x ∷ xs) = (x ≡ jobs_module) × AreModules xs
 
+-- the head names the one module alone
 abbrev pub IsAllowed : Head → Type 0
 IsAllowed (h.Uses line modules) = AreModules modules
 IsAllowed (h.NoImplicit line) = Unit {0}
 
+-- each head does
 abbrev pub AreAllowed : List Head → Type 0
 AreAllowed [] = Unit {0}
 AreAllowed (x ∷ xs) = IsAllowed x × AreAllowed xs
 
 -- ---- trees
 
+-- the items of `declarations`
 abbrev pub items_of : Items → List Item
 items_of no_item = []
 items_of (constant xs line name value) = items_of xs ++ i.Constant line name value ∷ []
 items_of (variables xs line names typ) = items_of xs ++ i.Variables line names typ ∷ []
 items_of (record_type xs line name fields end) = items_of xs ++ i.Record line name fields ∷ []
 
-abbrev pub declared : ℕ → Items → Declared
-declared line items = record { line = line; items = items_of items }
+-- a block of `declarations`
+abbrev pub declaration_block : ℕ → Items → Declared
+declaration_block line items = record { line = line; items = items_of items }
 
+-- the parts of a routine
 abbrev pub parts_of : Parts → List RoutinePart
 parts_of no_part = []
-parts_of (declares xs line items end) = parts_of xs ++ r.Declarations (declared line items) ∷ []
+parts_of (declares xs line items end) = parts_of xs ++ r.Declarations (declaration_block line items) ∷ []
 parts_of (states xs w) = parts_of xs ++ r.Statement (tree w) ∷ []
 
+-- the parts of a model
 abbrev pub tops_of : Tops → List Top
 tops_of no_top = []
 tops_of (sets xs line parameters end) = tops_of xs ++ t.Parameters line parameters ∷ []
-tops_of (declares_top xs line items end) = tops_of xs ++ t.Declarations (declared line items) ∷ []
+tops_of (declares_top xs line items end) = tops_of xs ++ t.Declarations (declaration_block line items) ∷ []
 tops_of (defines xs heading parts end) = tops_of xs ++ t.Routine (record { heading = heading; parts = parts_of parts }) ∷ []
 tops_of (announces xs heading) = tops_of xs ++ t.Forward heading ∷ []
 tops_of (states_top xs w) = tops_of xs ++ t.Statement (tree w) ∷ []
 
+-- the tree of a source
 abbrev pub tree_of : Source → Tree
 tree_of x = record { line = x.line; name = x.name; heads = x.heads; tops = tops_of x.tops }
 

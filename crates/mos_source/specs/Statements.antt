@@ -11,14 +11,14 @@ use Rattle.mos_tree.specs.declared.statement.Alternative.{Alternative}
 use Rattle.mos_tree.specs.declared.statement.Label.{Label}
 use Rattle.mos_tree.specs.declared.statement.LabelGroup.{LabelGroup}
 use Rattle.mos_tree.specs.declared.statement.Direction.{Direction}
-use Rattle.mos_form.specs.declared.form.Form.TheVariants as f
-use Rattle.mos_form.specs.declared.form.Guard.TheVariants as guard
-use Rattle.mos_form.specs.declared.form.Keyword.TheVariants as keyword
-use Rattle.mos_form.specs.declared.form.Form.{Form}
-use Rattle.mos_form.specs.declared.form.Simple.{Simple}
-use Rattle.mos_form.specs.declared.form.Simple.TheVariants as simple
-use Rattle.mos_form.specs.declared.form.PieceForm.{PieceForm}
-use Rattle.mos_form.specs.Forms.{piece}
+use Rattle.mos_tree.specs.declared.form.Form.TheVariants as f
+use Rattle.mos_tree.specs.declared.form.ConditionKeyword.TheVariants as conditional
+use Rattle.mos_tree.specs.declared.form.Keyword.TheVariants as keyword
+use Rattle.mos_tree.specs.declared.form.Form.{Form}
+use Rattle.mos_tree.specs.declared.form.Simple.{Simple}
+use Rattle.mos_tree.specs.declared.form.Simple.TheVariants as simple
+use Rattle.mos_tree.specs.declared.form.PieceForm.{PieceForm}
+use Rattle.mos_tree.specs.Forms.{piece}
 
 -- rows of labels, the last one last; a name alone is a row of one label
 pub data Rows : Type 0 where
@@ -31,13 +31,13 @@ mutual
   pub data Written : Type 0 where
     single : ℕ → Simple → Written  -- a statement of one piece
     bare : ℕ → List ℕ → Written  -- a call by a name alone
-    conditional : Arms → ℕ → Expr → Block → Last → ℕ → Written  -- the arms, of which the last stands apart, and `else`
-    choice : ℕ → Expr → Alternatives → Last → ℕ → Written  -- `case`
-    over : ℕ → Index Expr → Written → Written  -- `forall`
-    as_long_as : ℕ → Expr → Written → Written  -- `while`
-    repeated : ℕ → Block → ℕ → Expr → Written  -- `repeat`, the line of `until` and its condition
-    grouped : ℕ → Block → ℕ → Written  -- `do`
-    data_block : ℕ → Direction → Expr → Rows → ℕ → Written  -- `initializations`
+    if_ : Arms → ℕ → Expr → Block → Last → ℕ → Written  -- the arms, of which the last stands apart, and `else`
+    case_ : ℕ → Expr → Alternatives → Last → ℕ → Written  -- `case`
+    forall_ : ℕ → Index Expr → Written → Written  -- `forall`
+    while_ : ℕ → Expr → Written → Written  -- `while`
+    repeat_ : ℕ → Block → ℕ → Expr → Written  -- `repeat`, the line of `until` and its condition
+    do_ : ℕ → Block → ℕ → Written  -- `do`
+    initializations : ℕ → Direction → Expr → Rows → ℕ → Written  -- `initializations`
 
   -- statements one after the other, the last one last
   pub data Block : Type 0 where
@@ -63,9 +63,10 @@ mutual
 
 -- the piece that begins an arm behind these arms
 abbrev pub arm_form : Arms → Expr → Form
-arm_form no_arm condition = f.Guarded guard.If condition
-arm_form (arm before line c b) condition = f.Guarded guard.Elif condition
+arm_form no_arm condition = f.Guarded conditional.If condition
+arm_form (arm before line c b) condition = f.Guarded conditional.Elif condition
 
+-- the pieces of rows
 abbrev pub spell_rows : Rows → List PieceForm
 spell_rows no_row = []
 spell_rows (named rows line name) = spell_rows rows ++ piece line (f.Bare name) ∷ []
@@ -76,26 +77,30 @@ abbrev mutual
   pub spell : Written → List PieceForm
   spell (single line x) = piece line (f.Simple x) ∷ []
   spell (bare line name) = piece line (f.Bare name) ∷ []
-  spell (conditional arms line condition b last end) = spell_arms arms ++ piece line (arm_form arms condition) ∷ (spell_block b ++ (spell_last last ++ piece end (f.Keyword keyword.EndIf) ∷ []))
-  spell (choice line value xs last end) = piece line (f.Guarded guard.Case value) ∷ (spell_alternatives xs ++ (spell_last last ++ piece end (f.Keyword keyword.EndCase) ∷ []))
-  spell (over line index body) = piece line (f.Forall index) ∷ spell body
-  spell (as_long_as line condition body) = piece line (f.Guarded guard.While condition) ∷ spell body
-  spell (repeated line b until condition) = piece line (f.Keyword keyword.Repeat) ∷ (spell_block b ++ piece until (f.Guarded guard.Until condition) ∷ [])
-  spell (grouped line b end) = piece line (f.Keyword keyword.Do) ∷ (spell_block b ++ piece end (f.Keyword keyword.EndDo) ∷ [])
-  spell (data_block line direction name rows end) = piece line (f.Initializations direction name) ∷ (spell_rows rows ++ piece end (f.Keyword keyword.EndInitializations) ∷ [])
+  spell (if_ arms line condition b last end) = spell_arms arms ++ piece line (arm_form arms condition) ∷ (spell_block b ++ (spell_last last ++ piece end (f.Keyword keyword.EndIf) ∷ []))
+  spell (case_ line value xs last end) = piece line (f.Guarded conditional.Case value) ∷ (spell_alternatives xs ++ (spell_last last ++ piece end (f.Keyword keyword.EndCase) ∷ []))
+  spell (forall_ line index body) = piece line (f.Forall index) ∷ spell body
+  spell (while_ line condition body) = piece line (f.Guarded conditional.While condition) ∷ spell body
+  spell (repeat_ line b until condition) = piece line (f.Keyword keyword.Repeat) ∷ (spell_block b ++ piece until (f.Guarded conditional.Until condition) ∷ [])
+  spell (do_ line b end) = piece line (f.Keyword keyword.Do) ∷ (spell_block b ++ piece end (f.Keyword keyword.EndDo) ∷ [])
+  spell (initializations line direction name rows end) = piece line (f.Initializations direction name) ∷ (spell_rows rows ++ piece end (f.Keyword keyword.EndInitializations) ∷ [])
 
+  -- the pieces of statements
   pub spell_block : Block → List PieceForm
   spell_block nothing = []
   spell_block (then_one b w) = spell_block b ++ spell w
 
+  -- the pieces of arms
   pub spell_arms : Arms → List PieceForm
   spell_arms no_arm = []
   spell_arms (arm before line condition b) = spell_arms before ++ piece line (arm_form before condition) ∷ spell_block b
 
+  -- the pieces of `else`
   pub spell_last : Last → List PieceForm
   spell_last without = []
   spell_last (otherwise line b) = piece line (f.Keyword keyword.Else) ∷ spell_block b
 
+  -- the pieces of alternatives
   pub spell_alternatives : Alternatives → List PieceForm
   spell_alternatives no_alternative = []
   spell_alternatives (alternative before line labels w) = spell_alternatives before ++ piece line (f.Alternative labels) ∷ spell w
@@ -107,26 +112,30 @@ abbrev mutual
   pub depth : Written → ℕ
   depth (single line x) = 0
   depth (bare line name) = 0
-  depth (conditional arms line condition b last end) = 1 + max (depth_arms arms) (max (depth_block b) (depth_last last))
-  depth (choice line value xs last end) = 1 + max (depth_alternatives xs) (depth_last last)
-  depth (over line index body) = 1 + depth body
-  depth (as_long_as line condition body) = 1 + depth body
-  depth (repeated line b until condition) = 1 + depth_block b
-  depth (grouped line b end) = 1 + depth_block b
-  depth (data_block line direction name rows end) = 1
+  depth (if_ arms line condition b last end) = 1 + max (depth_arms arms) (max (depth_block b) (depth_last last))
+  depth (case_ line value xs last end) = 1 + max (depth_alternatives xs) (depth_last last)
+  depth (forall_ line index body) = 1 + depth body
+  depth (while_ line condition body) = 1 + depth body
+  depth (repeat_ line b until condition) = 1 + depth_block b
+  depth (do_ line b end) = 1 + depth_block b
+  depth (initializations line direction name rows end) = 1
 
+  -- those of statements
   pub depth_block : Block → ℕ
   depth_block nothing = 0
   depth_block (then_one b w) = max (depth_block b) (depth w)
 
+  -- those of arms
   pub depth_arms : Arms → ℕ
   depth_arms no_arm = 0
   depth_arms (arm before line condition b) = max (depth_arms before) (depth_block b)
 
+  -- those of `else`
   pub depth_last : Last → ℕ
   depth_last without = 0
   depth_last (otherwise line b) = depth_block b
 
+  -- those of alternatives
   pub depth_alternatives : Alternatives → ℕ
   depth_alternatives no_alternative = 0
   depth_alternatives (alternative before line labels w) = max (depth_alternatives before) (depth w)
@@ -141,9 +150,11 @@ statement_of line (simple.Call name arguments) = s.Call line name arguments
 statement_of line simple.Break = s.Break line
 statement_of line simple.Next = s.Next line
 
+-- a label without a text
 abbrev pub label_of : List ℕ → Label
 label_of name = record { name = name; shown = None }
 
+-- the labels of rows
 abbrev pub label_groups : Rows → List LabelGroup
 label_groups no_row = []
 label_groups (named rows line name) = label_groups rows ++ record { line = line; labels = label_of name ∷ [] } ∷ []
@@ -154,9 +165,11 @@ abbrev pub first_line : Arms → ℕ → ℕ
 first_line no_arm line = line
 first_line (arm before l c b) line = first_line before l
 
+-- an arm of `if`
 abbrev pub arm_of : ℕ → Expr → List Statement → Arm Statement
 arm_of line condition body = record { line = line; condition = condition; body = body }
 
+-- an alternative of `case`
 abbrev pub alternative_of : ℕ → List Expr → Statement → Alternative Statement
 alternative_of line labels body = record { line = line; labels = labels; body = body }
 
@@ -165,26 +178,30 @@ abbrev mutual
   pub tree : Written → Statement
   tree (single line x) = statement_of line x
   tree (bare line name) = s.Call line name []
-  tree (conditional arms line condition b last end) = s.If (first_line arms line) (trees_of_arms arms ++ arm_of line condition (trees b) ∷ []) (trees_of_last last)
-  tree (choice line value xs last end) = s.Case line value (trees_of_alternatives xs) (trees_of_last last)
-  tree (over line index body) = s.Forall line index (tree body)
-  tree (as_long_as line condition body) = s.While line condition (tree body)
-  tree (repeated line b until condition) = s.Repeat line (trees b) until condition
-  tree (grouped line b end) = s.Do line (trees b)
-  tree (data_block line direction name rows end) = s.Initializations line direction name (label_groups rows)
+  tree (if_ arms line condition b last end) = s.If (first_line arms line) (trees_of_arms arms ++ arm_of line condition (trees b) ∷ []) (trees_of_last last)
+  tree (case_ line value xs last end) = s.Case line value (trees_of_alternatives xs) (trees_of_last last)
+  tree (forall_ line index body) = s.Forall line index (tree body)
+  tree (while_ line condition body) = s.While line condition (tree body)
+  tree (repeat_ line b until condition) = s.Repeat line (trees b) until condition
+  tree (do_ line b end) = s.Do line (trees b)
+  tree (initializations line direction name rows end) = s.Initializations line direction name (label_groups rows)
 
+  -- the trees of statements
   pub trees : Block → List Statement
   trees nothing = []
   trees (then_one b w) = trees b ++ tree w ∷ []
 
+  -- those of arms
   pub trees_of_arms : Arms → List (Arm Statement)
   trees_of_arms no_arm = []
   trees_of_arms (arm before line condition b) = trees_of_arms before ++ arm_of line condition (trees b) ∷ []
 
+  -- those under `else`
   pub trees_of_last : Last → List Statement
   trees_of_last without = []
   trees_of_last (otherwise line b) = trees b
 
+  -- those of alternatives
   pub trees_of_alternatives : Alternatives → List (Alternative Statement)
   trees_of_alternatives no_alternative = []
   trees_of_alternatives (alternative before line labels w) = trees_of_alternatives before ++ alternative_of line labels (tree w) ∷ []

@@ -1,10 +1,11 @@
+//! Why pieces have no tree.
 use mos_text::{Kind, NoMemory};
 
 /// Why pieces have no tree.
 #[derive(Debug, Drop)]
 pub enum PieceFault {
-    /// The faulty piece, by how many pieces are left from it on; 0 where the pieces end too early.
-    At { left: usize, kind: Kind },
+    /// The line of the faulty piece; none where the pieces end too early.
+    At { line: Option<u32>, kind: Kind },
     NoMemory,
 }
 

@@ -1,9 +1,10 @@
 //! Laws of sources, as contracts of calls that do nothing.
-ghost use Rattle.mos_source.specs.Laws.{HaveOneTree, HaveOneFault, HaveNotBoth, HaveOneOfBoth, TreesHaveTheirTexts};
-ghost use Rattle.mos_source.specs.Laws.{ProductionsReadOneWay, ProductionsTakeSources, ProductionsTakeNothingElse};
-ghost use Rattle.mos_source.specs.Laws.{AlternativesDiffer, ProductionsBreak, ProductionsBreakThere};
+ghost use Rattle.mos_source.specs.Laws.{HaveOneTree, HaveOneFault, HaveNotBoth, HaveOneOfBoth};
+ghost use Rattle.mos_source.specs.Laws.{AlternativesDiffer, ProductionsReadOneWay};
+ghost use Rattle.mos_source.specs.Laws.{ProductionsTakeSources, ProductionsTakeNothingElse};
+ghost use Rattle.mos_source.specs.Laws.{ProductionsBreak, ProductionsBreakThere};
 
-/// Pieces have at most one tree and at most one faulty piece, and always one of both and never both.
+/// Pieces have at most one tree and at most one faulty piece, always one of both and never both.
 pub fn pieces_are_read_one_way()
     ensures one_tree { HaveOneTree }
     ensures one_fault { HaveOneFault }
@@ -11,13 +12,8 @@ pub fn pieces_are_read_one_way()
     ensures one_of_both { HaveOneOfBoth }
 {}
 
-/// The names and texts of a tree are those of the pieces that spell it, in order.
-pub fn sources_have_their_texts()
-    ensures { TreesHaveTheirTexts }
-{}
-
-/// The productions of the grammar, each read with the number of blocks that are open, take the sources
-/// and nothing else, and the first piece that they cannot take is the faulty one.
+/// The productions of the grammar, each read with the number of blocks that are open, take the
+/// sources and nothing else, and the first piece that they cannot take is the faulty one.
 pub fn pieces_break_by_productions()
     ensures differ { AlternativesDiffer }
     ensures one_way { ProductionsReadOneWay }

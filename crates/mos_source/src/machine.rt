@@ -1,16 +1,17 @@
 //! The reader of pieces: a stack of the blocks that are open.
-ghost use Rattle.std.specs.Prelude.{◌≡◌, [], ◌∷◌, ◌<◌, ◌≤◌, length, reverse, true, IfOk, OnOk, MatchOption, Some, None};
+ghost use Rattle.std.specs.Prelude.{◌≡◌, [], ◌∷◌, ◌<◌, length, true, IfOk, OnOk, MatchOption};
 ghost use Rattle.mos_source.specs.Machine as spec;
 ghost use Rattle.mos_source.specs.Limits as limits;
-ghost use Rattle.mos_source.specs.Sources.{limit, jobs_module, no_implicit};
+ghost use Rattle.mos_source.specs.Sources.{limit};
 
-use crate::closing::{closed, looped, loops, with_part, with_statement};
-use crate::discard::refuse;
-use crate::frame::{Frame, Part, alone, gone_on, opened, place_of};
+use crate::adding::{is_loop, loop_with_body, with_part, with_statement};
+use crate::closing::closed_by;
+use crate::continuing::continued_by;
+use crate::frame::{Frame, Part, place_of};
+use crate::opening::{opened_by, stands_alone};
 use crate::place::{Role, role_at};
-use mos_form::{Form, PieceForm, mould_of};
-use mos_text::{Kind, NoMemory, Text};
-use mos_tree::{Statement, Tree};
+use mos_text::{Kind, NoMemory, SourceText, let_go};
+use mos_tree::{Form, PieceForm, Statement, Tree, piece_kind_of};
 use std::alloc::Global;
 
 /// Opens a block.
@@ -23,14 +24,17 @@ fn push(stack: &mut Vec<Frame>, frame: Frame) -> Result<(), NoMemory>
 
 /// Takes off the innermost block.
 fn pop(stack: &mut Vec<Frame>) -> Option<Frame>
-    ensures { MatchOption result ((spec.stack_of stack.old.items ≡ []) × (spec.stack_of stack.new.items ≡ [])) (λ frame. spec.stack_of stack.old.items ≡ frame ∷ spec.stack_of stack.new.items) }
+    ensures { MatchOption result
+        ((spec.stack_of stack.old.items ≡ []) × (spec.stack_of stack.new.items ≡ []))
+        (λ frame. spec.stack_of stack.old.items ≡ frame ∷ spec.stack_of stack.new.items) }
 {
     stack.pop()
 }
 
 /// Opens the block, if there is one.
-fn put(stack: &mut Vec<Frame>, frame: Option<Frame>) -> Result<bool, NoMemory>
-    ensures { IfOk result (λ done. spec.put frame (spec.stack_of stack.old.items) ≡ spec.kept done (spec.stack_of stack.new.items)) }
+fn push_frame(stack: &mut Vec<Frame>, frame: Option<Frame>) -> Result<bool, NoMemory>
+    ensures { IfOk result (λ done. spec.push_frame frame (spec.stack_of stack.old.items)
+        ≡ spec.kept_stack done (spec.stack_of stack.new.items)) }
 {
     match frame {
         Some(frame) => {
@@ -41,11 +45,12 @@ fn put(stack: &mut Vec<Frame>, frame: Option<Frame>) -> Result<bool, NoMemory>
     }
 }
 
-fn top_loops(stack: &[Frame]) -> bool
-    ensures { result ≡ spec.top_loops (spec.stack_of stack.now) }
+/// Whether one statement ends the innermost block.
+fn top_is_loop(stack: &[Frame]) -> bool
+    ensures { result ≡ spec.top_is_loop (spec.stack_of stack.now) }
 {
     match stack {
-        [.., frame] => loops(frame),
+        [.., frame] => is_loop(frame),
         [] => false,
     }
 }
@@ -56,15 +61,16 @@ fn give_statement(
     stack: &mut Vec<Frame>,
     statement: Statement,
 ) -> Result<bool, NoMemory>
-    ensures { IfOk result (λ done. spec.give_statement statement (spec.stack_of stack.old.items) ≡ spec.kept done (spec.stack_of stack.new.items)) }
+    ensures { IfOk result (λ done. spec.give_statement statement (spec.stack_of stack.old.items)
+        ≡ spec.kept_stack done (spec.stack_of stack.new.items)) }
 {
     match pop(stack) {
         Some(frame) => {
             let next = with_statement(alloc, frame, statement)?;
-            put(stack, next)
+            push_frame(stack, next)
         }
         None => {
-            refuse(statement);
+            let_go(statement);
             Ok(false)
         }
     }
@@ -76,14 +82,17 @@ fn end_loop(
     stack: &mut Vec<Frame>,
     statement: Statement,
 ) -> Result<Option<Statement>, NoMemory>
-    requires { spec.top_loops (spec.stack_of stack.old.items) ≡ true }
-    ensures value { IfOk result (λ outer. spec.add_statement statement (spec.stack_of stack.old.items) ≡ spec.add_next outer (spec.stack_of stack.new.items)) }
-    ensures lower { length (spec.stack_of stack.new.items) < length (spec.stack_of stack.old.items) }
+    requires { spec.top_is_loop (spec.stack_of stack.old.items) ≡ true }
+    ensures value { IfOk result (λ outer.
+        spec.add_statement statement (spec.stack_of stack.old.items)
+        ≡ spec.add_next outer (spec.stack_of stack.new.items)) }
+    ensures lower { length (spec.stack_of stack.new.items)
+        < length (spec.stack_of stack.old.items) }
 {
     match pop(stack) {
-        Some(frame) => looped(alloc, frame, statement),
+        Some(frame) => loop_with_body(alloc, frame, statement),
         None => {
-            refuse(statement);
+            let_go(statement);
             Ok(None)
         }
     }
@@ -95,10 +104,11 @@ fn add_statement(
     stack: &mut Vec<Frame>,
     statement: Statement,
 ) -> Result<bool, NoMemory>
-    ensures { IfOk result (λ done. spec.add_statement statement (spec.stack_of stack.old.items) ≡ spec.kept done (spec.stack_of stack.new.items)) }
+    ensures { IfOk result (λ done. spec.add_statement statement (spec.stack_of stack.old.items)
+        ≡ spec.kept_stack done (spec.stack_of stack.new.items)) }
 {
     let mut statement = statement;
-    while top_loops(stack) {
+    while top_is_loop(stack) {
         match end_loop(alloc, stack, statement)? {
             None => return Ok(false),
             Some(outer) => statement = outer,
@@ -109,7 +119,8 @@ fn add_statement(
 
 /// Ends the source.
 fn end(stack: &mut Vec<Frame>, tree: Tree) -> Result<bool, NoMemory>
-    ensures { IfOk result (λ done. spec.end tree (spec.stack_of stack.old.items) ≡ spec.kept done (spec.stack_of stack.new.items)) }
+    ensures { IfOk result (λ done. spec.end tree (spec.stack_of stack.old.items)
+        ≡ spec.kept_stack done (spec.stack_of stack.new.items)) }
 {
     match pop(stack) {
         None => {
@@ -117,8 +128,8 @@ fn end(stack: &mut Vec<Frame>, tree: Tree) -> Result<bool, NoMemory>
             Ok(true)
         }
         Some(frame) => {
-            refuse(tree);
-            refuse(frame);
+            let_go(tree);
+            let_go(frame);
             Ok(false)
         }
     }
@@ -126,15 +137,16 @@ fn end(stack: &mut Vec<Frame>, tree: Tree) -> Result<bool, NoMemory>
 
 /// Gives a part that is no statement to the innermost block.
 fn add_other(alloc: Global, stack: &mut Vec<Frame>, part: Part) -> Result<bool, NoMemory>
-    ensures { IfOk result (λ done. spec.add_other part (spec.stack_of stack.old.items) ≡ spec.kept done (spec.stack_of stack.new.items)) }
+    ensures { IfOk result (λ done. spec.add_other part (spec.stack_of stack.old.items)
+        ≡ spec.kept_stack done (spec.stack_of stack.new.items)) }
 {
     match pop(stack) {
         Some(frame) => {
             let next = with_part(alloc, frame, part)?;
-            put(stack, next)
+            push_frame(stack, next)
         }
         None => {
-            refuse(part);
+            let_go(part);
             Ok(false)
         }
     }
@@ -142,7 +154,8 @@ fn add_other(alloc: Global, stack: &mut Vec<Frame>, part: Part) -> Result<bool, 
 
 /// Gives the part, if there is one, to the innermost block.
 fn add(alloc: Global, stack: &mut Vec<Frame>, part: Option<Part>) -> Result<bool, NoMemory>
-    ensures { IfOk result (λ done. spec.add part (spec.stack_of stack.old.items) ≡ spec.kept done (spec.stack_of stack.new.items)) }
+    ensures { IfOk result (λ done. spec.add part (spec.stack_of stack.old.items)
+        ≡ spec.kept_stack done (spec.stack_of stack.new.items)) }
 {
     match part {
         None => Ok(false),
@@ -152,31 +165,38 @@ fn add(alloc: Global, stack: &mut Vec<Frame>, part: Option<Part>) -> Result<bool
     }
 }
 
-fn go_on(alloc: Global, stack: &mut Vec<Frame>, line: u32, form: Form) -> Result<bool, NoMemory>
-    ensures { IfOk result (λ done. spec.go_on line form (spec.stack_of stack.old.items) ≡ spec.kept done (spec.stack_of stack.new.items)) }
+fn continue_block(
+    alloc: Global,
+    stack: &mut Vec<Frame>,
+    line: u32,
+    form: Form,
+) -> Result<bool, NoMemory>
+    ensures { IfOk result (λ done. spec.continue_block line form (spec.stack_of stack.old.items)
+        ≡ spec.kept_stack done (spec.stack_of stack.new.items)) }
 {
     match pop(stack) {
         Some(frame) => {
-            let next = gone_on(alloc, line, form, frame)?;
-            put(stack, next)
+            let next = continued_by(alloc, line, form, frame)?;
+            push_frame(stack, next)
         }
         None => {
-            refuse(form);
+            let_go(form);
             Ok(false)
         }
     }
 }
 
 fn close(alloc: Global, stack: &mut Vec<Frame>, line: u32, form: Form) -> Result<bool, NoMemory>
-    ensures { IfOk result (λ done. spec.close line form (spec.stack_of stack.old.items) ≡ spec.kept done (spec.stack_of stack.new.items)) }
+    ensures { IfOk result (λ done. spec.close line form (spec.stack_of stack.old.items)
+        ≡ spec.kept_stack done (spec.stack_of stack.new.items)) }
 {
     match pop(stack) {
         Some(frame) => {
-            let part = closed(alloc, line, form, frame)?;
+            let part = closed_by(alloc, line, form, frame)?;
             add(alloc, stack, part)
         }
         None => {
-            refuse(form);
+            let_go(form);
             Ok(false)
         }
     }
@@ -190,55 +210,56 @@ fn enter(
     line: u32,
     form: Form,
 ) -> Result<bool, NoMemory>
-    ensures { IfOk result (λ done. spec.enter role line form (spec.stack_of stack.old.items) ≡ spec.kept done (spec.stack_of stack.new.items)) }
+    ensures { IfOk result (λ done. spec.enter role line form (spec.stack_of stack.old.items)
+        ≡ spec.kept_stack done (spec.stack_of stack.new.items)) }
 {
     match role {
         Role::Opens => {
-            let frame = opened(alloc, line, form);
-            put(stack, frame)
+            let frame = opened_by(alloc, line, form);
+            push_frame(stack, frame)
         }
-        Role::GoesOn => go_on(alloc, stack, line, form),
-        Role::Stands => {
-            let part = alone(alloc, line, form);
+        Role::Continues => continue_block(alloc, stack, line, form),
+        Role::StandsAlone => {
+            let part = stands_alone(alloc, line, form);
             add(alloc, stack, part)
         }
         Role::Closes => close(alloc, stack, line, form),
     }
 }
 
-fn is_jobs(name: &Text) -> bool
+fn is_jobs(name: &SourceText) -> bool
     ensures { result ≡ limits.is_jobs name.now }
 {
     name.as_bytes() == b"mmjobs".as_slice()
 }
 
-fn is_no_implicit(name: &Text) -> bool
+fn is_no_implicit(name: &SourceText) -> bool
     ensures { result ≡ limits.is_no_implicit name.now }
 {
     name.as_bytes() == b"noimplicit".as_slice()
 }
 
 /// The limit that another module breaks.
-fn module_limit(alloc: Global, modules: &[Text]) -> Result<Option<Kind>, NoMemory>
+fn module_limit(alloc: Global, modules: &[SourceText]) -> Result<Option<Kind>, NoMemory>
     ensures { IfOk result (λ kind. kind ≡ limits.module_limit modules.now) }
 {
     let mut rest = modules;
     while let [module, after @ ..] = rest {
         if !is_jobs(module) {
-            return Ok(Some(Kind::Module(module.copy(alloc)?)));
+            return Ok(Some(Kind::Module(module.text().copy(alloc)?)));
         }
         rest = after;
     }
     Ok(None)
 }
 
-fn option_limit(alloc: Global, name: &Text) -> Result<Option<Kind>, NoMemory>
+fn option_limit(alloc: Global, name: &SourceText) -> Result<Option<Kind>, NoMemory>
     ensures { IfOk result (λ kind. kind ≡ limits.option_limit name.now) }
 {
     if is_no_implicit(name) {
         return Ok(None);
     }
-    Ok(Some(Kind::Out(name.copy(alloc)?)))
+    Ok(Some(Kind::Out(name.text().copy(alloc)?)))
 }
 
 /// The limit that the piece breaks wherever it stands.
@@ -281,7 +302,9 @@ fn take(
     line: u32,
     form: Form,
 ) -> Result<Option<Kind>, NoMemory>
-    ensures { IfOk result (λ wrong. spec.or_syntax (spec.enter role line form (spec.stack_of stack.old.items)) ≡ spec.outcome wrong (spec.stack_of stack.new.items)) }
+    ensures { IfOk result (λ wrong.
+        spec.or_syntax (spec.enter role line form (spec.stack_of stack.old.items))
+        ≡ spec.outcome wrong (spec.stack_of stack.new.items)) }
 {
     if enter(alloc, stack, role, line, form)? {
         Ok(None)
@@ -299,11 +322,13 @@ fn take_unless(
     line: u32,
     form: Form,
 ) -> Result<Option<Kind>, NoMemory>
-    ensures { IfOk result (λ wrong. spec.unless found (spec.enter role line form (spec.stack_of stack.old.items)) ≡ spec.outcome wrong (spec.stack_of stack.new.items)) }
+    ensures { IfOk result (λ wrong.
+        spec.unless found (spec.enter role line form (spec.stack_of stack.old.items))
+        ≡ spec.outcome wrong (spec.stack_of stack.new.items)) }
 {
     match found {
         Some(kind) => {
-            refuse(form);
+            let_go(form);
             Ok(Some(kind))
         }
         None => take(alloc, stack, role, line, form),
@@ -319,12 +344,14 @@ fn step_as(
     line: u32,
     form: Form,
 ) -> Result<Option<Kind>, NoMemory>
-    ensures { IfOk result (λ wrong. spec.step_as limit role line form (spec.stack_of stack.old.items) ≡ spec.outcome wrong (spec.stack_of stack.new.items)) }
+    ensures { IfOk result (λ wrong.
+        spec.step_as limit role line form (spec.stack_of stack.old.items)
+        ≡ spec.outcome wrong (spec.stack_of stack.new.items)) }
 {
     match broken(alloc, role, stack.len(), &form) {
         Ok(kind) => take_unless(alloc, stack, kind, role, line, form),
         Err(refused) => {
-            refuse(form);
+            let_go(form);
             Err(refused)
         }
     }
@@ -337,26 +364,27 @@ pub(crate) fn step(
     stack: &mut Vec<Frame>,
     piece: PieceForm,
 ) -> Result<Option<Kind>, NoMemory>
-    ensures { IfOk result (λ wrong. spec.step limit (spec.stack_of stack.old.items) piece ≡ spec.outcome wrong (spec.stack_of stack.new.items)) }
+    ensures { IfOk result (λ wrong. spec.step limit (spec.stack_of stack.old.items) piece
+        ≡ spec.outcome wrong (spec.stack_of stack.new.items)) }
 {
     let PieceForm { line, form } = piece;
-    match role_at(place_of(stack), mould_of(&form)) {
+    match role_at(place_of(stack), piece_kind_of(&form)) {
         Some(role) => step_as(alloc, stack, role, line, form),
         None => {
-            refuse(form);
+            let_go(form);
             Ok(Some(Kind::Syntax))
         }
     }
 }
 
 /// The tree, where the stack is that of a whole source.
-pub(crate) fn finished(stack: &mut Vec<Frame>) -> Option<Tree>
-    ensures { result ≡ spec.finished (spec.stack_of stack.old.items) }
+pub(crate) fn finished_tree(stack: &mut Vec<Frame>) -> Option<Tree>
+    ensures { result ≡ spec.finished_tree (spec.stack_of stack.old.items) }
 {
     match pop(stack) {
         Some(Frame::End(tree)) => Some(tree),
         Some(other) => {
-            refuse(other);
+            let_go(other);
             None
         }
         None => None,

@@ -2,7 +2,7 @@
 ghost use Rattle.std.specs.Prelude.{◌≡◌};
 ghost use Rattle.mos_source.specs.Places as spec;
 
-use mos_form::Mould;
+use mos_tree::PieceKind;
 
 /// Where a piece stands: behind what is read, in the innermost block that is open.
 #[derive(Clone, Copy, Debug, PartialEq, Eq)]
@@ -19,22 +19,22 @@ pub(crate) enum Place {
     Procedure,
     Function,
     /// Under `if` or `elif`.
-    Arm,
+    IfArm,
     /// Under the `else` of an `if`.
-    Otherwise,
+    IfElse,
     /// Between the alternatives of a `case`.
-    Choice,
+    Case,
     /// Behind the labels of an alternative.
-    Chosen,
+    CaseArm,
     /// Under the `else` of a `case`.
-    ChoiceOtherwise,
+    CaseElse,
     /// Behind a `forall` or `while`.
-    Looped,
-    Repeated,
+    LoopBody,
+    Repeat,
     /// Under `do`.
-    Grouped,
+    Do,
     /// Under `initializations`.
-    Labelled,
+    Initializations,
     /// Behind `end-model`.
     End,
 }
@@ -45,9 +45,9 @@ pub(crate) enum Role {
     /// It opens a block.
     Opens,
     /// It is a row of the block that is open, or parts it.
-    GoesOn,
+    Continues,
     /// It is a whole statement or a whole `forward`.
-    Stands,
+    StandsAlone,
     /// It closes the block.
     Closes,
 }
@@ -58,207 +58,208 @@ pub(crate) fn takes_statements(place: Place) -> bool
 {
     match place {
         Place::Start | Place::Parameters | Place::Declarations | Place::Record => false,
-        Place::Choice | Place::Labelled | Place::End => false,
+        Place::Case | Place::Initializations | Place::End => false,
         _ => true,
     }
 }
 
 /// What the first piece of a statement does.
-fn begins(mould: Mould) -> Option<Role>
-    ensures { result ≡ spec.begins mould }
+fn begins(kind: PieceKind) -> Option<Role>
+    ensures { result ≡ spec.begins kind }
 {
-    match mould {
-        Mould::Simple | Mould::Bare => Some(Role::Stands),
-        Mould::If | Mould::Case | Mould::Forall | Mould::While => Some(Role::Opens),
-        Mould::Repeat | Mould::Do | Mould::Initializations => Some(Role::Opens),
+    match kind {
+        PieceKind::Simple | PieceKind::Bare => Some(Role::StandsAlone),
+        PieceKind::If | PieceKind::Case | PieceKind::Forall | PieceKind::While => Some(Role::Opens),
+        PieceKind::Repeat | PieceKind::Do | PieceKind::Initializations => Some(Role::Opens),
         _ => None,
     }
 }
 
 /// What the piece does at the top of a model.
-fn top_role(mould: Mould) -> Option<Role>
-    ensures { result ≡ spec.top_role mould }
+fn top_role(kind: PieceKind) -> Option<Role>
+    ensures { result ≡ spec.top_role kind }
 {
-    match mould {
-        Mould::Parameters | Mould::Declarations | Mould::Procedure | Mould::Function => {
-            Some(Role::Opens)
-        }
-        Mould::Forward => Some(Role::Stands),
-        Mould::EndModel => Some(Role::Closes),
+    match kind {
+        PieceKind::Parameters
+        | PieceKind::Declarations
+        | PieceKind::Procedure
+        | PieceKind::Function => { Some(Role::Opens) }
+        PieceKind::Forward => Some(Role::StandsAlone),
+        PieceKind::EndModel => Some(Role::Closes),
         _ => None,
     }
 }
 
-fn head_role(mould: Mould) -> Option<Role>
-    ensures { result ≡ spec.head_role mould }
+fn head_role(kind: PieceKind) -> Option<Role>
+    ensures { result ≡ spec.head_role kind }
 {
-    match mould {
-        Mould::Uses | Mould::Options => Some(Role::GoesOn),
+    match kind {
+        PieceKind::Uses | PieceKind::Options => Some(Role::Continues),
         other => top_role(other),
     }
 }
 
-fn start_role(mould: Mould) -> Option<Role>
-    ensures { result ≡ spec.start_role mould }
+fn start_role(kind: PieceKind) -> Option<Role>
+    ensures { result ≡ spec.start_role kind }
 {
-    match mould {
-        Mould::Model => Some(Role::Opens),
+    match kind {
+        PieceKind::Model => Some(Role::Opens),
         _ => None,
     }
 }
 
-fn parameters_role(mould: Mould) -> Option<Role>
-    ensures { result ≡ spec.parameters_role mould }
+fn parameters_role(kind: PieceKind) -> Option<Role>
+    ensures { result ≡ spec.parameters_role kind }
 {
-    match mould {
-        Mould::Definition => Some(Role::GoesOn),
-        Mould::EndParameters => Some(Role::Closes),
+    match kind {
+        PieceKind::Definition => Some(Role::Continues),
+        PieceKind::EndParameters => Some(Role::Closes),
         _ => None,
     }
 }
 
-fn declarations_role(mould: Mould) -> Option<Role>
-    ensures { result ≡ spec.declarations_role mould }
+fn declarations_role(kind: PieceKind) -> Option<Role>
+    ensures { result ≡ spec.declarations_role kind }
 {
-    match mould {
-        Mould::Definition | Mould::Typed => Some(Role::GoesOn),
-        Mould::RecordOf => Some(Role::Opens),
-        Mould::EndDeclarations => Some(Role::Closes),
+    match kind {
+        PieceKind::Definition | PieceKind::Typed => Some(Role::Continues),
+        PieceKind::RecordOf => Some(Role::Opens),
+        PieceKind::EndDeclarations => Some(Role::Closes),
         _ => None,
     }
 }
 
-fn record_role(mould: Mould) -> Option<Role>
-    ensures { result ≡ spec.record_role mould }
+fn record_role(kind: PieceKind) -> Option<Role>
+    ensures { result ≡ spec.record_role kind }
 {
-    match mould {
-        Mould::Typed => Some(Role::GoesOn),
-        Mould::EndRecord => Some(Role::Closes),
+    match kind {
+        PieceKind::Typed => Some(Role::Continues),
+        PieceKind::EndRecord => Some(Role::Closes),
         _ => None,
     }
 }
 
-fn procedure_role(mould: Mould) -> Option<Role>
-    ensures { result ≡ spec.procedure_role mould }
+fn procedure_role(kind: PieceKind) -> Option<Role>
+    ensures { result ≡ spec.procedure_role kind }
 {
-    match mould {
-        Mould::Declarations => Some(Role::Opens),
-        Mould::EndProcedure => Some(Role::Closes),
+    match kind {
+        PieceKind::Declarations => Some(Role::Opens),
+        PieceKind::EndProcedure => Some(Role::Closes),
         _ => None,
     }
 }
 
-fn function_role(mould: Mould) -> Option<Role>
-    ensures { result ≡ spec.function_role mould }
+fn function_role(kind: PieceKind) -> Option<Role>
+    ensures { result ≡ spec.function_role kind }
 {
-    match mould {
-        Mould::Declarations => Some(Role::Opens),
-        Mould::EndFunction => Some(Role::Closes),
+    match kind {
+        PieceKind::Declarations => Some(Role::Opens),
+        PieceKind::EndFunction => Some(Role::Closes),
         _ => None,
     }
 }
 
-fn arm_role(mould: Mould) -> Option<Role>
-    ensures { result ≡ spec.arm_role mould }
+fn if_arm_role(kind: PieceKind) -> Option<Role>
+    ensures { result ≡ spec.if_arm_role kind }
 {
-    match mould {
-        Mould::Elif | Mould::Else => Some(Role::GoesOn),
-        Mould::EndIf => Some(Role::Closes),
+    match kind {
+        PieceKind::Elif | PieceKind::Else => Some(Role::Continues),
+        PieceKind::EndIf => Some(Role::Closes),
         _ => None,
     }
 }
 
-fn otherwise_role(mould: Mould) -> Option<Role>
-    ensures { result ≡ spec.otherwise_role mould }
+fn if_else_role(kind: PieceKind) -> Option<Role>
+    ensures { result ≡ spec.if_else_role kind }
 {
-    match mould {
-        Mould::EndIf => Some(Role::Closes),
+    match kind {
+        PieceKind::EndIf => Some(Role::Closes),
         _ => None,
     }
 }
 
-fn choice_role(mould: Mould) -> Option<Role>
-    ensures { result ≡ spec.choice_role mould }
+fn case_role(kind: PieceKind) -> Option<Role>
+    ensures { result ≡ spec.case_role kind }
 {
-    match mould {
-        Mould::Alternative | Mould::Else => Some(Role::GoesOn),
-        Mould::EndCase => Some(Role::Closes),
+    match kind {
+        PieceKind::Alternative | PieceKind::Else => Some(Role::Continues),
+        PieceKind::EndCase => Some(Role::Closes),
         _ => None,
     }
 }
 
-fn choice_otherwise_role(mould: Mould) -> Option<Role>
-    ensures { result ≡ spec.choice_otherwise_role mould }
+fn case_else_role(kind: PieceKind) -> Option<Role>
+    ensures { result ≡ spec.case_else_role kind }
 {
-    match mould {
-        Mould::EndCase => Some(Role::Closes),
+    match kind {
+        PieceKind::EndCase => Some(Role::Closes),
         _ => None,
     }
 }
 
-fn repeated_role(mould: Mould) -> Option<Role>
-    ensures { result ≡ spec.repeated_role mould }
+fn repeat_role(kind: PieceKind) -> Option<Role>
+    ensures { result ≡ spec.repeat_role kind }
 {
-    match mould {
-        Mould::Until => Some(Role::Closes),
+    match kind {
+        PieceKind::Until => Some(Role::Closes),
         _ => None,
     }
 }
 
-fn grouped_role(mould: Mould) -> Option<Role>
-    ensures { result ≡ spec.grouped_role mould }
+fn do_role(kind: PieceKind) -> Option<Role>
+    ensures { result ≡ spec.do_role kind }
 {
-    match mould {
-        Mould::EndDo => Some(Role::Closes),
+    match kind {
+        PieceKind::EndDo => Some(Role::Closes),
         _ => None,
     }
 }
 
-fn labelled_role(mould: Mould) -> Option<Role>
-    ensures { result ≡ spec.labelled_role mould }
+fn initializations_role(kind: PieceKind) -> Option<Role>
+    ensures { result ≡ spec.initializations_role kind }
 {
-    match mould {
-        Mould::Bare | Mould::Labels => Some(Role::GoesOn),
-        Mould::EndInitializations => Some(Role::Closes),
+    match kind {
+        PieceKind::Bare | PieceKind::Labels => Some(Role::Continues),
+        PieceKind::EndInitializations => Some(Role::Closes),
         _ => None,
     }
 }
 
 /// What the piece does at the place, statements aside.
-fn own_role(place: Place, mould: Mould) -> Option<Role>
-    ensures { result ≡ spec.own_role place mould }
+fn own_role(place: Place, kind: PieceKind) -> Option<Role>
+    ensures { result ≡ spec.own_role place kind }
 {
     match place {
-        Place::Start => start_role(mould),
-        Place::Heads => head_role(mould),
-        Place::Tops => top_role(mould),
-        Place::Parameters => parameters_role(mould),
-        Place::Declarations => declarations_role(mould),
-        Place::Record => record_role(mould),
-        Place::Procedure => procedure_role(mould),
-        Place::Function => function_role(mould),
-        Place::Arm => arm_role(mould),
-        Place::Otherwise => otherwise_role(mould),
-        Place::Choice => choice_role(mould),
-        Place::Chosen | Place::Looped | Place::End => None,
-        Place::ChoiceOtherwise => choice_otherwise_role(mould),
-        Place::Repeated => repeated_role(mould),
-        Place::Grouped => grouped_role(mould),
-        Place::Labelled => labelled_role(mould),
+        Place::Start => start_role(kind),
+        Place::Heads => head_role(kind),
+        Place::Tops => top_role(kind),
+        Place::Parameters => parameters_role(kind),
+        Place::Declarations => declarations_role(kind),
+        Place::Record => record_role(kind),
+        Place::Procedure => procedure_role(kind),
+        Place::Function => function_role(kind),
+        Place::IfArm => if_arm_role(kind),
+        Place::IfElse => if_else_role(kind),
+        Place::Case => case_role(kind),
+        Place::CaseArm | Place::LoopBody | Place::End => None,
+        Place::CaseElse => case_else_role(kind),
+        Place::Repeat => repeat_role(kind),
+        Place::Do => do_role(kind),
+        Place::Initializations => initializations_role(kind),
     }
 }
 
 /// What the piece does at the place, if it may stand there.
 #[tactic(auto, unfolding(crate::specs::Places::role_at))]
-pub(crate) fn role_at(place: Place, mould: Mould) -> Option<Role>
-    ensures { result ≡ spec.role_at place mould }
+pub(crate) fn role_at(place: Place, kind: PieceKind) -> Option<Role>
+    ensures { result ≡ spec.role_at place kind }
 {
     if takes_statements(place) {
-        match begins(mould) {
+        match begins(kind) {
             Some(role) => Some(role),
-            None => own_role(place, mould),
+            None => own_role(place, kind),
         }
     } else {
-        own_role(place, mould)
+        own_role(place, kind)
     }
 }

@@ -32,12 +32,29 @@ kind_word Size = codes "SIZE"
 
 -- The name that a kind speaks of, where it has one.
 abbrev pub kind_name : Kind → Option (List ℕ)
+kind_name NoKind = None
+kind_name Utf8 = None
+kind_name Char = None
+kind_name Number = None
+kind_name Real = None
+kind_name Str = None
+kind_name Comment = None
 kind_name (Out name) = Some name
+kind_name Syntax = None
+kind_name Deep = None
 kind_name (Module name) = Some name
+kind_name Jobs = None
 kind_name (Unknown name) = Some name
 kind_name (Twice name) = Some name
+kind_name Forward = None
+kind_name Loop = None
+kind_name Return = None
+kind_name Const = None
+kind_name Flat = None
 kind_name (Prefix name) = Some name
-kind_name _ = None
+kind_name Args = None
+kind_name NoType = None
+kind_name Size = None
 
 -- A word, and after a space the name, where there is one.
 abbrev pub worded : List ℕ → Option (List ℕ) → List ℕ

@@ -5,5 +5,6 @@ pub mod Faults
 pub mod FileName
 pub mod Gets
 pub mod Kinds
+pub mod Limits
 pub mod Memory
 pub mod SinkBytes

@@ -1,3 +1,4 @@
+//! Blobs: bytes that need be no text.
 ghost use Rattle.std.specs.Prelude.{◌≡◌, IfOk};
 
 use crate::NoMemory;
@@ -41,12 +42,14 @@ impl Blob {
         self.bytes
     }
 
+    /// The bytes of the blob.
     pub fn as_bytes(&self) -> &[u8]
         ensures { result.now ≡ self.now }
     {
         self.bytes.as_slice()
     }
 
+    /// A blob with the same bytes.
     pub fn copy(&self, alloc: Global) -> Result<Blob, NoMemory>
         ensures { IfOk result (λ b. b ≡ self.now) }
     {

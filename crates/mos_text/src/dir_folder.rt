@@ -1,3 +1,4 @@
+//! The folder of the system, as a place that keeps files.
 ghost use Rattle.std.specs.Prelude.{◌≡◌, None};
 
 use crate::{Blob, Folder, Got, Stored, Text};
@@ -6,7 +7,8 @@ use std::io::{ErrorKind, Read};
 use std::rt::Files;
 use std::{fs, io};
 
-/// The files under the current folder of the process. Nothing is known of its content to a contract.
+/// The files under the current folder of the process. Nothing is known of its content to a
+/// contract.
 ///
 /// Only a name that is not there is missing; a folder in its place, or a file that may not be read,
 /// is a fault.

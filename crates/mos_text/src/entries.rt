@@ -1,3 +1,4 @@
+//! Lists of named things: the first of a name, and what a folder in memory answers.
 ghost use Rattle.std.specs.Prelude.{◌≡◌, option_copied, ◌≢◌};
 ghost use Rattle.std.specs.Ordering.{nat_cmp};
 ghost use Rattle.std.specs.Cmp.Lexicographic.{slice_cmp};
@@ -30,8 +31,8 @@ pub(crate) fn find_bytes<'a>(files: &'a [(Text, Blob)], name: &Text) -> Option<&
     }
 }
 
-/// The bytes of the first entry of this name, or else of the first file of this name; an entry without
-/// bytes hides the files.
+/// The bytes of the first entry of this name, or else of the first file of this name; an entry
+/// without bytes hides the files.
 pub(crate) fn find_latest<'a>(
     entries: &'a [(Text, Option<Blob>)],
     files: &'a [(Text, Blob)],

@@ -1,3 +1,4 @@
+//! The kinds of fault, with their numbers and words.
 ghost use Rattle.std.specs.Prelude.{◌≡◌};
 ghost use Rattle.mos_text.specs.FaultKinds.{fault_number, fault_word};
 

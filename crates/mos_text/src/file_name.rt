@@ -1,6 +1,7 @@
+//! Names of files: which texts are such, and what a name says of its file.
 ghost use Rattle.std.specs.Prelude.{◌≡◌, ◌==◌};
 ghost use Rattle.std.specs.List.{list_all, slice_split};
-ghost use Rattle.mos_text.specs.FileName.{is_file_name, is_file_name_part, is_file_name_byte};
+ghost use Rattle.mos_text.specs.FileName as spec;
 
 use crate::Text;
 
@@ -9,81 +10,52 @@ use crate::Text;
 /// folder above, and looks like no option of a command.
 #[tactic(auto, unfolding(crate::specs::FileName::is_file_name))]
 pub fn is_file_name(name: &Text) -> bool
-    ensures { result ≡ is_file_name name.now }
+    ensures { result ≡ spec.is_file_name name.now }
 {
     let bytes = name.as_bytes();
     bytes.len() <= 255 && has_parts(bytes)
 }
 
 fn has_parts(name: &[u8]) -> bool
-    ensures { result ≡ list_all is_file_name_part (slice_split (λ byte. byte == 47) name.now) }
+    ensures { result ≡ list_all spec.is_file_name_part (slice_split (λ byte. byte == 47) name.now) }
 {
     name.split(|byte| *byte == b'/').all(|part| is_part(part))
 }
 
 fn is_part(part: &[u8]) -> bool
-    ensures { result ≡ is_file_name_part part.now }
+    ensures { result ≡ spec.is_file_name_part part.now }
 {
     !part.is_empty() && part[0] != b'.' && part[0] != b'-' && has_part_bytes(part)
 }
 
 fn has_part_bytes(part: &[u8]) -> bool
-    ensures { result ≡ list_all is_file_name_byte part.now }
+    ensures { result ≡ list_all spec.is_file_name_byte part.now }
 {
     part.iter().all(|byte| is_part_byte(*byte))
 }
 
 fn is_part_byte(byte: u8) -> bool
-    ensures { result ≡ is_file_name_byte byte }
+    ensures { result ≡ spec.is_file_name_byte byte }
 {
     matches!(byte, b'A'..=b'Z' | b'a'..=b'z' | b'0'..=b'9' | b'_' | b'-' | b'.')
 }
 
-#[cfg(test)]
-mod tests {
-    use super::*;
-    use std::alloc::Global;
-    use std::process::Abort;
-    use std::test::Fail;
+/// Whether the name is that of a source: it ends in `.mos`.
+pub fn is_source_name(name: &Text) -> bool
+    ensures { result ≡ spec.is_source_name name.now }
+{
+    has_ending(name.as_bytes(), b".mos")
+}
 
-    fn check(rt: &impl Abort, alloc: Global, name: &str, wanted: bool) -> Result<(), Fail> {
-        let text = Text::from_string(String::from_str(alloc, name)?);
-        assert_eq!(rt; is_file_name(&text), wanted, "{name}");
-        Ok(())
-    }
+/// Whether the name is that of an image: it ends in `.bim`.
+pub fn is_image_name(name: &Text) -> bool
+    ensures { result ≡ spec.is_image_name name.now }
+{
+    has_ending(name.as_bytes(), b".bim")
+}
 
-    #[test]
-    fn names(rt: HostRuntime) -> Result<(), Fail> {
-        for name in [
-            "a.mos",
-            "A_b-c.1",
-            "jobs/day/a.mos",
-            "a",
-            "0",
-            "_",
-            "a..b",
-            "a/b-",
-            "a/_.x",
-        ] {
-            check(&rt, rt.alloc(), name, true)?;
-        }
-        for name in [
-            "", ".", "..", "/", "a/", "/a", "a//b", "../a", "a/./b", "-a", "a/-b", "a b", "a\\b",
-            "\u{e9}", ".a", "a/.b", "a:b", "a\n",
-        ] {
-            check(&rt, rt.alloc(), name, false)?;
-        }
-        Ok(())
-    }
-
-    #[test]
-    fn lengths(rt: HostRuntime) -> Result<(), Fail> {
-        let mut name = String::new(rt.alloc());
-        for _ in 0..255 {
-            name.push('a')?;
-        }
-        check(&rt, rt.alloc(), name.as_str(), true)?;
-        name.push('a')?;
-        check(&rt, rt.alloc(), name.as_str(), false)
-    }
+fn has_ending(name: &[u8], ending: &[u8]) -> bool
+    ensures { result ≡ spec.has_ending ending.now name.now }
+{
+    &name[name.len().saturating_sub(ending.len())..] == ending
 }

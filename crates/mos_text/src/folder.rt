@@ -1,3 +1,4 @@
+//! Places that keep files by name: what each may answer, and what stands after each answer.
 ghost use Rattle.std.specs.Prelude.{◌≡◌, ℕ, ◌≤◌, List, Option};
 ghost use Rattle.mos_text.specs.Content.{Files, known_of, put_file, lose_file, SameElsewhere};
 ghost use Rattle.mos_text.specs.Gets.{Answers};

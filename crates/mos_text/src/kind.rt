@@ -1,3 +1,4 @@
+//! The kinds of verdict on a source, with their words.
 ghost use Rattle.std.specs.Prelude.{◌≡◌, IfOk, option_copied};
 ghost use Rattle.mos_text.specs.Kinds.{kind_word, kind_name};
 
@@ -122,12 +123,12 @@ impl Kind {
         ensures { option_copied result ≡ kind_name self.now }
     {
         match self {
-            Kind::Out(name) => Some(name),
-            Kind::Module(name) => Some(name),
-            Kind::Unknown(name) => Some(name),
-            Kind::Twice(name) => Some(name),
-            Kind::Prefix(name) => Some(name),
-            _ => None,
+            Kind::Out(name) | Kind::Module(name) => Some(name),
+            Kind::Unknown(name) | Kind::Twice(name) | Kind::Prefix(name) => Some(name),
+            Kind::None | Kind::Utf8 | Kind::Char | Kind::Number | Kind::Real => None,
+            Kind::Str | Kind::Comment | Kind::Syntax | Kind::Deep | Kind::Jobs => None,
+            Kind::Forward | Kind::Loop | Kind::Return | Kind::Const | Kind::Flat => None,
+            Kind::Args | Kind::NoType | Kind::Size => None,
         }
     }
 }

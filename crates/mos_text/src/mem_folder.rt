@@ -1,3 +1,4 @@
+//! A folder in memory that fails at calls which are listed beforehand.
 ghost use Rattle.std.specs.Prelude.{◌≡◌, ◌≢◌, ◌↔◌, ◌≤◌, Some, None, OnOk, OnErr, option_copied};
 ghost use Rattle.std.specs.FinMap.{insert};
 ghost use Rattle.mos_text.specs.Content.{known_of, known_bytes, SameElsewhere, absent_if_unknown, files_of};
@@ -5,7 +6,7 @@ ghost use Rattle.mos_text.specs.Gets.{Answers};
 ghost use Rattle.mos_text.specs.Calls.{FailsNext, after_one, calls_of, one_more};
 
 use crate::entries::{find_latest, give};
-use crate::numbered::Numbered;
+use crate::failing_calls::FailingCalls;
 use crate::{Blob, Folder, Got, NoMemory, Stored, Text};
 use std::alloc::Global;
 use std::marker::Model;
@@ -16,8 +17,8 @@ pub struct MemFolder {
     given: Vec<(Text, Blob)>,
     /// What was put, the newest first; no bytes where that put failed.
     later: Vec<(Text, Option<Blob>)>,
-    gets: Numbered,
-    puts: Numbered,
+    gets: FailingCalls,
+    puts: FailingCalls,
     faults: u64,
 }
 
@@ -38,8 +39,8 @@ impl Model for MemFolder {
 }
 
 impl MemFolder {
-    /// A folder of these files, of which the gets and puts of these numbers fail; of two equal names
-    /// the first counts.
+    /// A folder of these files, of which the gets and puts of these numbers fail; of two equal
+    /// names the first counts.
     pub fn new(
         alloc: Global,
         files: Vec<(Text, Blob)>,
@@ -54,8 +55,8 @@ impl MemFolder {
         MemFolder {
             given: files,
             later: Vec::new(alloc),
-            gets: Numbered::new(failing_gets),
-            puts: Numbered::new(failing_puts),
+            gets: FailingCalls::new(failing_gets),
+            puts: FailingCalls::new(failing_puts),
             faults: 0,
         }
     }

@@ -1,19 +1,20 @@
+//! A sink in memory that takes short pieces, and fails at writes which are listed beforehand.
 ghost use Rattle.std.specs.Prelude.{◌≡◌, ◌≢◌, ◌↔◌, ◌<◌, ◌≤◌, [], ◌++◌, Some, length};
 ghost use Rattle.mos_text.specs.Calls.{FailsNext, after_one, calls_of, one_more};
 ghost use Rattle.mos_text.specs.SinkBytes.{TakesSome, taken};
 
-use crate::numbered::Numbered;
+use crate::failing_calls::FailingCalls;
 use crate::{Sink, Wrote};
 use std::alloc::Global;
 use std::marker::Model;
 
-/// A sink in memory that takes a limited number of bytes at each write, and fails by list. Writes are
-/// numbered from 1.
+/// A sink in memory that takes a limited number of bytes at each write, and fails by list. Writes
+/// are numbered from 1.
 #[derive(Debug, Drop)]
 pub struct MemSink {
     written: Vec<u8>,
     piece: u32,
-    writes: Numbered,
+    writes: FailingCalls,
     faults: u64,
 }
 
@@ -36,8 +37,8 @@ impl Model for MemSink {
 }
 
 impl MemSink {
-    /// A sink that takes at most `piece` bytes at each write, and of which the writes of these numbers
-    /// fail.
+    /// A sink that takes at most `piece` bytes at each write, and of which the writes of these
+    /// numbers fail.
     pub fn new(alloc: Global, piece: u32, failing: Vec<u32>) -> MemSink
         requires { 0 < piece }
         ensures bytes { result.bytes ≡ [] }
@@ -48,7 +49,7 @@ impl MemSink {
         MemSink {
             written: Vec::new(alloc),
             piece,
-            writes: Numbered::new(failing),
+            writes: FailingCalls::new(failing),
             faults: 0,
         }
     }

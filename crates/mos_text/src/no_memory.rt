@@ -1,3 +1,4 @@
+//! The one answer of calls that can only want memory.
 use std::alloc::{AllocError, AllocFailed};
 
 /// The answer of a call that can only want memory.

@@ -1,10 +1,11 @@
+//! A writer of the system as a sink.
 ghost use Rattle.std.specs.Prelude.{◌≡◌, ◌≤◌, [], length, IfSome, None};
 
 use crate::{Sink, Wrote};
 use std::io::{ErrorKind, Write};
 
-/// A writer of the system, as standard output. Nothing is known of its bytes to a contract. Each write
-/// is flushed.
+/// A writer of the system, as standard output. Nothing is known of its bytes to a contract. Each
+/// write is flushed.
 #[derive(Drop)]
 pub struct OutSink<W: Write + Drop> {
     writer: W,
@@ -27,8 +28,8 @@ impl<W: Write + Drop> OutSink<W> {
     }
 }
 
-/// One write, tried again where a signal has interrupted it. It has failed where it took nothing of a
-/// piece that is not empty, or where the flush failed.
+/// One write, tried again where a signal has interrupted it. It has failed where it took nothing of
+/// a piece that is not empty, or where the flush failed.
 fn write_and_flush<W: Write>(writer: &mut W, piece: &[u8]) -> Option<usize>
     ensures within { IfSome result (λ count. count ≤ length piece.now) }
     ensures some { IfSome result (λ count. count ≡ 0 → piece.now ≡ []) }

@@ -1,3 +1,4 @@
+//! Values without parts.
 ghost use Rattle.std.specs.Prelude.{◌≡◌, IfOk};
 
 use crate::{NoMemory, Text};
@@ -16,6 +17,7 @@ pub enum Scalar {
 }
 
 impl Scalar {
+    /// A copy of the value.
     pub fn copy(&self, alloc: Global) -> Result<Scalar, NoMemory>
         ensures { IfOk result (λ s. s ≡ self.now) }
     {

@@ -1,3 +1,4 @@
+//! Blobs that several owners share.
 ghost use Rattle.std.specs.Prelude.{◌≡◌, IfOk};
 
 use crate::{Blob, NoMemory};
@@ -28,6 +29,7 @@ impl SharedBlob {
         Ok(SharedBlob { blob })
     }
 
+    /// The bytes that all its owners share.
     pub fn as_bytes(&self) -> &[u8]
         ensures { result.now ≡ self.now }
     {

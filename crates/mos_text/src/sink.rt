@@ -1,3 +1,4 @@
+//! Places that bytes are appended to, and writing a whole text to one.
 ghost use Rattle.std.specs.Prelude.{◌≡◌, ℕ, ◌≤◌, List, Option};
 ghost use Rattle.mos_text.specs.SinkBytes.{appended, taken, TakesSome, AppendedPart};
 ghost use Rattle.mos_text.specs.Faults.{Rose};

@@ -1,3 +1,4 @@
+//! A folder in memory that never fails.
 ghost use Rattle.std.specs.Prelude.{◌≡◌, Some, OnOk, OnErr, option_copied};
 ghost use Rattle.std.specs.FinMap.{insert};
 ghost use Rattle.mos_text.specs.Content.{known_of, known_bytes, held_of, files_of};

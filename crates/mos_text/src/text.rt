@@ -1,3 +1,4 @@
+//! Texts: bytes that are UTF-8.
 ghost use Rattle.std.specs.Prelude.{◌≡◌, ◌↔◌, string_bytes, IfOk, IsUtf8, IsErrOf, IsTrue};
 ghost use Rattle.mos_text.specs.declared.text.TextFault.TheVariants.{NotText, NoMemory as WantsMemory};
 
@@ -62,12 +63,14 @@ impl Text {
         Text { text }
     }
 
+    /// The text as a string slice.
     pub fn as_str(&self) -> &str
         ensures value { result.now ≡ self.now }
     {
         self.text.as_str()
     }
 
+    /// The bytes of the text.
     pub fn as_bytes(&self) -> &[u8]
         ensures value { result.now ≡ self.now }
         ensures utf8 { IsUtf8 self.now }
@@ -75,6 +78,7 @@ impl Text {
         self.text.as_str().as_bytes()
     }
 
+    /// A text with the same bytes.
     pub fn copy(&self, alloc: Global) -> Result<Text, NoMemory>
         ensures { IfOk result (λ t. t ≡ self.now) }
     {

@@ -1,3 +1,4 @@
+//! Types of the language.
 use crate::Text;
 use sqlite_items::{Boxed, Items};
 

@@ -1,4 +1,5 @@
-pub mod Index
+pub mod Children
+pub mod Forms
 pub mod Nodes
+pub mod Sizes
 pub mod Statements
-pub mod Texts

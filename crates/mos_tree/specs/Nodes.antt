@@ -1,8 +1,10 @@
+-- How many nodes an expression has.
+
 use Rattle.std.specs.Prelude.{ℕ, ◌+◌, List, sum, map, Option, None, Some}
 use Rattle.mos_tree.specs.declared.expr.Expr.{Expr}
 use Rattle.mos_tree.specs.declared.expr.Group.{Group}
 use Rattle.mos_tree.specs.declared.expr.Index.{Index}
-use Rattle.mos_tree.specs.Index.{in_group}
+use Rattle.mos_tree.specs.Children.{in_group, in_index}
 use Rattle.mos_tree.specs.declared.expr.Expr.TheOpen.{Expr-F, Integer, Text, Truth, Name, Returned, Call, Field, CallField, Set, List as ListOf, If, Convert, Unary, Binary, Aggregate, Count}
 use Rattle.mos_tree.specs.declared.expr.Expr.TheFolds.{fold-Expr}
 
@@ -10,10 +12,12 @@ use Rattle.mos_tree.specs.declared.expr.Expr.TheFolds.{fold-Expr}
 abbrev pub nodes_of_groups : List (Group ℕ) → ℕ
 nodes_of_groups groups = sum (map (λ g. g.set + 1) groups)
 
+-- nodes of the condition of an index, where it has one
 abbrev pub nodes_of_condition : Option ℕ → ℕ
 nodes_of_condition None = 0
 nodes_of_condition (Some n) = n
 
+-- nodes of an index
 abbrev pub nodes_of_index : Index ℕ → ℕ
 nodes_of_index index = nodes_of_groups index.groups + nodes_of_condition index.condition
 
@@ -40,8 +44,14 @@ nodes_step (Count index) = nodes_of_index index + 1
 abbrev pub nodes : Expr → ℕ
 nodes = fold-Expr ℕ nodes_step
 
+-- the nodes of several expressions
 abbrev pub nodes_in : List Expr → ℕ
 nodes_in all = sum (map nodes all)
 
+-- the nodes of groups of index names
 abbrev pub nodes_in_groups : List (Group Expr) → ℕ
 nodes_in_groups groups = nodes_of_groups (map (in_group nodes) groups)
+
+-- the nodes of an index
+abbrev pub nodes_in_index : Index Expr → ℕ
+nodes_in_index index = nodes_of_index (in_index nodes index)

@@ -1,3 +1,5 @@
+-- How many statements a statement is, with those that stand in it.
+
 use Rattle.std.specs.Prelude.{ℕ, ◌+◌, List, sum, map}
 use Rattle.mos_tree.specs.declared.statement.Statement.{Statement}
 use Rattle.mos_tree.specs.declared.statement.Arm.{Arm}
@@ -20,14 +22,18 @@ statements_step (Break line) = 1
 statements_step (Next line) = 1
 statements_step (Initializations line direction name labels) = 1
 
+-- the statements of one
 abbrev pub statements : Statement → ℕ
 statements = fold-Statement ℕ statements_step
 
+-- the statements of several
 abbrev pub statements_in : List Statement → ℕ
 statements_in all = sum (map statements all)
 
+-- the statements of the arms of `if`
 abbrev pub statements_in_arms : List (Arm Statement) → ℕ
 statements_in_arms arms = sum (map (λ arm. statements_in arm.body) arms)
 
+-- the statements of the alternatives of `case`
 abbrev pub statements_in_alternatives : List (Alternative Statement) → ℕ
 statements_in_alternatives all = sum (map (λ one. statements one.body) all)

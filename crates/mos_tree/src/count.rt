@@ -1,3 +1,4 @@
+//! How many nodes and statements a tree has.
 ghost use Rattle.std.specs.Prelude.{◌≡◌, ◌<◌, ◌^◌, ℕ, ◌+◌};
 ghost use Rattle.mos_tree.specs.Nodes as spec;
 ghost use Rattle.mos_tree.specs.Statements as spec_of_statements;
@@ -39,6 +40,7 @@ pub fn nodes(expr: &Expr) -> u64
     }
 }
 
+/// The number of nodes of several expressions.
 #[cycle(nodes)]
 fn nodes_in(all: &[Expr]) -> u64
     requires { spec.nodes_in all.now < 2 ^ 64 }
@@ -89,7 +91,9 @@ pub fn statements(statement: &Statement) -> u64
         Statement::Repeat { body, .. } | Statement::Do { body, .. } => {
             statements_in(body.as_slice()) + 1
         }
-        _ => 1,
+        Statement::Assign { .. } | Statement::Fill { .. } | Statement::Call { .. } => 1,
+        Statement::Break { .. } | Statement::Next { .. } => 1,
+        Statement::Initializations { .. } => 1,
     }
 }
 

@@ -1,5 +1,6 @@
+//! Types, declarations, parameters and headings of routines.
 use crate::Expr;
-use mos_text::Text;
+use mos_text::SourceText;
 use sqlite_items::Items;
 
 /// A type that can be a member, a cell, a field or a result.
@@ -9,7 +10,7 @@ pub enum BaseType {
     Boolean,
     /// `string`
     Text,
-    Named(Text),
+    Named(SourceText),
 }
 
 /// What stands for one index of an array type.
@@ -45,7 +46,7 @@ pub enum TypeForm {
 #[derive(Debug, Drop)]
 pub struct Parameter {
     pub line: u32,
-    pub name: Text,
+    pub name: SourceText,
     pub default: Expr,
 }
 
@@ -53,7 +54,7 @@ pub struct Parameter {
 #[derive(Debug, Drop)]
 pub struct FieldGroup {
     pub line: u32,
-    pub names: Items<Text>,
+    pub names: Items<SourceText>,
     pub typ: TypeForm,
 }
 
@@ -63,19 +64,19 @@ pub enum Item {
     /// `NAME = E`
     Constant {
         line: u32,
-        name: Text,
+        name: SourceText,
         value: Expr,
     },
     /// `a, b: type`
     Variables {
         line: u32,
-        names: Items<Text>,
+        names: Items<SourceText>,
         typ: TypeForm,
     },
     /// `NAME = record .. end-record`, with the line of its first piece.
     Record {
         line: u32,
-        name: Text,
+        name: SourceText,
         fields: Items<FieldGroup>,
     },
 }
@@ -83,7 +84,7 @@ pub enum Item {
 /// Formals of one type.
 #[derive(Debug, Drop)]
 pub struct FormalGroup {
-    pub names: Items<Text>,
+    pub names: Items<SourceText>,
     pub typ: TypeForm,
 }
 
@@ -91,7 +92,7 @@ pub struct FormalGroup {
 #[derive(Debug, Drop)]
 pub struct Heading {
     pub line: u32,
-    pub name: Text,
+    pub name: SourceText,
     /// None where there are no brackets, too.
     pub formals: Items<FormalGroup>,
     /// The result of a function; none for a procedure.

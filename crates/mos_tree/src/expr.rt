@@ -1,4 +1,5 @@
-use mos_text::Text;
+//! Expressions.
+use mos_text::SourceText;
 use sqlite_items::{Boxed, Items};
 
 /// An operator that stands before its operand.
@@ -55,7 +56,7 @@ pub enum AggregateOperator {
 /// Index names that take their values from one set: `i, j in 1..3`. `E` is an expression.
 #[derive(Debug, Drop)]
 pub struct Group<E> {
-    pub names: Items<Text>,
+    pub names: Items<SourceText>,
     pub set: E,
 }
 
@@ -72,17 +73,17 @@ pub enum Expr {
     /// A literal, from 0 to 2147483647.
     Integer(i32),
     /// A literal, with its escapes read.
-    Text(Text),
+    Text(SourceText),
     Truth(bool),
-    Name(Text),
+    Name(SourceText),
     /// The value that a function will give.
     Returned,
     /// `name(a, b)` or `name()`: a call, or a cell of an array.
-    Call(Text, Items<Expr>),
+    Call(SourceText, Items<Expr>),
     /// `name.field`
-    Field(Text, Text),
+    Field(SourceText, SourceText),
     /// `name(a, b).field` or `name().field`
-    CallField(Text, Items<Expr>, Text),
+    CallField(SourceText, Items<Expr>, SourceText),
     /// `{a, b}` or `{}`
     Set(Items<Expr>),
     /// `[a, b]` or `[]`

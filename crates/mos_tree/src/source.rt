@@ -1,22 +1,28 @@
+//! A whole source: its heads and tops.
 use crate::{Heading, Item, Parameter, Statement};
-use mos_text::Text;
+use mos_text::SourceText;
 use sqlite_items::Items;
 
 /// What stands behind the word `model`.
 #[derive(Debug, Drop)]
 pub enum ModelName {
     /// A string, with its escapes read.
-    Quoted(Text),
-    Named(Text),
+    Quoted(SourceText),
+    Named(SourceText),
 }
 
 /// A piece before all others.
 #[derive(Debug, Drop)]
 pub enum Head {
     /// The modules that are used; there is only one that can be named, perhaps several times.
-    Uses { line: u32, modules: Items<Text> },
+    Uses {
+        line: u32,
+        modules: Items<SourceText>,
+    },
     /// The option `noimplicit`, the only one that there is.
-    NoImplicit { line: u32 },
+    NoImplicit {
+        line: u32,
+    },
 }
 
 /// A block of `declarations`.

@@ -1,17 +1,18 @@
+//! Statements.
 use crate::{Expr, Index};
-use mos_text::Text;
+use mos_text::SourceText;
 use sqlite_items::{Boxed, Items};
 
 /// The left side of an assignment.
 #[derive(Debug, Drop)]
 pub enum Reference {
-    Name(Text),
+    Name(SourceText),
     /// `name(a, b)`
-    Cell(Text, Items<Expr>),
+    Cell(SourceText, Items<Expr>),
     /// `name.field`
-    Field(Text, Text),
+    Field(SourceText, SourceText),
     /// `name(a, b).field`
-    CellField(Text, Items<Expr>, Text),
+    CellField(SourceText, Items<Expr>, SourceText),
     Returned,
 }
 
@@ -36,8 +37,8 @@ pub enum Direction {
 /// A label of `initializations`, with the text behind `as`.
 #[derive(Debug, Drop)]
 pub struct Label {
-    pub name: Text,
-    pub shown: Option<Text>,
+    pub name: SourceText,
+    pub shown: Option<SourceText>,
 }
 
 /// The labels of one piece.
@@ -75,13 +76,13 @@ pub enum Statement {
     /// `name :: [a, b]`
     Fill {
         line: u32,
-        name: Text,
+        name: SourceText,
         values: Items<Expr>,
     },
     /// `name(a, b)`, `name()` or `name`: a routine or a library procedure.
     Call {
         line: u32,
-        name: Text,
+        name: SourceText,
         arguments: Items<Expr>,
     },
     /// The arm of `if` first, then those of `elif`; what stands under `else` is empty without it.

@@ -1,3 +1,4 @@
+//! What is said of a whole source.
 use mos_text::Kind;
 
 /// What is said of a source.

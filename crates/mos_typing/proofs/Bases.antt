@@ -7,11 +7,10 @@ use Rattle.mos_scan.specs.declared.token.TokenKind.TheVariants as t
 use Rattle.mos_scan.specs.declared.reading.Word.{Word}
 use Rattle.mos_scan.specs.declared.reading.Word.TheVariants as w
 use Rattle.mos_typing.specs.Typing.{base_words}
-use Rattle.mos_expr.specs.Outcome.{Gives}
+use Rattle.mos_expr.specs.Said.{Gives, Says}
 use Rattle.mos_expr.specs.declared.fault.ExprFault.{ExprFault}
 use Rattle.mos_typing.specs.Joining.{or_nothing}
 use Rattle.mos_typing.specs.Reader.{base_of}
-use Rattle.mos_typing.specs.Spellings.{Says}
 use Rattle.mos_typing.proofs.Saying.{says_nothing, says_made, says_gives}
 
 pub base_known : (x : Word) (b : BaseType) → base_of x ≡ Some b → base_words b ≡ x ∷ []

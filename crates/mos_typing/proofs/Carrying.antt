@@ -2,11 +2,10 @@
 
 use Rattle.std.proofs.Common.{◌≡◌, ℕ, List, Option, Some, None, Result, Err, refl, sym, subst}
 use Rattle.std.specs.Prelude.{IsErrOf}
-use Rattle.mos_expr.specs.Outcome.{Gives}
+use Rattle.mos_expr.specs.Said.{Gives, Says}
 use Rattle.mos_expr.specs.declared.fault.ExprFault.{ExprFault}
 use Rattle.mos_expr.specs.declared.fault.ExprFault.TheVariants as x
 use Rattle.mos_typing.specs.Joining.{on_ok, both, behind, alone, first_of}
-use Rattle.mos_typing.specs.Spellings.{Says}
 use Rattle.mos_typing.proofs.Saying.{says_gives, says_want}
 
 pub record Carries {A : Type 0} (Rest Whole : List A → ℕ → Type 0) (front : Option (List A)) : Type 0 where

@@ -14,7 +14,7 @@ use Rattle.mos_tree.specs.declared.expr.Conversion.TheVariants as c
 use Rattle.mos_scan.specs.declared.token.TokenKind.TheVariants as t
 use Rattle.mos_scan.specs.declared.reading.Word.{Word}
 use Rattle.mos_scan.specs.declared.reading.Word.TheVariants as w
-use Rattle.mos_expr.specs.Grammar.{Leaf, number, text, truth, name, returned, field, Names, one_name, and_name, Syntax, leaf, call, call_field, set, list, bracket, choice, convert, before, between, aggregate, counted, Written, no_more, one_more, Over, last_set, such_that, another, spell_leaf, spell_before, spell_between, spell_aggregate, spell_conversion, spell_names, spell, spell_list, spell_rest, spell_over}
+use Rattle.mos_expr.specs.Grammar.{Leaf, number, text, truth, name, returned, field, Names, one_name, and_name, Syntax, leaf, call, call_field, set, list, bracket, if_expr, convert, before, between, aggregate, counted, Written, no_more, one_more, Over, last_set, such_that, another, spell_leaf, spell_before, spell_between, spell_aggregate, spell_conversion, spell_names, spell, spell_list, spell_rest, spell_over}
 use Rattle.mos_typing.proofs.Cases.{on_bool}
 use Rattle.mos_typing.specs.Cutting.{Halves, ahead, cut, depth_behind, is_comma, is_colon, cut_at_colon}
 
@@ -142,7 +142,7 @@ mutual
   syntax_goes d (set xs) = closed d (w.Key t.OpenCurly) (spell_list xs) (w.Key t.CloseCurly ∷ []) (other d (w.Key t.OpenCurly) refl) (list_goes d xs) (close d (w.Key t.CloseCurly) refl refl)
   syntax_goes d (list xs) = closed d (w.Key t.OpenSquare) (spell_list xs) (w.Key t.CloseSquare ∷ []) (other d (w.Key t.OpenSquare) refl) (list_goes d xs) (close d (w.Key t.CloseSquare) refl refl)
   syntax_goes d (bracket s) = round d (spell s) [] (syntax_goes (d + 1) s) (nothing d)
-  syntax_goes d (choice x y z) =
+  syntax_goes d (if_expr x y z) =
       led d d d (w.Key t.If) _ (same d (w.Key t.If) refl refl)
       (led d (d + 1) d (w.Key t.OpenRound) _ (open_round d) (choice_goes d (spell x) (spell y) (spell z) (syntax_goes (d + 1) x) (syntax_goes (d + 1) y) (syntax_goes (d + 1) z)))
   syntax_goes d (convert p s) = led d d d (spell_conversion p) _ (conversion_goes d p) (round d (spell s) [] (syntax_goes (d + 1) s) (nothing d))

@@ -1,7 +1,6 @@
 -- What is said of the indexes of an array.
 
-use Rattle.std.proofs.Common.{◌≡◌, ℕ, ◌+◌, ◌≤◌, max, true, false, List, [], ◌∷◌, ◌++◌, Some, None, Result, Ok, IfOk, refl, sym, ◌∙◌, ap, subst, arith}
-use Rattle.std.specs.Prelude.{IsErrOf}
+use Rattle.std.proofs.Common.{◌≡◌, ℕ, ◌+◌, ◌≤◌, max, true, false, List, [], ◌∷◌, ◌++◌, Some, None, Result, Ok, refl, sym, ◌∙◌, ap, subst, arith}
 use Rattle.mos_tree.specs.declared.expr.Expr.{Expr}
 use Rattle.mos_tree.specs.declared.declaration.BaseType.{BaseType}
 use Rattle.mos_tree.specs.declared.declaration.BaseType.TheVariants as base
@@ -10,22 +9,21 @@ use Rattle.mos_tree.specs.declared.declaration.Dimension.TheVariants as dimensio
 use Rattle.mos_scan.specs.declared.token.TokenKind.TheVariants as t
 use Rattle.mos_scan.specs.declared.reading.Word.{Word}
 use Rattle.mos_scan.specs.declared.reading.Word.TheVariants as w
-use Rattle.mos_expr.specs.Grammar.{Syntax, IsSpelled, spell, tree, limit}
-use Rattle.mos_expr.specs.Outcome.{IsTree, IsTooHigh, answer, Gives}
+use Rattle.mos_expr.specs.Grammar.{Syntax, spell, tree, limit}
 use Rattle.mos_expr.specs.declared.fault.ExprFault.{ExprFault}
-use Rattle.mos_expr.specs.declared.fault.ExprFault.TheVariants as x
 use Rattle.mos_typing.specs.Typing.{Dim, any_range, any_set, within, Dims, last_dim, and_dim, base_words, dim_words, dims_words, dimension_of, dimensions_of, tallest_dim, tallest_dims, DimIsGrouped, DimsAreGrouped}
 use Rattle.mos_typing.specs.Words.{ArePlain}
 use Rattle.mos_typing.specs.Cutting.{cut}
 use Rattle.mos_typing.specs.Joining.{on_ok, or_nothing, both, alone, first_of}
 use Rattle.mos_typing.specs.Reader.{base_of}
 use Rattle.mos_typing.specs.Shapes.{is_range, set_of}
-use Rattle.mos_typing.specs.Spellings.{IsExpression, IsDimension, AreDimensions, Says}
+use Rattle.mos_expr.specs.Said.{IsExpression, Says, Gives}
+use Rattle.mos_typing.specs.Spellings.{IsDimension, AreDimensions}
 use Rattle.mos_typing.proofs.Plain.{plain_syntax}
 use Rattle.mos_typing.proofs.Bases.{base_known, base_read, base_word, base_is, IsBase, says_base}
 use Rattle.mos_typing.proofs.Cases.{none_some, some_same}
 use Rattle.mos_typing.proofs.Cuts.{Goes, joined, led, same, comma, syntax_goes, cut_sound, cut_none, cut_at}
-use Rattle.mos_typing.proofs.Saying.{says_made, says_on_ok, says_expression, Parts, says_both}
+use Rattle.mos_typing.proofs.Saying.{says_made, says_on_ok, Parts, says_both}
 
 -- the words of an expression are plain
 plain : (s : Syntax) (words : List Word) → words ≡ spell s → ArePlain words
@@ -70,13 +68,13 @@ over_back words r n d h any_range g e i k = let p : is_range words ≡ true = ap
 over_back words r n d h (any_set b) g e i k = absurd (n (base_word b) (e ∙ ap (λ z. w.Key t.Set ∷ w.Key t.Of ∷ z) (base_is b)))
 over_back words r n d h (within s) g e i k = (tree s, record { written = s; grouped = g; exact = e; is = refl; high_is = k }, i)
 
-pub says_over : (words : List Word) (r : Result Expr ExprFault) (s : Result Dimension ExprFault) → is_range words ≡ false → ((b : Word) → words ≡ set_of b → ⊥) → IfOk r (IsTree words) → (IsErrOf r x.Deep → IsTooHigh words) → ((e : Syntax) → IsSpelled words e → Gives r (answer e)) → s ≡ on_ok dimension.Over r → Says (IsDimension words) s
-says_over words r s e n found deep only i =
+pub says_over : (words : List Word) (r : Result Expr ExprFault) (s : Result Dimension ExprFault) → is_range words ≡ false → ((b : Word) → words ≡ set_of b → ⊥) → Says (IsExpression words) r → s ≡ on_ok dimension.Over r → Says (IsDimension words) s
+says_over words r s e n said i =
     subst (Says (IsDimension words)) (sym i)
     (says_on_ok (IsExpression words) (IsDimension words) dimension.Over r
     (λ c h k. record { written = within k.written; grouped = k.grouped; exact = k.exact; is = ap dimension.Over k.is; high_is = k.high_is })
     (λ d h k. over_back words e n d h k.written k.grouped k.exact k.is k.high_is)
-    (says_expression words r found deep only))
+    said)
 
 -- ---- no index is cut
 

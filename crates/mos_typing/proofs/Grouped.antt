@@ -15,7 +15,8 @@ use Rattle.mos_typing.specs.Typing.{Typing, of_base, a_range, a_set, a_list, an_
 use Rattle.mos_typing.specs.Cutting.{Halves, Group, cut, cut_at_colon, first_group, typed_cut, group_cut}
 use Rattle.mos_typing.specs.Joining.{on_ok, both, alone, first_of}
 use Rattle.mos_typing.specs.Reader.{names_of, group_of}
-use Rattle.mos_typing.specs.Spellings.{IsTypeForm, AreGroups, IsGroup, IsOnlyGroup, AreFormalGroups, Says}
+use Rattle.mos_expr.specs.Said.{Says}
+use Rattle.mos_typing.specs.Spellings.{IsTypeForm, AreGroups, IsGroup, IsOnlyGroup, AreFormalGroups}
 use Rattle.mos_typing.proofs.Cases.{none_some, some_same}
 use Rattle.mos_typing.proofs.Cuts.{Goes, nothing, joined, led, same, open_round, close, closed, cut_sound, cut_none, cut_at, colon_sound, colon_at}
 use Rattle.mos_typing.proofs.Dimensioned.{base_goes, member_goes, dims_go}

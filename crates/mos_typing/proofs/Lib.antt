@@ -1,7 +1,7 @@
 pub mod Bases
+pub mod Beside
 pub mod Carrying
 pub mod Cases
-pub mod Clauses
 pub mod Cuts
 pub mod Dimensioned
 pub mod Ended
@@ -11,5 +11,5 @@ pub mod Listed
 pub mod Plain
 pub mod Saying
 pub mod Shaped
-pub mod Texts
+pub mod Sizes
 pub mod Typed

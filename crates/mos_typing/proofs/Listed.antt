@@ -1,12 +1,13 @@
 -- Words are names exactly where names are spelled by them.
 
 use Rattle.std.proofs.Common.{◌≡◌, ℕ, List, [], ◌∷◌, Option, Some, None, refl, sym, ◌∙◌, ap}
-use Rattle.std.specs.Prelude.{MatchOption, Result, Ok, Err, IfOk}
+use Rattle.std.specs.Prelude.{Result, Ok, Err, IfOk}
 use Rattle.mos_scan.specs.declared.token.TokenKind.TheVariants as t
 use Rattle.mos_scan.specs.declared.reading.Word.{Word}
 use Rattle.mos_scan.specs.declared.reading.Word.TheVariants as w
 use Rattle.mos_expr.specs.Grammar.{Names, one_name, and_name, spell_names, list_of_names}
 use Rattle.mos_typing.specs.Reader.{names_of, onto}
+use Rattle.mos_typing.specs.Spellings.{FindsNames}
 
 -- these names are spelled by the words
 pub record AreNames (words : List Word) (all : List (List ℕ)) : Type 0 where
@@ -34,10 +35,10 @@ pub names_read : (ns : Names) → names_of (spell_names ns) ≡ Some (list_of_na
 names_read (one_name n) = refl
 names_read (and_name n ns) = ap (onto (n ∷ [])) (names_read ns)
 
-pub names_found : (words : List Word) (found : Option (List (List ℕ))) → found ≡ names_of words → MatchOption found ((ns : Names) → words ≡ spell_names ns → ⊥) (λ all. (ns : Names) × (words ≡ spell_names ns) × (all ≡ list_of_names ns))
+pub names_found : (words : List Word) (found : Option (List (List ℕ))) → found ≡ names_of words → FindsNames words found
 names_found words None e = λ ns h. let p : None ≡ Some (list_of_names ns) = e ∙ ap names_of h ∙ names_read ns in cc
 names_found words (Some all) e = let k : AreNames words all = names_known words all (sym e) in (k.written, k.exact, k.is)
 
-pub names_answer : {E : Type 0} (words : List Word) (r : Result (Option (List (List ℕ))) E) → IfOk r (λ found. found ≡ names_of words) → IfOk r (λ found. MatchOption found ((ns : Names) → words ≡ spell_names ns → ⊥) (λ all. (ns : Names) × (words ≡ spell_names ns) × (all ≡ list_of_names ns)))
+pub names_answer : {E : Type 0} (words : List Word) (r : Result (Option (List (List ℕ))) E) → IfOk r (λ found. found ≡ names_of words) → IfOk r (FindsNames words)
 names_answer words (Ok found) e = names_found words found e
 names_answer words (Err x) e = tt

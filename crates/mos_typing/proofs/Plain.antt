@@ -13,7 +13,7 @@ use Rattle.mos_tree.specs.declared.expr.Conversion.TheVariants as c
 use Rattle.mos_scan.specs.declared.token.TokenKind.TheVariants as t
 use Rattle.mos_scan.specs.declared.reading.Word.{Word}
 use Rattle.mos_scan.specs.declared.reading.Word.TheVariants as w
-use Rattle.mos_expr.specs.Grammar.{Leaf, number, text, truth, name, returned, field, Names, one_name, and_name, Syntax, leaf, call, call_field, set, list, bracket, choice, convert, before, between, aggregate, counted, Written, no_more, one_more, Over, last_set, such_that, another, spell_leaf, spell_before, spell_between, spell_aggregate, spell_conversion, spell_names, spell, spell_list, spell_rest, spell_over}
+use Rattle.mos_expr.specs.Grammar.{Leaf, number, text, truth, name, returned, field, Names, one_name, and_name, Syntax, leaf, call, call_field, set, list, bracket, if_expr, convert, before, between, aggregate, counted, Written, no_more, one_more, Over, last_set, such_that, another, spell_leaf, spell_before, spell_between, spell_aggregate, spell_conversion, spell_names, spell, spell_list, spell_rest, spell_over}
 use Rattle.mos_typing.specs.Words.{is_plain, ArePlain}
 
 -- plain words one behind the other
@@ -86,7 +86,7 @@ mutual
   plain_syntax (set xs) = joined (spell_list xs) (w.Key t.CloseCurly ∷ []) (plain_list xs) refl
   plain_syntax (list xs) = joined (spell_list xs) (w.Key t.CloseSquare ∷ []) (plain_list xs) refl
   plain_syntax (bracket s) = joined (spell s) close (plain_syntax s) refl
-  plain_syntax (choice x y z) =
+  plain_syntax (if_expr x y z) =
       joined (spell x) (w.Key t.Comma ∷ (spell y ++ w.Key t.Comma ∷ (spell z ++ close))) (plain_syntax x)
       (joined (spell y) (w.Key t.Comma ∷ (spell z ++ close)) (plain_syntax y) (joined (spell z) close (plain_syntax z) refl))
   plain_syntax (convert p s) = led (spell_conversion p) (w.Key t.OpenRound ∷ (spell s ++ close)) (plain_conversion p) (joined (spell s) close (plain_syntax s) refl)

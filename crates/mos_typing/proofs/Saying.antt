@@ -1,17 +1,11 @@
 -- What is said of words goes over to what they are part of.
 
-use Rattle.std.proofs.Common.{◌≡◌, ℕ, ◌<◌, ◌≤◌, max, true, nat_le, if◌then◌else◌, List, Result, Ok, Err, IfOk, refl, sym, ◌∙◌, ap, subst, arith}
-use Rattle.std.specs.Prelude.{IsErrOf}
-use Rattle.std.proofs.lemmas.Bool.{leb-true, leb-false, le-leb}
-use Rattle.mos_tree.specs.declared.expr.Expr.{Expr}
-use Rattle.mos_scan.specs.declared.reading.Word.{Word}
-use Rattle.mos_expr.specs.Grammar.{Syntax, IsSpelled, tree, height, limit}
-use Rattle.mos_expr.specs.Outcome.{IsTree, IsTooHigh, answer, Gives}
+use Rattle.std.proofs.Common.{◌≡◌, ℕ, ◌<◌, ◌≤◌, max, Result, Ok, Err, refl, sym, ◌∙◌, ap, subst, arith}
+use Rattle.mos_expr.specs.Grammar.{limit}
 use Rattle.mos_expr.specs.declared.fault.ExprFault.{ExprFault}
 use Rattle.mos_expr.specs.declared.fault.ExprFault.TheVariants as x
 use Rattle.mos_typing.specs.Joining.{on_ok, both}
-use Rattle.mos_typing.proofs.Cases.{on_bool}
-use Rattle.mos_typing.specs.Spellings.{IsExpression, Made, TooHigh, Nothing, Says}
+use Rattle.mos_expr.specs.Said.{Made, TooHigh, Nothing, Says, Gives}
 
 pub says_nothing : {T : Type 0} (Is : T → ℕ → Type 0) → ((t : T) (h : ℕ) → Is t h → ⊥) → Says Is (Err x.NoExpr)
 unfolding Says
@@ -136,78 +130,3 @@ module _ {A B C : Type 0} (P : A → ℕ → Type 0) (R : B → ℕ → Type 0) 
   says_both (Err x.Deep) (Err x.NoMemory) k l = tt
   says_both (Err x.NoExpr) r k l = none_first k
   says_both (Err x.NoMemory) r k l = tt
-
--- ---- what is said, clause by clause
-
-pub said_found : {T : Type 0} (Is : T → ℕ → Type 0) (r : Result T ExprFault) → Says Is r → IfOk r (λ made. (high : ℕ) × Is made high × (high ≤ limit))
-unfolding Says
-said_found Is (Ok made) k = (k.high, k.is, k.low)
-said_found Is (Err fault) k = tt
-
-pub said_deep : {T : Type 0} (Is : T → ℕ → Type 0) (r : Result T ExprFault) → Says Is r → IsErrOf r x.Deep → (made : T) × (high : ℕ) × Is made high × (limit < high)
-unfolding Says
-said_deep Is (Ok made) k e = cc
-said_deep Is (Err x.Deep) k e = (k.made, k.high, k.is, k.above)
-said_deep Is (Err x.NoExpr) k e = cc
-said_deep Is (Err x.NoMemory) k e = cc
-
-pub said_only : {T : Type 0} (Is : T → ℕ → Type 0) (r : Result T ExprFault) → Says Is r → (t : T) (h : ℕ) → Is t h → Gives r (if nat_le h limit then Ok t else Err x.Deep)
-unfolding Says
-said_only Is (Ok made) k t h q =
-    let o : (t ≡ made) × (h ≤ limit) = k.only t h q in
-    let e : nat_le h limit ≡ true = le-leb h limit o.1 in
-    rw (e, o.0) refl
-said_only Is (Err x.Deep) k t h q =
-    on_bool (nat_le h limit)
-    (λ e. let low : h ≤ limit = leb-true h limit e in let high : limit < h = k.only t h q in absurd (omega arith))
-    (λ e. rw e refl)
-said_only Is (Err x.NoExpr) k t h q = absurd (k.none t h q)
-said_only Is (Err x.NoMemory) k t h q = tt
-
--- ---- what is said of an expression
-
-abbrev Answer : Result Expr ExprFault → Syntax → Type 0
-Answer r s = Gives r (answer s)
-
-ok_answer : (made : Expr) (s : Syntax) → Answer (Ok made) s → (tree s ≡ made) × (height s ≤ limit)
-ok_answer made s g = on_bool (nat_le (height s) limit)
-    (λ e. let p : Ok made ≡ Ok (tree s) = rw e at g in let q : made ≡ tree s = cc in (sym q, leb-true (height s) limit e))
-    (λ e. let p : Ok made ≡ Err x.Deep = rw e at g in cc)
-
-deep_answer : (s : Syntax) → Answer (Err x.Deep) s → limit < height s
-deep_answer s g = on_bool (nat_le (height s) limit)
-    (λ e. let p : Err x.Deep ≡ Ok (tree s) = rw e at g in cc)
-    (λ e. leb-false (height s) limit e)
-
-none_answer : (s : Syntax) → Answer (Err x.NoExpr) s → ⊥
-none_answer s g = on_bool (nat_le (height s) limit)
-    (λ e. let p : Err x.NoExpr ≡ Ok (tree s) = rw e at g in cc)
-    (λ e. let p : Err x.NoExpr ≡ Err x.Deep = rw e at g in cc)
-
-spelled : (words : List Word) (made : Expr) (h : ℕ) (k : IsExpression words made h) → IsSpelled words k.written
-spelled words made h k = record { grouped = k.grouped; exact = k.exact }
-
-expression : (words : List Word) (s : Syntax) → IsSpelled words s → IsExpression words (tree s) (height s)
-expression words s k = record { written = s; grouped = k.grouped; exact = k.exact; is = refl; high_is = refl }
-
-pub says_expression : (words : List Word) (r : Result Expr ExprFault) → IfOk r (IsTree words) → (IsErrOf r x.Deep → IsTooHigh words) → ((s : Syntax) → IsSpelled words s → Gives r (answer s)) → Says (IsExpression words) r
-unfolding Says
-says_expression words (Ok made) found deep only = record {
-  high = height found.0;
-  is = subst (λ z. IsExpression words z (height found.0)) (sym found.3) (expression words found.0 found.1);
-  low = found.2;
-  only = λ t h k.
-      let o : (tree k.written ≡ made) × (height k.written ≤ limit) = ok_answer made k.written (only k.written (spelled words t h k)) in
-      (k.is ∙ o.0, subst (λ z. z ≤ limit) (sym k.high_is) o.1);
-}
-says_expression words (Err x.Deep) found deep only =
-    let d : IsTooHigh words = deep refl in
-    record {
-      made = tree d.0;
-      high = height d.0;
-      is = expression words d.0 d.1;
-      above = d.2;
-      only = λ t h k. subst (λ z. limit < z) (sym k.high_is) (deep_answer k.written (only k.written (spelled words t h k)));
-    }
-says_expression words (Err x.NoExpr) found deep only = record { none = λ t h k. none_answer k.written (only k.written (spelled words t h k)) }
-says_expression words (Err x.NoMemory) found deep only = tt

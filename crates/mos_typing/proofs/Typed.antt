@@ -9,14 +9,14 @@ use Rattle.mos_tree.specs.declared.declaration.TypeForm.TheVariants as typ
 use Rattle.mos_scan.specs.declared.token.TokenKind.TheVariants as t
 use Rattle.mos_scan.specs.declared.reading.Word.{Word}
 use Rattle.mos_scan.specs.declared.reading.Word.TheVariants as w
-use Rattle.mos_expr.specs.Outcome.{Gives}
+use Rattle.mos_expr.specs.Said.{Gives, Says}
 use Rattle.mos_expr.specs.declared.fault.ExprFault.{ExprFault}
 use Rattle.mos_expr.specs.declared.fault.ExprFault.TheVariants as x
 use Rattle.mos_typing.specs.Typing.{Dims, Typing, of_base, a_range, a_set, a_list, an_array, base_words, dynamic_words, dims_words, typing_words, dimensions_of, type_of, tallest_type, TypeIsGrouped}
 use Rattle.mos_typing.specs.Joining.{on_ok, or_nothing}
 use Rattle.mos_typing.specs.Reader.{base_of, plain_type}
 use Rattle.mos_typing.specs.Shapes.{set_of, array_of}
-use Rattle.mos_typing.specs.Spellings.{AreDimensions, IsTypeForm, Says}
+use Rattle.mos_typing.specs.Spellings.{AreDimensions, IsTypeForm}
 use Rattle.mos_typing.proofs.Bases.{base_known, base_read, base_word, base_is}
 use Rattle.mos_typing.proofs.Cases.{some_same, none_some}
 use Rattle.mos_typing.proofs.Ended.{SameEnd, behind_same}

@@ -1,14 +1,17 @@
--- Where words are cut: at a comma outside brackets, and at a colon.
+-- As the code reads, apart from what the public clauses say: where words are cut: at a comma
+-- outside brackets, and at a colon.
 
-use Rattle.std.specs.Prelude.{ℕ, ◌+◌, ◌-◌, Bool, true, false, ◌&&◌, if◌then◌else◌, nat_eq, List, [], ◌∷◌, ◌++◌, Option, Some, None}
+use Rattle.std.specs.Prelude.{◌≡◌, ℕ, ◌+◌, ◌-◌, Bool, true, false, ◌&&◌, if◌then◌else◌, nat_eq, List, [], ◌∷◌, ◌++◌, Option, Some, None}
 use Rattle.mos_scan.specs.declared.token.TokenKind.TheVariants as t
 use Rattle.mos_scan.specs.declared.reading.Word.{Word}
 use Rattle.mos_scan.specs.declared.reading.Word.TheVariants as w
 
+-- the word is a comma
 abbrev pub is_comma : Word → Bool
 is_comma (w.Key t.Comma) = true
 is_comma _ = false
 
+-- the word is a colon
 abbrev pub is_colon : Word → Bool
 is_colon (w.Key t.Colon) = true
 is_colon _ = false
@@ -37,10 +40,18 @@ abbrev pub cut : ℕ → List Word → Halves
 cut depth [] = None
 cut depth (x ∷ xs) = if nat_eq depth 0 && is_comma x then Some ([], xs) else ahead (x ∷ []) (cut (depth_behind x depth) xs)
 
+-- these are the words before the first comma outside brackets, and behind it
+abbrev pub IsCommaCut : List Word → List Word → List Word → Type 0
+IsCommaCut words front behind = cut 0 words ≡ Some (front, behind)
+
 -- the cut at the first colon
 abbrev pub cut_at_colon : List Word → Halves
 cut_at_colon [] = None
 cut_at_colon (x ∷ xs) = if is_colon x then Some ([], xs) else ahead (x ∷ []) (cut_at_colon xs)
+
+-- these are the words before the first colon, and behind it
+abbrev pub IsColonCut : List Word → List Word → List Word → Type 0
+IsColonCut words front behind = cut_at_colon words ≡ Some (front, behind)
 
 -- names, a type, and what stands behind the comma behind it
 abbrev pub Group : Type 0
@@ -59,3 +70,7 @@ typed_cut (Some halves) = group_cut halves.0 (cut 0 halves.1)
 -- the first group of formals, None where no other stands behind it
 abbrev pub first_group : List Word → Option Group
 first_group words = typed_cut (cut_at_colon words)
+
+-- these are the names of the first group, its type, and what stands behind it
+abbrev pub IsFirstGroup : List Word → List Word → List Word → List Word → Type 0
+IsFirstGroup words names typ behind = first_group words ≡ Some (names, typ, behind)

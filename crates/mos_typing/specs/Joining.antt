@@ -1,4 +1,5 @@
--- What is said of a whole, from what is said of its parts: where one of them is nothing the whole is nothing, else
+-- As the code reads, apart from what the public clauses say: what is said of a whole, from what is
+-- said of its parts: where one of them is nothing the whole is nothing, else
 -- where one is too high the whole is.
 
 use Rattle.std.specs.Prelude.{List, [], ◌∷◌, ◌++◌, Option, Some, None, Result, Ok, Err}
@@ -14,6 +15,10 @@ on_ok f (Err fault) = Err fault
 abbrev pub or_nothing : {A : Type 0} → Option A → Result A ExprFault
 or_nothing None = Err x.NoExpr
 or_nothing (Some made) = Ok made
+
+-- two parts side by side
+abbrev pub pair : {A B : Type 0} → A → B → A × B
+pair first rest = (first, rest)
 
 -- a whole of two parts
 abbrev pub both : {A B C : Type 0} → (A → B → C) → Result A ExprFault → Result B ExprFault → Result C ExprFault
@@ -35,3 +40,8 @@ alone made = made ∷ []
 -- an item, and the others
 abbrev pub first_of : {A : Type 0} → A → List A → List A
 first_of made more = made ∷ more
+
+-- two parts of which the first is too high
+abbrev pub beside_too_high : {A B : Type 0} → Result B ExprFault → Result (A × B) ExprFault
+beside_too_high (Ok rest) = Err x.Deep
+beside_too_high (Err fault) = Err fault

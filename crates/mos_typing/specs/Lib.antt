@@ -1,9 +1,8 @@
 pub mod Cutting
 pub mod Joining
-pub mod Laws
-pub mod Outcome
 pub mod Reader
 pub mod Shapes
+pub mod Sizes
 pub mod Spellings
 pub mod Typing
 pub mod Words

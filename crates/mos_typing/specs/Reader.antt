@@ -1,4 +1,5 @@
--- What words come to, as functions: the first reading, which the code follows.
+-- As the code reads, apart from what the public clauses say: what words come to, as functions: the
+-- first reading, which the code follows.
 
 use Rattle.std.specs.Prelude.{ℕ, List, [], ◌∷◌, ◌++◌, Option, Some, None, Result, Ok, Err}
 use Rattle.mos_tree.specs.declared.declaration.BaseType.{BaseType}

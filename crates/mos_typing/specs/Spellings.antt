@@ -1,36 +1,29 @@
--- What is said of words: what they spell and how high it is, that it is too high, or that they spell nothing.
+-- What words spell here: dimensions, types and formals, each with its tree and its height.
 
-use Rattle.std.specs.Prelude.{◌≡◌, ℕ, ◌<◌, ◌≤◌, List, [], ◌∷◌, Result, Ok, Err}
-use Rattle.mos_tree.specs.declared.expr.Expr.{Expr}
+use Rattle.std.specs.Prelude.{◌≡◌, ℕ, max, List, [], ◌∷◌, Option, Some, None}
+use Rattle.mos_tree.specs.declared.declaration.BaseType.{BaseType}
 use Rattle.mos_tree.specs.declared.declaration.Dimension.{Dimension}
 use Rattle.mos_tree.specs.declared.declaration.TypeForm.{TypeForm}
 use Rattle.mos_tree.specs.declared.declaration.FormalGroup.{FormalGroup}
 use Rattle.mos_scan.specs.declared.reading.Word.{Word}
-use Rattle.mos_expr.specs.Grammar.{Names, spell_names, list_of_names, IsGrouped, spell, tree, height, limit}
-use Rattle.mos_expr.specs.declared.fault.ExprFault.{ExprFault}
-use Rattle.mos_expr.specs.declared.fault.ExprFault.TheVariants as x
+use Rattle.mos_expr.specs.Grammar.{Names, spell_names, list_of_names}
+use Rattle.mos_expr.specs.Said.{Spelled, IsExpression, AreSomeExpressions}
+use Rattle.mos_tree.specs.declared.expr.Expr.{Expr}
 use Rattle.mos_typing.specs.Typing
 
--- the words spell what has this tree and is so high
-pub record Spelled {S T : Type 0} (Grouped : S → Type 0) (words_of : S → List Word) (tree_of : S → T) (height_of : S → ℕ) (words : List Word) (made : T) (high : ℕ) : Type 0 where
-  pub written : S
-  pub grouped : Grouped written
-  pub exact : words ≡ words_of written
-  pub is : made ≡ tree_of written
-  pub high_is : high ≡ height_of written
-
-abbrev pub IsExpression : List Word → Expr → ℕ → Type 0
-IsExpression = Spelled IsGrouped spell tree height
-
+-- one index of an array
 abbrev pub IsDimension : List Word → Dimension → ℕ → Type 0
 IsDimension = Spelled Typing.DimIsGrouped Typing.dim_words Typing.dimension_of Typing.tallest_dim
 
+-- the indexes of an array, with commas between them
 abbrev pub AreDimensions : List Word → List Dimension → ℕ → Type 0
 AreDimensions = Spelled Typing.DimsAreGrouped Typing.dims_words Typing.dimensions_of Typing.tallest_dims
 
+-- a type
 abbrev pub IsTypeForm : List Word → TypeForm → ℕ → Type 0
 IsTypeForm = Spelled Typing.TypeIsGrouped Typing.typing_words Typing.type_of Typing.tallest_type
 
+-- groups of formals, without brackets
 abbrev pub AreGroups : List Word → List FormalGroup → ℕ → Type 0
 AreGroups = Spelled Typing.GroupsAreGrouped Typing.group_words Typing.groups_of Typing.tallest_groups
 
@@ -44,34 +37,32 @@ pub record IsGroup (names typ : List Word) (made : FormalGroup) (high : ℕ) : T
   pub is : made ≡ record { names = list_of_names listed; typ = Typing.type_of typing }
   pub high_is : high ≡ Typing.tallest_type typing
 
+-- the last group of formals
 abbrev pub IsOnlyGroup : List Word → FormalGroup → ℕ → Type 0
 IsOnlyGroup words made high = AreGroups words (made ∷ []) high
 
+-- formals with their brackets, or none
 abbrev pub AreFormalGroups : List Word → List FormalGroup → ℕ → Type 0
 AreFormalGroups = Spelled Typing.FormalsAreGrouped Typing.formal_words Typing.formals_of Typing.tallest_formals
 
--- this, which is not too high, and nothing else
-pub record Made {T : Type 0} (Is : T → ℕ → Type 0) (made : T) : Type 0 where
-  pub high : ℕ
-  pub is : Is made high
-  pub low : high ≤ limit
-  pub only : (other : T) (so_high : ℕ) → Is other so_high → (other ≡ made) × (so_high ≤ limit)
+-- what two lists of words spell, side by side
+pub record AreBoth {A B : Type 0} (First : A → ℕ → Type 0) (Rest : B → ℕ → Type 0) (made : A × B) (high : ℕ) : Type 0 where
+  pub first_high : ℕ
+  pub rest_high : ℕ
+  pub first_is : First made.0 first_high
+  pub rest_is : Rest made.1 rest_high
+  pub high_is : high ≡ max first_high rest_high
 
--- something too high, and nothing else
-pub record TooHigh {T : Type 0} (Is : T → ℕ → Type 0) : Type 0 where
-  pub made : T
-  pub high : ℕ
-  pub is : Is made high
-  pub above : limit < high
-  pub only : (other : T) (so_high : ℕ) → Is other so_high → limit < so_high
+-- indexes, at least one, and a value
+abbrev pub AreIndexesAndValue : List Word → List Word → List Expr × Expr → ℕ → Type 0
+AreIndexesAndValue indexes value = AreBoth (AreSomeExpressions indexes) (IsExpression value)
 
--- nothing
-pub record Nothing {T : Type 0} (Is : T → ℕ → Type 0) : Type 0 where
-  pub none : (other : T) (so_high : ℕ) → Is other so_high → ⊥
+-- the names that the words are, with commas between them, or that they are none
+abbrev pub FindsNames : List Word → Option (List (List ℕ)) → Type 0
+FindsNames words None = (ns : Names) → words ≡ spell_names ns → ⊥
+FindsNames words (Some all) = (ns : Names) × (words ≡ spell_names ns) × (all ≡ list_of_names ns)
 
--- what a result says, where `Is` says what the words spell and how high it is
-unfoldable pub Says : {T : Type 0} → (T → ℕ → Type 0) → Result T ExprFault → Type 0
-Says Is (Ok made) = Made Is made
-Says Is (Err x.Deep) = TooHigh Is
-Says Is (Err x.NoExpr) = Nothing Is
-Says Is (Err x.NoMemory) = Unit {0}
+-- the type that the word is alone, or that it is none
+abbrev pub FindsBase : Word → Option BaseType → Type 0
+FindsBase word None = (b : BaseType) → Typing.base_words b ≡ word ∷ [] → ⊥
+FindsBase word (Some b) = Typing.base_words b ≡ word ∷ []

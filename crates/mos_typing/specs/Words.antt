@@ -24,6 +24,7 @@ parts_pieces t.From = true
 parts_pieces t.To = true
 parts_pieces _ = false
 
+-- any other word
 abbrev pub is_plain : Word → Bool
 is_plain (w.Key kind) = if parts_pieces kind then false else true
 is_plain _ = true
@@ -32,11 +33,14 @@ is_plain _ = true
 abbrev pub ArePlain : List Word → Type 0
 ArePlain words = list_all is_plain words ≡ true
 
+-- the words of each expression are plain
 abbrev pub SyntaxIsPlain : Type 0
 SyntaxIsPlain = (s : Syntax) → ArePlain (spell s)
 
+-- and those of expressions with commas between them
 abbrev pub ListIsPlain : Type 0
 ListIsPlain = (ss : Written) → ArePlain (spell_list ss)
 
+-- and those of an index
 abbrev pub IndexIsPlain : Type 0
 IndexIsPlain = (i : Over) → ArePlain (spell_over i)

@@ -1,8 +1,7 @@
 //! Types of one word.
-ghost use Rattle.std.specs.Prelude.{◌≡◌, List, [], ◌∷◌, IfOk, MatchOption};
-ghost use Rattle.mos_tree.specs.declared.declaration.BaseType.{BaseType as Base};
-ghost use Rattle.mos_expr.specs.Outcome.{Gives};
-ghost use Rattle.mos_typing.specs.Typing.{base_words};
+ghost use Rattle.std.specs.Prelude.{◌≡◌, IfOk};
+ghost use Rattle.mos_expr.specs.Said.{Gives};
+ghost use Rattle.mos_typing.specs.Spellings.{FindsBase};
 ghost use Rattle.mos_typing.specs.Joining.{or_nothing};
 ghost use Rattle.mos_typing.specs.Reader.{base_of};
 
@@ -34,7 +33,7 @@ pub(crate) fn base_form(alloc: Global, word: &Word) -> Result<BaseType, ExprFaul
 
 /// The type that the word is, if it is one that can be a member, a cell, a field or a result.
 pub fn base_type(alloc: Global, word: &Word) -> Result<Option<BaseType>, NoMemory>
-    ensures { IfOk result (λ found. MatchOption found ((b : Base) → base_words b ≡ word.now ∷ [] → ⊥) (λ b. base_words b ≡ word.now ∷ [])) }
+    ensures { IfOk result (FindsBase word.now) }
 {
     base_of_word(alloc, word)
 }

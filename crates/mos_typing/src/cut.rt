@@ -1,5 +1,5 @@
 //! Where words are cut: at commas outside brackets, and at colons.
-ghost use Rattle.std.specs.Prelude.{◌≡◌, ◌+◌, ◌<◌, ◌^◌, None, Some, MatchOption, length};
+ghost use Rattle.std.specs.Prelude.{◌≡◌, ◌+◌, ◌<◌, ◌^◌, None, MatchOption, length};
 ghost use Rattle.mos_typing.specs.Cutting as cutting;
 
 use mos_scan::{TokenKind, Word};
@@ -26,7 +26,7 @@ fn depth_behind(word: &Word, depth: usize) -> usize
 
 /// The words before the first comma outside brackets, and those behind it.
 pub(crate) fn cut_at_comma(words: &[Word]) -> Option<(&[Word], &[Word])>
-    ensures value { MatchOption result (cutting.cut 0 words.now ≡ None) (λ parts. cutting.cut 0 words.now ≡ Some (parts.0.now, parts.1.now)) }
+    ensures value { MatchOption result (cutting.cut 0 words.now ≡ None) (λ parts. cutting.IsCommaCut words.now parts.0.now parts.1.now) }
     ensures shorter { MatchOption result (Unit {0}) (λ parts. length parts.1.now < length words.now) }
 {
     let mut at: usize = 0;
@@ -52,7 +52,7 @@ fn is_colon(word: &Word) -> bool
 
 /// The words before the first colon, and those behind it.
 pub(crate) fn cut_at_colon(words: &[Word]) -> Option<(&[Word], &[Word])>
-    ensures value { MatchOption result (cutting.cut_at_colon words.now ≡ None) (λ parts. cutting.cut_at_colon words.now ≡ Some (parts.0.now, parts.1.now)) }
+    ensures value { MatchOption result (cutting.cut_at_colon words.now ≡ None) (λ parts. cutting.IsColonCut words.now parts.0.now parts.1.now) }
     ensures shorter { MatchOption result (Unit {0}) (λ parts. length parts.1.now < length words.now) }
 {
     let mut at: usize = 0;

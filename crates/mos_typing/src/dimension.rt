@@ -2,6 +2,7 @@
 ghost use Rattle.std.specs.Prelude.{◌≡◌};
 ghost use Rattle.mos_tree.specs.declared.declaration.Dimension.TheVariants as dimension;
 ghost use Rattle.mos_typing.specs.Joining as joining;
+ghost use Rattle.mos_expr.specs.Said.{Says};
 ghost use Rattle.mos_typing.specs.Spellings as spelling;
 
 use crate::base::base_form;
@@ -17,18 +18,24 @@ use std::alloc::Global;
 fn set_dimension(base: Result<BaseType, ExprFault>) -> Result<Dimension, ExprFault>
     ensures { result ≡ joining.on_ok dimension.Set base }
 {
-    Ok(Dimension::Set(base?))
+    match base {
+        Ok(base) => Ok(Dimension::Set(base)),
+        Err(fault) => Err(fault),
+    }
 }
 
 fn index_set(set: Result<Expr, ExprFault>) -> Result<Dimension, ExprFault>
     ensures { result ≡ joining.on_ok dimension.Over set }
 {
-    Ok(Dimension::Over(set?))
+    match set {
+        Ok(set) => Ok(Dimension::Over(set)),
+        Err(fault) => Err(fault),
+    }
 }
 
 /// What stands for one index.
 fn dimension(alloc: Global, words: &[Word]) -> Result<Dimension, ExprFault>
-    ensures { spelling.Says (spelling.IsDimension words.now) result }
+    ensures { Says (spelling.IsDimension words.now) result }
 {
     if is_range(words) {
         return Ok(Dimension::Range);
@@ -41,7 +48,7 @@ fn dimension(alloc: Global, words: &[Word]) -> Result<Dimension, ExprFault>
 
 /// What stands for the indexes of an array, with commas between them.
 pub(crate) fn dimensions(alloc: Global, words: &[Word]) -> Result<Items<Dimension>, ExprFault>
-    ensures { spelling.Says (spelling.AreDimensions words.now) result }
+    ensures { Says (spelling.AreDimensions words.now) result }
 {
     let mut done = Some(Items::new(alloc));
     let mut rest = words;

@@ -1,9 +1,10 @@
 //! Formals.
-ghost use Rattle.std.specs.Prelude.{◌≡◌, None, Some, MatchOption, length, ◌<◌};
+ghost use Rattle.std.specs.Prelude.{◌≡◌, None, MatchOption, length, ◌<◌};
 ghost use Rattle.mos_typing.specs.Typing as typing;
 ghost use Rattle.mos_typing.specs.Cutting as cutting;
 ghost use Rattle.mos_typing.specs.Joining as joining;
 ghost use Rattle.mos_typing.specs.Reader as reads;
+ghost use Rattle.mos_expr.specs.Said.{Says};
 ghost use Rattle.mos_typing.specs.Spellings as spelling;
 
 use crate::cut::{cut_at_colon, cut_at_comma};
@@ -13,20 +14,29 @@ use crate::shape::in_brackets;
 use crate::types::type_of_words;
 use mos_expr::ExprFault;
 use mos_scan::Word;
-use mos_text::Text;
+use mos_text::{SourceText, let_go};
 use mos_tree::{FormalGroup, TypeForm};
 use sqlite_items::Items;
 use std::alloc::Global;
 
-fn group_of(names: Items<Text>, typ: Result<TypeForm, ExprFault>) -> Result<FormalGroup, ExprFault>
+fn group_of(
+    names: Items<SourceText>,
+    typ: Result<TypeForm, ExprFault>,
+) -> Result<FormalGroup, ExprFault>
     ensures { result ≡ joining.on_ok (reads.group_of names) typ }
 {
-    Ok(FormalGroup { names, typ: typ? })
+    match typ {
+        Ok(typ) => Ok(FormalGroup { names, typ }),
+        Err(fault) => {
+            let_go(names);
+            Err(fault)
+        }
+    }
 }
 
 /// Formals of one type: their names, and their type.
 fn group(alloc: Global, names: &[Word], typ: &[Word]) -> Result<FormalGroup, ExprFault>
-    ensures { spelling.Says (spelling.IsGroup names.now typ.now) result }
+    ensures { Says (spelling.IsGroup names.now typ.now) result }
 {
     match names_of_words(alloc, names)? {
         None => Err(ExprFault::NoExpr),
@@ -36,7 +46,7 @@ fn group(alloc: Global, names: &[Word], typ: &[Word]) -> Result<FormalGroup, Exp
 
 /// The names of the first group, its type, and what stands behind the comma behind it.
 fn first_group(words: &[Word]) -> Option<(&[Word], &[Word], &[Word])>
-    ensures value { MatchOption result (cutting.first_group words.now ≡ None) (λ parts. cutting.first_group words.now ≡ Some (parts.0.now, parts.1.now, parts.2.now)) }
+    ensures value { MatchOption result (cutting.first_group words.now ≡ None) (λ parts. cutting.IsFirstGroup words.now parts.0.now parts.1.now parts.2.now) }
     ensures shorter { MatchOption result (Unit {0}) (λ parts. length parts.2.now < length words.now) }
 {
     let Some((names, typed)) = cut_at_colon(words) else {
@@ -50,7 +60,7 @@ fn first_group(words: &[Word]) -> Option<(&[Word], &[Word], &[Word])>
 
 /// A group behind which no other stands.
 fn last_group(alloc: Global, words: &[Word]) -> Result<FormalGroup, ExprFault>
-    ensures { spelling.Says (spelling.IsOnlyGroup words.now) result }
+    ensures { Says (spelling.IsOnlyGroup words.now) result }
 {
     match cut_at_colon(words) {
         None => Err(ExprFault::NoExpr),
@@ -60,7 +70,7 @@ fn last_group(alloc: Global, words: &[Word]) -> Result<FormalGroup, ExprFault>
 
 /// Formals, with a comma behind each group but the last.
 fn groups(alloc: Global, words: &[Word]) -> Result<Items<FormalGroup>, ExprFault>
-    ensures { spelling.Says (spelling.AreGroups words.now) result }
+    ensures { Says (spelling.AreGroups words.now) result }
 {
     let mut done = Some(Items::new(alloc));
     let mut rest = words;
@@ -73,7 +83,7 @@ fn groups(alloc: Global, words: &[Word]) -> Result<Items<FormalGroup>, ExprFault
 
 /// What stands in the brackets of formals.
 fn bracketed(alloc: Global, inside: &[Word]) -> Result<Items<FormalGroup>, ExprFault>
-    ensures { spelling.Says (spelling.AreFormalGroups (typing.in_brackets inside.now)) result }
+    ensures { Says (spelling.AreFormalGroups (typing.in_brackets inside.now)) result }
 {
     if inside.is_empty() {
         Ok(Items::new(alloc))
@@ -87,7 +97,7 @@ pub(crate) fn formals_of_words(
     alloc: Global,
     words: &[Word],
 ) -> Result<Items<FormalGroup>, ExprFault>
-    ensures { spelling.Says (spelling.AreFormalGroups words.now) result }
+    ensures { Says (spelling.AreFormalGroups words.now) result }
 {
     if words.is_empty() {
         return Ok(Items::new(alloc));

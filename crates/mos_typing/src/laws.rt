@@ -1,8 +1,8 @@
 //! Laws of words, as contracts of calls that do nothing.
-ghost use Rattle.mos_typing.specs.Laws.{BaseHasItsTexts, TypeHasItsTexts, FormalsHaveTheirTexts};
+ghost use Rattle.mos_typing.specs.Sizes.{TypeIsSmall, FormalsAreSmall};
 ghost use Rattle.mos_typing.specs.Words.{SyntaxIsPlain, ListIsPlain, IndexIsPlain};
 
-use mos_expr::trees_have_their_texts;
+use mos_expr::trees_are_small;
 
 /// No word that parts a piece stands in an expression, in expressions with commas between them, or in
 /// an index.
@@ -12,11 +12,10 @@ pub fn expressions_have_plain_words()
     ensures index { IndexIsPlain }
 {}
 
-/// The names of types and formals are those of the words that spell them, in order.
-pub fn types_have_their_texts()
-    ensures base { BaseHasItsTexts }
-    ensures type_form { TypeHasItsTexts }
-    ensures formals { FormalsHaveTheirTexts }
+/// The expressions in a type, and in formals, have no more nodes than the words are many.
+pub fn types_are_small()
+    ensures type_form { TypeIsSmall }
+    ensures formals { FormalsAreSmall }
 {
-    trees_have_their_texts();
+    trees_are_small();
 }

@@ -10,11 +10,10 @@ mod name;
 mod reading;
 mod said;
 mod shape;
+mod sides;
 mod types;
 
 pub use base::base_type;
-pub use laws::{expressions_have_plain_words, types_have_their_texts};
+pub use laws::{expressions_have_plain_words, types_are_small};
 pub use reading::{formals, names, type_form};
-
-#[cfg(test)]
-mod tests;
+pub use sides::indexes_and_value;

@@ -5,8 +5,9 @@ ghost use Rattle.mos_scan.specs.declared.reading.Word.{Word as WordType};
 ghost use Rattle.mos_scan.specs.declared.reading.Word.TheVariants as w;
 ghost use Rattle.mos_typing.specs.Reader.{names_of};
 
+use mos_expr::with_name;
 use mos_scan::{TokenKind, Word};
-use mos_text::{NoMemory, Text};
+use mos_text::{NoMemory, SourceText, let_go};
 use sqlite_items::Items;
 use std::alloc::Global;
 
@@ -21,20 +22,30 @@ fn behind_comma(words: &[Word]) -> Option<&[Word]>
 }
 
 /// The names that the words are.
-pub(crate) fn names_of_words(alloc: Global, words: &[Word]) -> Result<Option<Items<Text>>, NoMemory>
+pub(crate) fn names_of_words(
+    alloc: Global,
+    words: &[Word],
+) -> Result<Option<Items<SourceText>>, NoMemory>
     ensures { IfOk result (λ all. all ≡ names_of words.now) }
 {
     let mut found = Items::new(alloc);
     let mut rest = words;
     while let [Word::Name(name), after @ ..] = rest {
-        found.push(name.copy(alloc)?)?;
+        match with_name(alloc, found, name) {
+            Ok(more) => found = more,
+            Err(refused) => return Err(refused),
+        }
         if after.is_empty() {
             return Ok(Some(found));
         }
         match behind_comma(after) {
             Some(more) => rest = more,
-            None => return Ok(None),
+            None => {
+                let_go(found);
+                return Ok(None);
+            }
         }
     }
+    let_go(found);
     Ok(None)
 }

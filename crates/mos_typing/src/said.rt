@@ -1,24 +1,26 @@
 //! Items that are read one by one, of which some may be too high.
 ghost use Rattle.std.specs.Prelude.{◌≡◌, List, Result, Err, IfOk, IsErrOf};
-ghost use Rattle.mos_expr.specs.Outcome.{Gives};
+ghost use Rattle.mos_expr.specs.Said.{Gives};
 ghost use Rattle.mos_expr.specs.declared.fault.ExprFault.{ExprFault as Fault};
 ghost use Rattle.mos_expr.specs.declared.fault.ExprFault.TheVariants as fault;
 ghost use Rattle.mos_typing.specs.Joining as joining;
 
-use mos_expr::ExprFault;
-use mos_text::NoMemory;
+use mos_expr::{ExprFault, with_item};
+use mos_text::{NoMemory, let_go};
 use sqlite_items::Items;
 
 fn pushed<T: Drop>(done: Option<Items<T>>, item: T) -> Result<Option<Items<T>>, NoMemory>
     ensures { IfOk result (λ next. (q : Result (List T) Fault) → joining.behind next q ≡ joining.behind done (joining.on_ok (joining.first_of item) q)) }
 {
     match done {
-        None => Ok(None),
-        Some(items) => {
-            let mut items = items;
-            items.push(item)?;
-            Ok(Some(items))
+        None => {
+            let_go(item);
+            Ok(None)
         }
+        Some(items) => match with_item(items, item) {
+            Ok(items) => Ok(Some(items)),
+            Err(refused) => Err(refused),
+        },
     }
 }
 
@@ -33,8 +35,14 @@ pub(crate) fn with<T: Drop>(
 {
     match read {
         Ok(item) => Ok(pushed(done, item)?),
-        Err(ExprFault::Deep) => Ok(None),
-        Err(fault) => Err(fault),
+        Err(ExprFault::Deep) => {
+            let_go(done);
+            Ok(None)
+        }
+        Err(fault) => {
+            let_go(done);
+            Err(fault)
+        }
     }
 }
 

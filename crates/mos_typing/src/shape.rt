@@ -1,8 +1,5 @@
 //! How words of types and formals are put together.
-ghost use Rattle.std.specs.Prelude.{◌≡◌, List, [], ◌∷◌, ◌++◌, MatchOption};
-ghost use Rattle.mos_scan.specs.declared.token.TokenKind.TheVariants as t;
-ghost use Rattle.mos_scan.specs.declared.reading.Word.{Word as WordType};
-ghost use Rattle.mos_scan.specs.declared.reading.Word.TheVariants as w;
+ghost use Rattle.std.specs.Prelude.{◌≡◌, MatchOption};
 ghost use Rattle.mos_typing.specs.Shapes as shapes;
 ghost use Rattle.mos_typing.specs.Typing as typing;
 
@@ -17,7 +14,7 @@ pub(crate) fn is_range(words: &[Word]) -> bool
 
 /// What stands behind `set of`, if it is one word.
 pub(crate) fn set_member(words: &[Word]) -> Option<&Word>
-    ensures { MatchOption result ((b : WordType) → words.now ≡ shapes.set_of b → ⊥) (λ b. words.now ≡ shapes.set_of b.now) }
+    ensures { MatchOption result (shapes.AreNo shapes.set_of words.now) (λ b. words.now ≡ shapes.set_of b.now) }
 {
     match words {
         [Word::Key(TokenKind::Set), Word::Key(TokenKind::Of), base] => Some(base),
@@ -27,7 +24,7 @@ pub(crate) fn set_member(words: &[Word]) -> Option<&Word>
 
 /// What stands behind the word `dynamic`.
 pub(crate) fn behind_dynamic(words: &[Word]) -> Option<&[Word]>
-    ensures { MatchOption result ((rest : List WordType) → words.now ≡ w.Key t.Dynamic ∷ rest → ⊥) (λ rest. words.now ≡ w.Key t.Dynamic ∷ rest.now) }
+    ensures { MatchOption result (shapes.AreNo shapes.dynamic_of words.now) (λ rest. words.now ≡ shapes.dynamic_of rest.now) }
 {
     match words {
         [Word::Key(TokenKind::Dynamic), rest @ ..] => Some(rest),
@@ -37,7 +34,7 @@ pub(crate) fn behind_dynamic(words: &[Word]) -> Option<&[Word]>
 
 /// What stands behind `array(`.
 fn behind_array(words: &[Word]) -> Option<&[Word]>
-    ensures { MatchOption result ((rest : List WordType) → words.now ≡ w.Key t.Array ∷ w.Key t.OpenRound ∷ rest → ⊥) (λ rest. words.now ≡ w.Key t.Array ∷ w.Key t.OpenRound ∷ rest.now) }
+    ensures { MatchOption result (shapes.AreNo shapes.array_with words.now) (λ rest. words.now ≡ shapes.array_with rest.now) }
 {
     match words {
         [
@@ -51,7 +48,7 @@ fn behind_array(words: &[Word]) -> Option<&[Word]>
 
 /// What stands before the last word but one, which is `of`, and the last word.
 fn before_of(words: &[Word]) -> Option<(&[Word], &Word)>
-    ensures { MatchOption result ((front : List WordType) (b : WordType) → words.now ≡ front ++ w.Key t.Of ∷ b ∷ [] → ⊥) (λ parts. words.now ≡ parts.0.now ++ w.Key t.Of ∷ parts.1.now ∷ []) }
+    ensures { MatchOption result (shapes.AreNoPair shapes.with_cells words.now) (λ parts. words.now ≡ shapes.with_cells parts.0.now parts.1.now) }
 {
     match words {
         [front @ .., Word::Key(TokenKind::Of), base] => Some((front, base)),
@@ -61,7 +58,7 @@ fn before_of(words: &[Word]) -> Option<(&[Word], &Word)>
 
 /// What stands before the bracket that closes it.
 fn before_close(words: &[Word]) -> Option<&[Word]>
-    ensures { MatchOption result ((inside : List WordType) → words.now ≡ inside ++ w.Key t.CloseRound ∷ [] → ⊥) (λ inside. words.now ≡ inside.now ++ w.Key t.CloseRound ∷ []) }
+    ensures { MatchOption result (shapes.AreNo shapes.with_close words.now) (λ inside. words.now ≡ shapes.with_close inside.now) }
 {
     match words {
         [inside @ .., Word::Key(TokenKind::CloseRound)] => Some(inside),
@@ -71,7 +68,7 @@ fn before_close(words: &[Word]) -> Option<&[Word]>
 
 /// What stands in the brackets of an array, and the word of its cells.
 pub(crate) fn array_parts(words: &[Word]) -> Option<(&[Word], &Word)>
-    ensures { MatchOption result ((ds : List WordType) (b : WordType) → words.now ≡ shapes.array_of ds b → ⊥) (λ parts. words.now ≡ shapes.array_of parts.0.now parts.1.now) }
+    ensures { MatchOption result (shapes.AreNoPair shapes.array_of words.now) (λ parts. words.now ≡ shapes.array_of parts.0.now parts.1.now) }
 {
     let Some(rest) = behind_array(words) else {
         return None;
@@ -87,7 +84,7 @@ pub(crate) fn array_parts(words: &[Word]) -> Option<(&[Word], &Word)>
 
 /// What stands in brackets round all the words.
 pub(crate) fn in_brackets(words: &[Word]) -> Option<&[Word]>
-    ensures { MatchOption result ((inside : List WordType) → words.now ≡ typing.in_brackets inside → ⊥) (λ inside. words.now ≡ typing.in_brackets inside.now) }
+    ensures { MatchOption result (shapes.AreNo typing.in_brackets words.now) (λ inside. words.now ≡ typing.in_brackets inside.now) }
 {
     match words {
         [Word::Key(TokenKind::OpenRound), rest @ ..] => before_close(rest),

@@ -4,7 +4,7 @@ ghost use Rattle.mos_scan.specs.declared.token.TokenKind.TheVariants as t;
 ghost use Rattle.mos_scan.specs.declared.reading.Word.{Word as WordType};
 ghost use Rattle.mos_scan.specs.declared.reading.Word.TheVariants as w;
 ghost use Rattle.mos_tree.specs.declared.declaration.TypeForm.TheVariants as typ;
-ghost use Rattle.mos_expr.specs.Outcome.{Gives};
+ghost use Rattle.mos_expr.specs.Said.{Gives, Says};
 ghost use Rattle.mos_typing.specs.Typing as typing;
 ghost use Rattle.mos_typing.specs.Joining as joining;
 ghost use Rattle.mos_typing.specs.Reader as reads;
@@ -16,6 +16,7 @@ use crate::dimension::dimensions;
 use crate::shape::{array_parts, behind_dynamic};
 use mos_expr::ExprFault;
 use mos_scan::{TokenKind, Word};
+use mos_text::let_go;
 use mos_tree::{BaseType, Dimension, TypeForm};
 use sqlite_items::Items;
 use std::alloc::Global;
@@ -44,11 +45,17 @@ fn array_over(
 ) -> Result<TypeForm, ExprFault>
     ensures { result ≡ joining.on_ok (λ made. typ.Array dynamic made cell) dimensions }
 {
-    Ok(TypeForm::Array {
-        dynamic,
-        dimensions: dimensions?,
-        cell,
-    })
+    match dimensions {
+        Ok(dimensions) => Ok(TypeForm::Array {
+            dynamic,
+            dimensions,
+            cell,
+        }),
+        Err(fault) => {
+            let_go(cell);
+            Err(fault)
+        }
+    }
 }
 
 /// An array, from what stands in its brackets and the word of its cells.
@@ -58,7 +65,7 @@ fn array_type(
     indexes: &[Word],
     cell: &Word,
 ) -> Result<TypeForm, ExprFault>
-    ensures { spelling.Says (spelling.IsTypeForm (typing.dynamic_words dynamic ++ shapes.array_of indexes.now cell.now)) result }
+    ensures { Says (spelling.IsTypeForm (typing.dynamic_words dynamic ++ shapes.array_of indexes.now cell.now)) result }
 {
     match base_of_word(alloc, cell)? {
         None => Err(ExprFault::NoExpr),
@@ -68,7 +75,7 @@ fn array_type(
 
 /// What stands behind the word `dynamic`.
 fn dynamic_type(alloc: Global, words: &[Word]) -> Result<TypeForm, ExprFault>
-    ensures { spelling.Says (spelling.IsTypeForm (w.Key t.Dynamic ∷ words.now)) result }
+    ensures { Says (spelling.IsTypeForm (w.Key t.Dynamic ∷ words.now)) result }
 {
     match array_parts(words) {
         Some((indexes, cell)) => array_type(alloc, true, indexes, cell),
@@ -78,7 +85,7 @@ fn dynamic_type(alloc: Global, words: &[Word]) -> Result<TypeForm, ExprFault>
 
 /// A type without the word `dynamic`.
 fn static_type(alloc: Global, words: &[Word]) -> Result<TypeForm, ExprFault>
-    ensures { ((rest : List WordType) → words.now ≡ w.Key t.Dynamic ∷ rest → ⊥) → spelling.Says (spelling.IsTypeForm words.now) result }
+    ensures { ((rest : List WordType) → words.now ≡ w.Key t.Dynamic ∷ rest → ⊥) → Says (spelling.IsTypeForm words.now) result }
 {
     match array_parts(words) {
         Some((indexes, cell)) => array_type(alloc, false, indexes, cell),
@@ -88,7 +95,7 @@ fn static_type(alloc: Global, words: &[Word]) -> Result<TypeForm, ExprFault>
 
 /// The type that the words are.
 pub(crate) fn type_of_words(alloc: Global, words: &[Word]) -> Result<TypeForm, ExprFault>
-    ensures { spelling.Says (spelling.IsTypeForm words.now) result }
+    ensures { Says (spelling.IsTypeForm words.now) result }
 {
     match behind_dynamic(words) {
         Some(rest) => dynamic_type(alloc, rest),

@@ -6,11 +6,11 @@ use Rattle.mos_words.specs.declared.words.commands.WordFault.{WordFault}
 use Rattle.std.proofs.lemmas.Bool.{leb-true}
 use Rattle.std.specs.Prelude.{if◌then◌else◌, slice_index_or}
 use Rattle.std.specs.List.{list_all}
-use Rattle.mos_text.specs.FileName.{is_file_name}
+use Rattle.mos_text.specs.FileName.{is_file_name, is_source_name}
 use Rattle.mos_words.specs.declared.words.commands.Command.{Command}
 use Rattle.mos_words.specs.declared.words.options.OptionName.{OptionName}
 use Rattle.mos_words.specs.declared.words.options.OptionName.TheVariants.{Lanes, Budget}
-use Rattle.mos_words.specs.Words.{Word, row_of, run_options, values, is_number, number_of, is_value, setting_of, files, is_source_name, breaks_words, breaks_options, breaks_files, run_command}
+use Rattle.mos_words.specs.CommandLine.{Word, row_of, run_options, values, is_number, number_of, is_value, setting_of, files, breaks_words, breaks_options, breaks_files, run_command}
 use Rattle.mos_words.specs.Fit.{IsFit}
 
 chosen : (b : Bool) (x y : Command) → (if b then None else Some x) ≡ Some y → (b ≡ false) × (x ≡ y)

@@ -1,10 +1,9 @@
 -- What every command keeps.
 
 use Rattle.std.specs.Prelude.{◌≡◌, ◌≤◌, true}
-use Rattle.mos_text.specs.FileName.{is_file_name}
+use Rattle.mos_text.specs.FileName.{is_file_name, is_source_name}
 use Rattle.mos_words.specs.declared.words.commands.Command.{Command}
 use Rattle.mos_words.specs.declared.words.commands.Command.TheVariants.{Run}
-use Rattle.mos_words.specs.Words.{is_source_name}
 
 -- the source has the name of a source, and there are 1 to 64 lanes and 1 to 1,000,000,000 ticks
 abbrev pub IsFit : Command → Type 0

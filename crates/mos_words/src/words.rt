@@ -10,7 +10,7 @@ mod shape;
 ghost use Rattle.std.specs.Prelude.{◌≡◌, false, not, nat_lt, length, IfOk, IsErrOf};
 ghost use Rattle.std.specs.List.{list_any, list_all};
 ghost use Rattle.mos_words.specs.Fit.{IsFit};
-ghost use Rattle.mos_words.specs.Words.{command_of, run_command, is_misshapen, has_empty_value, is_unknown, is_value, breaks_words, breaks_options, run_options, values, setting_of};
+ghost use Rattle.mos_words.specs.CommandLine.{command_of, run_command, is_misshapen, has_empty_value, is_unknown, is_value, breaks_words, breaks_options, run_options, values, setting_of};
 ghost use Rattle.mos_words.specs.declared.words.options.OptionName.TheVariants.{Lanes, Budget};
 ghost use Rattle.mos_words.specs.declared.words.commands.WordFault.TheVariants.{Usage};
 
@@ -26,7 +26,7 @@ const RUN_OPTIONS: [OptionName; 2] = [OptionName::Lanes, OptionName::Budget];
 
 /// The command that the words ask for. The first word is the program's name and is not looked at;
 /// the second is the command, `run`; the others are files and options in any mixture.
-#[tactic(auto, unfolding(crate::specs::Words::command_of))]
+#[tactic(auto, unfolding(crate::specs::CommandLine::command_of))]
 pub fn command(alloc: Global, words: &[Text]) -> Result<Command, WordFault>
     ensures value { IfOk result (λ command. command_of words.now ≡ Some command) }
     ensures fit { IfOk result IsFit }
@@ -40,7 +40,7 @@ pub fn command(alloc: Global, words: &[Text]) -> Result<Command, WordFault>
     }
 }
 
-#[tactic(auto, unfolding(crate::specs::Words::run_command))]
+#[tactic(auto, unfolding(crate::specs::CommandLine::run_command))]
 fn run_command(alloc: Global, arguments: &[Text]) -> Result<Command, WordFault>
     ensures value { IfOk result (λ command. run_command arguments.now ≡ Some command) }
     ensures usage { IsErrOf result Usage → run_command arguments.now ≡ None }
@@ -58,7 +58,7 @@ fn run_command(alloc: Global, arguments: &[Text]) -> Result<Command, WordFault>
     })
 }
 
-#[tactic(auto, unfolding(crate::specs::Words::breaks_words))]
+#[tactic(auto, unfolding(crate::specs::CommandLine::breaks_words))]
 fn breaks_words(arguments: &[Text]) -> bool
     ensures { result ≡ breaks_words arguments.now }
 {
@@ -79,7 +79,7 @@ fn has_empty_values(arguments: &[Text]) -> bool
         .any(|word| has_empty_value(word.as_bytes()))
 }
 
-#[tactic(auto, unfolding(crate::specs::Words::breaks_options))]
+#[tactic(auto, unfolding(crate::specs::CommandLine::breaks_options))]
 fn breaks_options(options: &[OptionName], arguments: &[Text]) -> bool
     ensures { result ≡ breaks_options options.now arguments.now }
 {
@@ -112,7 +112,7 @@ fn has_one_wrong(options: &[OptionName], arguments: &[Text]) -> bool
         .any(|option| has_wrong_value(*option, arguments))
 }
 
-#[tactic(auto, unfolding(crate::specs::Words::breaks_options))]
+#[tactic(auto, unfolding(crate::specs::CommandLine::breaks_options))]
 fn lanes(arguments: &[Text]) -> u32
     requires { breaks_options run_options arguments.now ≡ false }
     ensures { result ≡ setting_of Lanes (values Lanes arguments.now) }
@@ -120,122 +120,10 @@ fn lanes(arguments: &[Text]) -> u32
     setting(OptionName::Lanes, arguments)
 }
 
-#[tactic(auto, unfolding(crate::specs::Words::breaks_options))]
+#[tactic(auto, unfolding(crate::specs::CommandLine::breaks_options))]
 fn budget(arguments: &[Text]) -> u32
     requires { breaks_options run_options arguments.now ≡ false }
     ensures { result ≡ setting_of Budget (values Budget arguments.now) }
 {
     setting(OptionName::Budget, arguments)
-}
-
-#[cfg(test)]
-mod tests {
-    use super::*;
-    use std::process::Abort;
-    use std::test::Fail;
-
-    /// The command of a line whose words are what stands between single blanks.
-    fn command_of_line(alloc: Global, line: &str) -> Result<Command, WordFault> {
-        let mut words = Vec::new(alloc);
-        for word in line.split(' ') {
-            let Ok(word) = Text::new(alloc, word.as_bytes()) else {
-                return Err(WordFault::NoMemory);
-            };
-            let Ok(()) = words.push(word) else {
-                return Err(WordFault::NoMemory);
-            };
-        }
-        command(alloc, &words)
-    }
-
-    fn check_run(rt: &impl Abort, alloc: Global, line: &str, lanes: u32, budget: u32) {
-        match command_of_line(alloc, line) {
-            Ok(
-                Command::Run {
-                    source,
-                    lanes: found,
-                    budget: ticks,
-                },
-            ) => {
-                assert_eq!(rt; source.as_str(), "a.mos", "{line}");
-                assert_eq!(rt; found, lanes, "{line}");
-                assert_eq!(rt; ticks, budget, "{line}");
-            }
-            Err(_) => assert!(rt; false, "{line}"),
-        }
-    }
-
-    #[test]
-    fn commands(rt: HostRuntime) {
-        for (line, lanes) in [
-            ("mosel run a.mos", 16),
-            ("--x run a.mos", 16),
-            (" run a.mos", 16),
-            ("mosel run a.mos --lanes 1", 1),
-            ("mosel run --lanes 64 a.mos", 64),
-            ("mosel run --lanes=7 a.mos", 7),
-            ("mosel run a.mos --lanes=0000000064", 64),
-            ("mosel run a.mos --lanes 01", 1),
-        ] {
-            check_run(&rt, rt.alloc(), line, lanes, 10_000_000);
-        }
-    }
-
-    #[test]
-    fn budgets(rt: HostRuntime) {
-        for (line, budget) in [
-            ("mosel run a.mos --budget 1", 1),
-            ("mosel run --budget=1000000000 a.mos", 1_000_000_000),
-            ("mosel run --budget 0000000007 a.mos", 7),
-            ("mosel run --lanes 16 --budget 5 a.mos", 5),
-        ] {
-            check_run(&rt, rt.alloc(), line, 16, budget);
-        }
-    }
-
-    #[test]
-    fn usages(rt: HostRuntime) {
-        for line in [
-            "",
-            "mosel",
-            "mosel run",
-            "mosel check a.mos",
-            "mosel Run a.mos",
-            "mosel run b.mos.x",
-            "mosel run a.bim",
-            "mosel run .mos",
-            "mosel run a.mos b.mos",
-            "mosel run a.mos a.mos",
-            "mosel run a.mos ",
-            "mosel run  a.mos",
-            "mosel run - a.mos",
-            "mosel run -- a.mos",
-            "mosel run -l a.mos",
-            "mosel run ../a.mos",
-            "mosel run a.mos --lanes",
-            "mosel run a.mos --lanes=",
-            "mosel run --lanes --lanes a.mos",
-            "mosel run a.mos --lanes -1",
-            "mosel run a.mos --lanes 0",
-            "mosel run a.mos --lanes 65",
-            "mosel run a.mos --lanes=00000000016",
-            "mosel run a.mos --lanes=4294967297",
-            "mosel run a.mos --lanes=+1",
-            "mosel run a.mos --lanes=1x",
-            "mosel run a.mos --lanes==1",
-            "mosel run a.mos --lanes 1 --lanes 1",
-            "mosel run a.mos --lanes=1 --lanes=1",
-            "mosel run a.mos --lane 1",
-            "mosel run a.mos --lanesx=1",
-            "mosel run a.mos --help",
-            "mosel run a.mos --budget",
-            "mosel run a.mos --budget 0",
-            "mosel run a.mos --budget 1000000001",
-            "mosel run a.mos --budget 5 --budget=5",
-            "mosel run a.mos --=1",
-        ] {
-            let answer = command_of_line(rt.alloc(), line);
-            assert!(rt; matches!(answer, Err(WordFault::Usage)), "{line}");
-        }
-    }
 }

@@ -1,21 +1,21 @@
 -- An answer that was found and delivered is what the program answers.
 
-use Rattle.std.proofs.Common.{◌≡◌, ◌≤◌, ℕ, List, Option, Some, None, refl, sym, ap, ◌∙◌, subst, arith}
+use Rattle.std.proofs.Common.{◌≡◌, ◌≤◌, ℕ, List, Option, Some, None, subst, arith}
 use Rattle.mos_text.specs.Content.{Files}
 use Rattle.mos_text.specs.declared.folder.Got.{Got}
 use Rattle.mos_text.specs.declared.folder.Got.TheVariants.{Bytes, Missing as NotThere, TooLarge as TooLong, Failed, NoMemory as WantsMemory}
 use Rattle.job_calls.specs.declared.entry.Entry.{Entry}
 use Rattle.job_calls.specs.Runs.{Opening}
-use Rattle.mos_words.specs.Words.{command_of}
+use Rattle.mos_words.specs.CommandLine.{command_of}
 use Rattle.mos_words.specs.declared.words.commands.Command.{Command}
 use Rattle.mos_words.specs.declared.words.commands.Command.TheVariants.{Run}
 use Rattle.mosel_run.specs.declared.answer.Answer.{Answer}
 use Rattle.mosel_run.specs.declared.status.Status.{Status}
 use Rattle.mosel_run.specs.Answered.{IsCommandAnswer, IsAnswer, Answered, delivered, no_memory}
 use Rattle.mosel_run.specs.Answers.{IsUnreadAnswer}
-use Rattle.mosel_run.specs.Delivered.{Delivered, whole, unwritten, unput, no_memory_to_write, no_memory_to_put, WrotePart}
+use Rattle.mosel_run.specs.Delivered.{Delivered, whole, unwritten, unput, no_memory_to_write, no_memory_to_put}
 use Rattle.mosel_run.specs.Jobs.{AnyJournal, OneThread}
-use Rattle.mosel_run.specs.Run.{Request, IsRunAnswer, unread, all_read, IsAnswerTo, refusal, report, IsReport}
+use Rattle.mosel_run.specs.Run.{Request, IsRunAnswer, unread, all_read, IsAnswerTo, refusal, report}
 use Rattle.mosel_run.specs.States.{FolderState, SinkState, Devices, folder_state}
 
 later_unread : (before middle after : FolderState) (name : List ℕ) (got : Got) (answer : Answer) → middle.faults ≤ after.faults

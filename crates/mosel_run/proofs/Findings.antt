@@ -1,14 +1,15 @@
 -- What is known of the wanted files beforehand agrees with how they are read.
 
-use Rattle.std.proofs.Common.{◌≡◌, ◌≤◌, ◌<◌, ℕ, Bool, true, false, List, [], ◌∷◌, length, Option, refl, sym, ap, ◌∙◌, subst, inl, inr, arith}
+use Rattle.std.proofs.Common.{◌≡◌, ◌≢◌, ◌≤◌, ◌<◌, ℕ, Bool, true, false, List, [], ◌∷◌, length, Option, refl, sym, ap, subst, inl, inr, arith}
 use Rattle.std.specs.Prelude.{nat_le, if◌then◌else◌}
 use Rattle.std.proofs.lemmas.Bool.Decides.{nat_tests}
+use Rattle.std.proofs.lemmas.List.Elements.{All-head, All-tail}
 use Rattle.mos_text.specs.Content.{Files, Known, Unknown, Absent, Holds, known_of}
 use Rattle.mos_text.specs.Gets.{Answers}
 use Rattle.mos_text.specs.declared.folder.Got.TheVariants.{Bytes, Missing as NotThere, TooLarge as TooLong}
 use Rattle.mosel_run.specs.declared.wanted.Wanted.{Wanted}
-use Rattle.mosel_run.specs.Known.{Finding, AllThere, FirstAbsent, FirstTooLong, NotKnown, behind, found_with, finding_of}
-use Rattle.mosel_run.specs.Wanted.{AreRead, IsUnread}
+use Rattle.mosel_run.proofs.Finding.{Finding, AllThere, FirstAbsent, FirstTooLong, NotKnown, behind, found_with, finding_of}
+use Rattle.mosel_run.specs.Wanted.{AreKnown, AreRead, IsUnread}
 
 -- the finding is this one, or nothing is known
 abbrev pub Agrees : Finding → Finding → Type 0
@@ -94,3 +95,35 @@ too_long_agrees content [] name h = absurd h
 too_long_agrees content (file ∷ files) name (inl h) = found_too_long file (known_of content file.name) name (finding_of content files) h.0 h.1
 too_long_agrees content (file ∷ files) name (inr h) =
     found_lack file (known_of content file.name) h.0.0 (FirstTooLong name) (finding_of content files) tt h.0.1 (too_long_agrees content files name h.1)
+
+-- where all is known, the finding is the one that agrees
+known_behind : (held : List ℕ) (others : Finding) → others ≢ NotKnown → behind held others ≢ NotKnown
+known_behind held (AllThere rest) h = λ e. cc
+known_behind held (FirstAbsent name) h = λ e. cc
+known_behind held (FirstTooLong name) h = λ e. cc
+known_behind held NotKnown h = h
+
+known_with : (file : Wanted) (known : Known) (others : Finding) → known ≢ Unknown → others ≢ NotKnown → found_with file known others ≢ NotKnown
+known_with file Unknown others k h = absurd (k refl)
+known_with file Absent others k h = λ e. cc
+known_with file (Holds held) others k h = tested (nat_le (length held) file.limit)
+  where
+    tested : (fit : Bool) → (if fit then behind held others else FirstTooLong file.name) ≢ NotKnown
+    tested true = known_behind held others h
+    tested false = λ e. cc
+
+known_finding : (content : Option Files) (wanted : List Wanted) → AreKnown content wanted → finding_of content wanted ≢ NotKnown
+known_finding content [] h = λ e. cc
+known_finding content (file ∷ files) h =
+    known_with file (known_of content file.name) (finding_of content files) (All-head (λ (f : Wanted). known_of content f.name ≢ Unknown) file files h)
+    (known_finding content files (All-tail (λ (f : Wanted). known_of content f.name ≢ Unknown) file files h))
+
+agreed : (expected found : Finding) → found ≢ NotKnown → Agrees expected found → found ≡ expected
+agreed expected (AllThere sources) known h = sym h
+agreed expected (FirstAbsent name) known h = sym h
+agreed expected (FirstTooLong name) known h = sym h
+agreed expected NotKnown known h = absurd (known refl)
+
+pub finding_is : (content : Option Files) (wanted : List Wanted) (expected : Finding) → AreKnown content wanted
+    → Agrees expected (finding_of content wanted) → finding_of content wanted ≡ expected
+finding_is content wanted expected known h = agreed expected (finding_of content wanted) (known_finding content wanted known) h

@@ -13,7 +13,7 @@ use Rattle.mosel_run.specs.Accepted.{found}
 use Rattle.mosel_run.specs.ReadAnswers.{IsJudged, of_check}
 
 said : (tree : Tree) (fault : CheckFault) → unbuilt_of tree ≡ None → Says (check_of tree) fault → IsJudged tree (of_check fault)
-said tree (checked.At line kind) built h = found tree line kind built h
+said tree (checked.Refused refusal) built h = found tree refusal.line refusal.kind built h
 said tree checked.NoMemory built h = tt
 
 pub judged : {A : Type 0} (tree : Tree) (fault : CheckFault) (result : Result A ReadFault) → Says (check_of tree) fault

@@ -3,8 +3,6 @@
 use Rattle.std.proofs.Common.{◌≡◌, ℕ, Bool, true, false, List, [], ◌∷◌, ◌++◌, Option, Some, None, refl, sym, ap, ◌∙◌, subst, map}
 use Rattle.std.specs.Prelude.{cond, ◌||◌, if◌then◌else◌, is_some, unwrap_or}
 use Rattle.std.specs.List.{list_any}
-use Rattle.std.specs.Ordering.{nat_cmp, eq_by_cmp}
-use Rattle.std.specs.Cmp.Lexicographic.{slice_cmp}
 use Rattle.std.specs.FinMap.{get, insert, get-insert}
 use Rattle.std.specs.Str.{bytes_eq}
 use Rattle.std.proofs.lemmas.List.Folds.{list_any-append}
@@ -14,7 +12,7 @@ use Rattle.std.proofs.lemmas.Cmp.{nat_list_cmp_total}
 use Rattle.job_calls.specs.Runs.{last_given, later}
 use Rattle.mos_text.specs.Content.{Files, Holds, known_of, known_by}
 use Rattle.mosel_run.specs.declared.answer.Put.{Put}
-use Rattle.mosel_run.specs.Puts.{named, bytes_of, with_put, names_of, last_puts, put_all}
+use Rattle.mosel_run.specs.Puts.{bytes_under, bytes_of, with_put, names_of, last_puts, put_all}
 
 eq_names : (a b : List ℕ) → bytes_eq a b ≡ true → a ≡ b
 eq_names a b h = (bytes_eq-Decides a b).0 h
@@ -118,22 +116,22 @@ some_named_by true bytes = refl
 some_named_by false bytes = refl
 
 pub any_names : (names : List (List ℕ)) (puts : List Put) (name : List ℕ)
-    → list_any (bytes_eq name) (names_of names puts) ≡ (list_any (bytes_eq name) names || is_some (last_given (named name) puts))
+    → list_any (bytes_eq name) (names_of names puts) ≡ (list_any (bytes_eq name) names || is_some (last_given (bytes_under name) puts))
 any_names names [] name = sym (or_false _)
 any_names names (put ∷ puts) name =
     any_names (with_put names put) puts name
-    ∙ ap (λ b. b || is_some (last_given (named name) puts)) (any_with names put name)
-    ∙ or_assoc (list_any (bytes_eq name) names) (bytes_eq put.name name) (is_some (last_given (named name) puts))
+    ∙ ap (λ b. b || is_some (last_given (bytes_under name) puts)) (any_with names put name)
+    ∙ or_assoc (list_any (bytes_eq name) names) (bytes_eq put.name name) (is_some (last_given (bytes_under name) puts))
     ∙ ap (λ b. list_any (bytes_eq name) names || b)
-    (ap (λ b. b || is_some (last_given (named name) puts)) (sym (some_named_by (bytes_eq put.name name) put.bytes))
-    ∙ sym (some_later (named name put) (last_given (named name) puts)))
+    (ap (λ b. b || is_some (last_given (bytes_under name) puts)) (sym (some_named_by (bytes_eq put.name name) put.bytes))
+    ∙ sym (some_later (bytes_under name put) (last_given (bytes_under name) puts)))
 
-pub last_stays : (files : Files) (puts : List Put) (name bytes : List ℕ) → last_given (named name) puts ≡ Some bytes
+pub last_stays : (files : Files) (puts : List Put) (name bytes : List ℕ) → last_given (bytes_under name) puts ≡ Some bytes
     → known_of (put_all (Some files) (last_puts puts)) name ≡ Holds bytes
 last_stays files puts name bytes h =
     gives (bytes_of puts) files (names_of [] puts) name (any_names [] puts name ∙ ap is_some h)
     ∙ ap Holds (ap (λ (given : Option (List ℕ)). unwrap_or given []) h)
 
-pub others_stay : (files : Files) (puts : List Put) (name : List ℕ) → last_given (named name) puts ≡ None
+pub others_stay : (files : Files) (puts : List Put) (name : List ℕ) → last_given (bytes_under name) puts ≡ None
     → known_of (put_all (Some files) (last_puts puts)) name ≡ known_of (Some files) name
 others_stay files puts name h = keeps (bytes_of puts) files (names_of [] puts) name (any_names [] puts name ∙ ap is_some h)

@@ -1,7 +1,6 @@
 -- What a tree means, layer by layer.
 
 use Rattle.std.proofs.Common.{◌≡◌, ℕ, true, List, [], ◌∷◌, sym, ap, ◌∙◌, map, codes}
-use Rattle.mos_tree.specs.declared.expr.BinaryOperator.{BinaryOperator}
 use Rattle.mos_tree.specs.declared.expr.Expr.{Expr}
 use Rattle.mos_tree.specs.declared.expr.Expr.TheVariants as expr
 use Rattle.mos_tree.specs.declared.expr.Expr.TheOpen as open_expr
@@ -9,16 +8,14 @@ use Rattle.mos_tree.specs.declared.expr.Expr.TheFolds.{fold-roll-Expr}
 use Rattle.mos_tree.specs.declared.statement.Statement.TheVariants as statement
 use Rattle.mos_tree.specs.declared.statement.Statement.TheOpen as open_statement
 use Rattle.mos_tree.specs.declared.statement.Statement.TheFolds.{fold-roll-Statement}
-use Rattle.mos_meaning.specs.Syntax.{Expression, text, operator_of, operation, expression, expression_step, arguments, nothing, one_more, Effect, write, procedure, effect, effect_step}
-
-pub expression_of_binary : (op : BinaryOperator) (a b : Expr) → expression (expr.Binary op a b) ≡ operation (operator_of op) (expression a) (expression b)
-expression_of_binary op a b = ap expression (sym (expr.rolls-Binary op a b)) ∙ fold-roll-Expr Expression expression_step (open_expr.Binary op a b)
+use Rattle.mos_meaning.specs.Syntax.{Expression, text, nothing, one_more, Effect, write}
+use Rattle.mos_meaning.specs.Sources.{expression, expression_step, shown, procedure, effect, effect_step}
 
 pub expression_of_text : (t : List ℕ) → expression (expr.Text t) ≡ text t
 expression_of_text t = ap expression (sym (expr.rolls-Text t)) ∙ fold-roll-Expr Expression expression_step (open_expr.Text t)
 
-effect_of_call : (line : ℕ) (called : List ℕ) (all : List Expr) → effect (statement.Call line called all) ≡ procedure called (arguments (map expression all))
+effect_of_call : (line : ℕ) (called : List ℕ) (all : List Expr) → effect (statement.Call line called all) ≡ procedure line called (shown (map expression all))
 effect_of_call line called all = ap effect (sym (statement.rolls-Call line called all)) ∙ fold-roll-Statement Effect effect_step (open_statement.Call line called all)
 
-pub effect_of_writeln : (line : ℕ) (value : Expr) → effect (statement.Call line (codes "writeln") (value ∷ [])) ≡ write true (one_more (expression value) nothing)
+pub effect_of_writeln : (line : ℕ) (value : Expr) → effect (statement.Call line (codes "writeln") (value ∷ [])) ≡ write line true (one_more (expression value) nothing)
 effect_of_writeln line value = effect_of_call line (codes "writeln") (value ∷ [])

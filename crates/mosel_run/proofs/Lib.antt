@@ -5,12 +5,9 @@ pub mod Reports
 pub mod Answering
 pub mod Findings
 pub mod Exactness
-pub mod Rooms
+pub mod ModelSizes
 pub mod Layers
 pub mod Judging
 pub mod Refusals
-pub mod KnownNames
-pub mod KnownExpressions
-pub mod KnownStatements
-pub mod SmallModels
 pub mod LastPuts
+pub mod Finding

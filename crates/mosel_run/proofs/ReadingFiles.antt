@@ -1,6 +1,6 @@
 -- How wanted files are read, one after the other.
 
-use Rattle.std.proofs.Common.{◌≡◌, ◌≤◌, ℕ, List, [], ◌∷◌, ◌++◌, length, Option, refl, sym, ◌∙◌, subst, append_assoc, append-nil, inl, inr}
+use Rattle.std.proofs.Common.{◌≤◌, ℕ, List, [], ◌∷◌, ◌++◌, length, Option, refl, sym, subst, append_assoc, append-nil, inl, inr}
 use Rattle.mos_text.specs.Content.{Files, Known, Unknown, Absent, Holds, known_of}
 use Rattle.mos_text.specs.Gets.{Answers}
 use Rattle.mos_text.specs.declared.folder.Got.{Got}

@@ -61,7 +61,7 @@ wrong-there _ tree _ _ has (wrong source line kind other h w) = subst (λ (t : T
 pub syntax-refusal : {A : Type 0} (source : List ℕ) (fault : SyntaxFault) (result : Result A ReadFault) → IsFaultOf source fault
     → IsErrAnd result (λ x. x ≡ of_syntax fault) → IfErr result (IsRefusal source)
 syntax-refusal source fault (Ok x) h e = tt
-syntax-refusal source (syntax.At line kind) (Err x) h e = subst (IsRefusal source) (sym e) (unparsed source line kind h)
+syntax-refusal source (syntax.Refused refusal) (Err x) h e = subst (IsRefusal source) (sym e) (unparsed source refusal.line refusal.kind h)
 syntax-refusal source syntax.NoMemory (Err x) h e = subst (IsRefusal source) (sym e) tt
 
 pub judged-refusal : (source : List ℕ) (tree : Tree) (fault : ReadFault) → HasOnly source tree → IsJudged tree fault → IsRefusal source fault
@@ -91,15 +91,15 @@ handed-on P fault (Err x) h e = subst (λ (y : ReadFault). P (Err y)) (sym e) h
 
 pub syntax-only_tree : (source : List ℕ) (fault : SyntaxFault) (result : Result Tree ReadFault) → ((tree : Tree) → IsParsed source tree → ParsesTo (Err fault) tree)
     → IsErrAnd result (λ x. x ≡ of_syntax fault) → (tree : Tree) → IsAccepted source tree → GivesTree result tree
-syntax-only_tree source (syntax.At line kind) result only e tree accepted = absurd (only tree accepted.parsed)
+syntax-only_tree source (syntax.Refused refusal) result only e tree accepted = absurd (only tree accepted.parsed)
 syntax-only_tree source syntax.NoMemory result only e tree accepted = handed-on (λ (r : Result Tree ReadFault). GivesTree r tree) NoMemory result tt e
 
 pub syntax-only_refusal : (source : List ℕ) (fault : SyntaxFault) (result : Result Tree ReadFault) → ((tree : Tree) → IsParsed source tree → ParsesTo (Err fault) tree)
     → ((line : ℕ) (kind : Kind) → IsSyntaxFault source line kind → ParsesNot (Err fault) line kind) → IsErrAnd result (λ x. x ≡ of_syntax fault)
     → (line : ℕ) (kind : Kind) → IsRefusedAt source line kind → GivesRefusal result line kind
-syntax-only_refusal _ (syntax.At at what) result only named e _ _ (unparsed source line kind h) =
-    handed-on (λ (r : Result Tree ReadFault). GivesRefusal r line kind) (At at what) result (named line kind h) e
-syntax-only_refusal _ (syntax.At at what) result only named e _ _ (wrong source line kind tree h w) = absurd (only tree h)
+syntax-only_refusal _ (syntax.Refused refusal) result only named e _ _ (unparsed source line kind h) =
+    handed-on (λ (r : Result Tree ReadFault). GivesRefusal r line kind) (At refusal.line refusal.kind) result (named line kind h) e
+syntax-only_refusal _ (syntax.Refused refusal) result only named e _ _ (wrong source line kind tree h w) = absurd (only tree h)
 syntax-only_refusal source syntax.NoMemory result only named e line kind refused = handed-on (λ (r : Result Tree ReadFault). GivesRefusal r line kind) NoMemory result tt e
 
 -- a refusal of the reader is the only one

@@ -1,6 +1,6 @@
 -- The report of a job over one source.
 
-use Rattle.std.proofs.Common.{◌≡◌, ◌≢◌, ℕ, zero, suc, List, [], ◌∷◌, Option, Some, None, refl, sym, ap, ◌∙◌, subst, ◌-◌, ◌+◌}
+use Rattle.std.proofs.Common.{◌≡◌, ◌≢◌, ℕ, zero, suc, true, List, [], ◌∷◌, Option, Some, refl, sym, ap, ◌∙◌, subst, ◌-◌, ◌+◌}
 use Rattle.std.specs.Prelude.{slice_get}
 use Rattle.std.specs.List.{filter_map}
 use Rattle.mos_tree.specs.declared.source.Tree.{Tree}
@@ -10,55 +10,51 @@ use Rattle.job_calls.specs.declared.entry.Listed.{Listed}
 use Rattle.job_calls.specs.declared.reply.Reply.{Reply}
 use Rattle.job_calls.specs.declared.run_line.RunLine.{RunLine}
 use Rattle.job_calls.specs.Runs.{Opening, source_of, replies_of, finish_of}
-use Rattle.job_calls.specs.ReportText.{report_text}
+use Rattle.hub_text.specs.ReportText.{report_text}
 use Rattle.bim_code.specs.declared.image.Image.{Image}
 use Rattle.bim_code.specs.Tables.{image_bytes}
 use Rattle.bim_code.specs.Limits.{FitsFields}
-use Rattle.bim_compile.specs.Means.{Means, NeverStuck}
-use Rattle.bim_compile.specs.Plain.{IsPlain}
+use Rattle.bim_code.specs.Rules.{KeepsRules}
+use Rattle.bim_compile.specs.Means.{Means}
 use Rattle.lane_step.specs.Alone.{opening_with}
-use Rattle.lane_step.specs.Schedule.{schedule_of, dones}
+use Rattle.lane_step.specs.Schedule.{schedule_of, done_entries}
 use Rattle.lane_step.specs.Whole.{IsWhole}
-use Rattle.mos_meaning.specs.State.{Stuck, Outcome}
-use Rattle.mos_meaning.specs.Syntax.{Block, statements_of}
-use Rattle.mos_meaning.specs.Machine.{Course, course_of}
+use Rattle.run_state.specs.Stops.{Outcome, Course}
+use Rattle.bim_machine.specs.Courses.{course_of}
+use Rattle.mos_meaning.specs.Syntax.{Program}
+use Rattle.mos_meaning.specs.Sources.{model_of}
 use Rattle.mos_meaning.specs.Follows.{Behaviour, behaviour_of, FollowsSources, Follows, RunFollows}
 use Rattle.mosel_run.specs.declared.answer.Answer.{Answer}
 use Rattle.mosel_run.specs.Accepted.{IsAccepted, IsOnlyTree}
 use Rattle.mosel_run.specs.Answered.{run_request}
-use Rattle.mosel_run.specs.Jobs.{Model, OneThread, behaviours_of, images_of}
+use Rattle.mosel_run.specs.Jobs.{Model, OneThread}
 use Rattle.mosel_run.specs.Making.{listed}
 use Rattle.mosel_run.specs.Puts.{puts_of, put_of, image_name, last_puts}
 use Rattle.mosel_run.specs.Run.{IsReport, IsStatusOf}
-use Rattle.job_calls.specs.Legal.{IsSourceName}
+use Rattle.mos_text.specs.FileName.{is_source_name}
 
 -- an image that means its model does what the model does
-same_course : (model : Block) (image : Image) (params : List ℕ) (replies : List Reply) (budget : ℕ) → Means model image
+same_course : (model : Program) (image : Image) (params : List ℕ) (replies : List Reply) (budget : ℕ) → Means model image
     → course_of image params replies budget ≡ behaviour_of model image params replies budget
 same_course model image params replies budget means =
     ap (λ (outcome : Outcome). let c : Course = record { outcome = outcome; steps = (course_of image params replies budget).steps } in c) (means params replies budget)
-
--- the run of a model that is never stuck is not stuck
-pub not_stuck : (budget : ℕ) (model : Block) (image : Image) → Means model image → NeverStuck model
-    → (course_of image [] [] budget).outcome.stop ≢ Stuck
-not_stuck budget model image means never = λ stuck. never [] [] budget (sym (ap (λ (m : Outcome). m.stop) (means [] [] budget)) ∙ stuck)
 
 inside : {A : Type 0} (x y : A) → Some x ≡ Some y → x ≡ y
 inside x y e = cc
 
 -- what holds of a run of the image holds of a run of the model
-follows_by : (journal : List Entry) (o : Opening) (tree : Tree) (image : Image) (run : ℕ) (line : RunLine) → Means (statements_of tree) image
+follows_by : (journal : List Entry) (o : Opening) (tree : Tree) (image : Image) (run : ℕ) (line : RunLine) → Means (model_of tree) image
     → Follows journal o (Some (course_of image) ∷ []) run line
-    → Follows journal o (Some (behaviour_of (statements_of tree) image) ∷ []) run line
+    → Follows journal o (Some (behaviour_of (model_of tree) image) ∷ []) run line
 follows_by journal o tree image run line means f = at f.source f.source_is f.file_is f.behaviour_is
   where
     at : (source : ℕ) → source_of run journal ≡ Some source → slice_get o.files source ≡ Some f.file → slice_get (let all : List (Option Behaviour) = Some (course_of image) ∷ [] in all) source ≡ Some (Some f.behaviour)
-        → Follows journal o (Some (behaviour_of (statements_of tree) image) ∷ []) run line
+        → Follows journal o (Some (behaviour_of (model_of tree) image) ∷ []) run line
     at zero source_is file_is behaviour_is = record {
       source = 0;
       params = f.params;
       file = f.file;
-      behaviour = behaviour_of (statements_of tree) image;
+      behaviour = behaviour_of (model_of tree) image;
       source_is = source_is;
       params_is = f.params_is;
       file_is = file_is;
@@ -67,14 +63,14 @@ follows_by journal o tree image run line means f = at f.source f.source_is f.fil
           let same : course_of image ≡ f.behaviour = inside _ _ (inside _ _ behaviour_is) in
           subst (RunFollows journal run line f.file)
           (ap (λ (b : Behaviour). b f.params (replies_of run journal) o.budget) (sym same)
-          ∙ same_course (statements_of tree) image f.params (replies_of run journal) o.budget means)
+          ∙ same_course (model_of tree) image f.params (replies_of run journal) o.budget means)
           f.follows;
     }
     at (suc source) source_is file_is behaviour_is = absurd cc
 
-follows_source : (journal : List Entry) (lines : List RunLine) (tree : Tree) (image : Image) → Means (statements_of tree) image
+follows_source : (journal : List Entry) (lines : List RunLine) (tree : Tree) (image : Image) → Means (model_of tree) image
     → FollowsSources journal lines (Some (course_of image) ∷ [])
-    → FollowsSources journal lines (Some (behaviour_of (statements_of tree) image) ∷ [])
+    → FollowsSources journal lines (Some (behaviour_of (model_of tree) image) ∷ [])
 follows_source journal lines tree image means h = record {
   opened = h.opened;
   opened_is = h.opened_is;
@@ -87,7 +83,7 @@ no_puts : (files : List Listed) (images : List (Option Image)) (o : Opening) (en
     → filter_map (λ (e : Entry). put_of files images e.call e.reply) (schedule_of o end) ≡ []
 no_puts files images o end = past 1 (o.lanes - 1)
   where
-    past : (lane many : ℕ) → filter_map (λ (e : Entry). put_of files images e.call e.reply) (dones lane many) ≡ []
+    past : (lane many : ℕ) → filter_map (λ (e : Entry). put_of files images e.call e.reply) (done_entries lane many) ≡ []
     past lane zero = refl
     past lane (suc many) = past (lane + 1) many
 
@@ -101,7 +97,7 @@ puts_are name source lanes budget image journal end is =
     (no_puts (listed name source ∷ []) (Some image ∷ []) (opening_with lanes budget (listed name source ∷ [])) end)
 
 pub is_report : (name source : List ℕ) (lanes budget : ℕ) (tree : Tree) (image : Image) (journal : List Entry) (lines : List RunLine) (end : End) (answer : Answer)
-    → IsSourceName name → IsAccepted source tree → IsOnlyTree source tree → Means (statements_of tree) image → FitsFields image → IsPlain image
+    → is_source_name name ≡ true → IsAccepted source tree → IsOnlyTree source tree → Means (model_of tree) image → KeepsRules image → FitsFields image
     → journal ≡ schedule_of (opening_with lanes budget (listed name source ∷ [])) end
     → IsWhole (opening_with lanes budget (listed name source ∷ [])) journal
     → FollowsSources journal lines (Some (course_of image) ∷ [])
@@ -110,7 +106,7 @@ pub is_report : (name source : List ℕ) (lanes budget : ℕ) (tree : Tree) (ima
     → answer.puts ≡ record { name = image_name name; bytes = image_bytes image } ∷ []
     → IsStatusOf (Some end) answer.status
     → IsReport OneThread (run_request name lanes budget) (source ∷ []) answer
-is_report name source lanes budget tree image journal lines end answer named accepted only means fields plain is whole follows finish text puts status =
+is_report name source lanes budget tree image journal lines end answer named accepted only means rules fields is whole follows finish text puts status =
     let model : Model = record { tree = tree; image = image } in
     record {
       files = listed name source ∷ [];
@@ -121,7 +117,7 @@ is_report name source lanes budget tree image journal lines end answer named acc
       judged = (
         refl,
         refl,
-        record { named = named; code = refl; model_is = record { accepted = accepted; only = only; means = means; fields = fields; plain = plain } },
+        record { named = named; code = refl; model_is = record { accepted = accepted; only = only; means = means; rules = rules; fields = fields } },
         tt,
       );
       master_is = refl;

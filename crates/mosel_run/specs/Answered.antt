@@ -2,10 +2,11 @@
 -- A status comes in one of these ways alone.
 
 use Rattle.std.specs.Prelude.{◌≡◌, ℕ, List, [], ◌∷◌, Option, Some, None}
+use Rattle.mos_text.specs.Limits.{source_limit}
 use Rattle.job_calls.specs.declared.entry.Entry.{Entry}
-use Rattle.job_calls.specs.ErrorLines.{usage_line}
+use Rattle.hub_text.specs.ErrorLines.{usage_line}
 use Rattle.job_calls.specs.Runs.{Opening}
-use Rattle.mos_words.specs.Words.{command_of}
+use Rattle.mos_words.specs.CommandLine.{command_of}
 use Rattle.mos_words.specs.declared.words.commands.Command.{Command}
 use Rattle.mos_words.specs.declared.words.commands.Command.TheVariants.{Run}
 use Rattle.mosel_run.specs.declared.answer.Answer.{Answer}
@@ -15,10 +16,6 @@ use Rattle.mosel_run.specs.Answers.{line_answer}
 use Rattle.mosel_run.specs.Delivered.{Delivered}
 use Rattle.mosel_run.specs.Run.{Request, IsRunAnswer}
 use Rattle.mosel_run.specs.States.{FolderState, Devices}
-
--- the longest source that is read
-abbrev pub source_limit : ℕ
-source_limit = 1048576
 
 -- what `run` of this source asks for
 abbrev pub run_request : List ℕ → ℕ → ℕ → Request
@@ -43,6 +40,7 @@ IsCommandAnswer journals (Some (Run name lanes budget)) before after answer =
 abbrev pub IsAnswer : (Opening → List Entry → Type 0) → List (List ℕ) → FolderState → FolderState → Answer → Type 0
 IsAnswer journals words before after answer = IsCommandAnswer journals (command_of words) before after answer
 
+-- the status says how far the answer was delivered, or that memory was wanting before
 pub data Answered (journals : Opening → List Entry → Type 0) (words : List (List ℕ)) (before after : Devices) : Status → Type 0 where
   -- the answer was delivered, as far as the status says
   delivered : (status : Status) (answer : Answer) → IsAnswer journals words before.folder after.folder answer

@@ -5,7 +5,7 @@ use Rattle.std.specs.Prelude.{◌≡◌, ℕ, List, []}
 use Rattle.mos_text.specs.Faults.{Rose}
 use Rattle.mos_text.specs.declared.folder.Got.{Got}
 use Rattle.mos_text.specs.declared.folder.Got.TheVariants.{Bytes, Missing as NotThere, TooLarge as TooLong, Failed, NoMemory as WantsMemory}
-use Rattle.job_calls.specs.ErrorLines.{missing_line, too_large_line, read_fault_line}
+use Rattle.hub_text.specs.ErrorLines.{missing_line, too_large_line, read_fault_line}
 use Rattle.mosel_run.specs.declared.answer.Answer.{Answer}
 use Rattle.mosel_run.specs.declared.status.Status.{Status}
 use Rattle.mosel_run.specs.declared.status.Status.TheVariants.{Missing, TooLarge, FolderFault}

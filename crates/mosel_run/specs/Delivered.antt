@@ -1,7 +1,7 @@
 -- What the devices did with an answer: the same for all commands. The text comes first, and the files
 -- are put when all of it is written.
 
-use Rattle.std.specs.Prelude.{◌≡◌, ℕ, List, [], ◌∷◌, ◌++◌, Option}
+use Rattle.std.specs.Prelude.{◌≡◌, ℕ, List, ◌∷◌, ◌++◌, Option}
 use Rattle.mos_text.specs.Content.{Files, lose_file, SameElsewhere}
 use Rattle.mos_text.specs.Faults.{Rose}
 use Rattle.mos_text.specs.SinkBytes.{appended, AppendedPart}
@@ -31,6 +31,7 @@ pub record WrotePart (answer : Answer) (before after : Devices) : Type 0 where
   pub part : AppendedPart before.sink.bytes after.sink.bytes answer.text
   pub nothing_put : after.folder.content ≡ before.folder.content
 
+-- what the devices have taken of an answer, by the status
 pub data Delivered (answer : Answer) (before after : Devices) : Status → Type 0 where
   -- all was written and put
   whole : (status : Status) → status ≡ answer.status → WroteAll answer before after

@@ -6,10 +6,10 @@ use Rattle.job_calls.specs.declared.end.End.TheVariants as end
 use Rattle.job_calls.specs.declared.entry.Entry.{Entry}
 use Rattle.job_calls.specs.declared.reply.Reply.TheVariants.{Code, Unit as Acknowledged}
 use Rattle.job_calls.specs.Runs.{Opening}
-use Rattle.job_calls.specs.ReportExamples.{hello_entries, hello_file, entry}
+use Rattle.job_calls.specs.HelloJournal.{hello_entries, hello_file, entry}
 use Rattle.bim_code.specs.Tables.{image_bytes}
 use Rattle.mos_meaning.specs.Examples.{hello, hello_image}
-use Rattle.mos_meaning.specs.Syntax.{statements_of}
+use Rattle.mos_meaning.specs.Sources.{statements_of}
 use Rattle.mos_tree.specs.declared.expr.Expr.TheVariants as expr
 use Rattle.mos_tree.specs.declared.statement.Statement.TheVariants as statement
 use Rattle.mos_tree.specs.declared.source.ModelName.TheVariants.{Quoted}

@@ -1,6 +1,6 @@
 -- Jobs: what their files are, and what their journals and lines say of them.
 
-use Rattle.std.specs.Prelude.{◌≡◌, ℕ, List, [], ◌∷◌, Option, Some, None, map, option_map, ◌⊎◌}
+use Rattle.std.specs.Prelude.{◌≡◌, ℕ, true, false, List, [], ◌∷◌, Option, Some, None, map, option_map, ◌⊎◌}
 use Rattle.mos_text.specs.declared.kind.Kind.{Kind}
 use Rattle.mos_tree.specs.declared.source.Tree.{Tree}
 use Rattle.job_calls.specs.declared.end.End.{End}
@@ -8,13 +8,13 @@ use Rattle.job_calls.specs.declared.entry.Entry.{Entry}
 use Rattle.job_calls.specs.declared.entry.Listed.{Listed}
 use Rattle.job_calls.specs.declared.run_line.RunLine.{RunLine}
 use Rattle.job_calls.specs.Runs.{Opening}
-use Rattle.job_calls.specs.Legal.{IsSourceName}
+use Rattle.mos_text.specs.FileName.{is_source_name}
 use Rattle.bim_code.specs.declared.image.Image.{Image}
 use Rattle.bim_code.specs.Limits.{FitsFields}
+use Rattle.bim_code.specs.Rules.{KeepsRules}
 use Rattle.bim_compile.specs.Means.{Means}
-use Rattle.bim_compile.specs.Plain.{IsPlain}
 use Rattle.mos_meaning.specs.Follows.{Behaviour, behaviour_of, FollowsSources}
-use Rattle.mos_meaning.specs.Syntax.{statements_of}
+use Rattle.mos_meaning.specs.Sources.{model_of}
 use Rattle.lane_step.specs.Schedule.{schedule_of}
 use Rattle.lane_step.specs.Whole.{IsWhole}
 use Rattle.mosel_run.specs.Accepted.{IsAccepted, IsOnlyTree, IsOnlyRefusal, IsRefusedAt, HasCode}
@@ -25,23 +25,24 @@ pub record Model : Type 0 where
   pub tree : Tree
   pub image : Image
 
--- the source has this tree and no other, the image means it, and its file can hold the image, and does
+-- the source has this tree and no other; the image means it, keeps the rules of images, and has a file that
+-- can hold it
 pub record IsModelOf (source : List ℕ) (model : Model) : Type 0 where
   pub accepted : IsAccepted source model.tree
   pub only : IsOnlyTree source model.tree
-  pub means : Means (statements_of model.tree) model.image
+  pub means : Means (model_of model.tree) model.image
+  pub rules : KeepsRules model.image
   pub fields : FitsFields model.image
-  pub plain : IsPlain model.image
 
 -- a source that is accepted
 pub record IsAcceptedFile (file : Listed) (model : Model) : Type 0 where
-  pub named : IsSourceName file.name
+  pub named : is_source_name file.name ≡ true
   pub code : file.code ≡ 0
   pub model_is : IsModelOf file.bytes model
 
 -- a source that is not, for one reason
 pub record IsRefusedFile (file : Listed) : Type 0 where
-  pub named : IsSourceName file.name
+  pub named : is_source_name file.name ≡ true
   pub code : HasCode file.bytes file.code
   pub line : ℕ
   pub kind : Kind
@@ -50,7 +51,7 @@ pub record IsRefusedFile (file : Listed) : Type 0 where
 
 -- a file that is no source
 pub record IsDataFile (file : Listed) : Type 0 where
-  pub named : IsSourceName file.name → ⊥
+  pub named : is_source_name file.name ≡ false
   pub code : file.code ≡ 0
 
 -- what a listed file is: a source with a model exactly where it is accepted, or data
@@ -65,16 +66,17 @@ AreJudged (want ∷ wanted) (bytes ∷ sources) (file ∷ files) (model ∷ mode
     (file.name ≡ want.name) × (file.bytes ≡ bytes) × IsJudged file model × AreJudged wanted sources files models
 AreJudged _ _ _ _ = ⊥  -- there are as many of each
 
--- what is said of the journal beside the promise: nothing, or that one thread wrote it, lane by lane
+-- what is said of the journal beside the promise: nothing
 abbrev pub AnyJournal : Opening → List Entry → Type 0
 AnyJournal o journal = Unit {0}
 
+-- one thread wrote it, lane by lane
 abbrev pub OneThread : Opening → List Entry → Type 0
 OneThread o journal = (end : End) × (journal ≡ schedule_of o end)
 
 -- what the listed files do
 abbrev pub behaviours_of : List (Option Model) → List (Option Behaviour)
-behaviours_of models = map (λ found. option_map (λ (model : Model). behaviour_of (statements_of model.tree) model.image) found) models
+behaviours_of models = map (λ found. option_map (λ (model : Model). behaviour_of (model_of model.tree) model.image) found) models
 
 -- the images of the listed files
 abbrev pub images_of : List (Option Model) → List (Option Image)

@@ -11,15 +11,17 @@ use Rattle.job_calls.specs.Words.{own_entries, has_quit, run_count, is_finished}
 use Rattle.job_calls.specs.Runs.{Opening, opening, source_of, last_given}
 use Rattle.mos_meaning.specs.Follows.{Behaviour, FollowsSources}
 use Rattle.mos_parse.specs.Parsed.{IsParsed, IsSyntaxFault}
-use Rattle.lane_step.specs.Whole.{EndsDone, IsWhole}
+use Rattle.job_laws.specs.Lanes.{EndsDone}
+use Rattle.lane_step.specs.Whole.{IsWhole}
 use Rattle.mosel_run.specs.declared.answer.Put.{Put}
 use Rattle.mosel_run.specs.Accepted.{IsAccepted, IsRefusedAt}
-use Rattle.mosel_run.specs.Puts.{named, last_puts, put_all}
+use Rattle.mosel_run.specs.Puts.{bytes_under, last_puts, put_all}
 
 -- a whole job has the lanes, the budget and the files that its `Open` says, and no others
 abbrev pub OneOpening : Type 0
 OneOpening = (o other : Opening) (journal : List Entry) → IsWhole o journal → IsWhole other journal → o ≡ other
 
+-- no lane of a whole job has quit
 abbrev pub NobodyQuit : Type 0
 NobodyQuit = (o : Opening) (journal : List Entry) → IsWhole o journal → has_quit journal ≡ false
 
@@ -31,6 +33,7 @@ EveryRunEnded = (o : Opening) (journal : List Entry) (run : ℕ) → IsWhole o j
 abbrev pub EveryLaneDone : Type 0
 EveryLaneDone = (o : Opening) (journal : List Entry) (lane : ℕ) → IsWhole o journal → lane < o.lanes → EndsDone (own_entries lane journal)
 
+-- there are as many lines as runs
 abbrev pub LineForEachRun : Type 0
 LineForEachRun = (journal : List Entry) (lines : List RunLine) (behaviours : List (Option Behaviour))
     → FollowsSources journal lines behaviours → length lines ≡ run_count journal
@@ -49,20 +52,23 @@ EachLineNamesItsSource = (journal : List Entry) (lines : List RunLine) (behaviou
 
 -- a name that is given bytes has the last of them when all is put
 abbrev pub LastPutStays : Type 0
-LastPutStays = (files : Files) (puts : List Put) (name bytes : List ℕ) → last_given (named name) puts ≡ Some bytes
+LastPutStays = (files : Files) (puts : List Put) (name bytes : List ℕ) → last_given (bytes_under name) puts ≡ Some bytes
     → known_of (put_all (Some files) (last_puts puts)) name ≡ Holds bytes
 
 -- a name that is given none is what it was
 abbrev pub OthersStay : Type 0
-OthersStay = (files : Files) (puts : List Put) (name : List ℕ) → last_given (named name) puts ≡ None
+OthersStay = (files : Files) (puts : List Put) (name : List ℕ) → last_given (bytes_under name) puts ≡ None
     → known_of (put_all (Some files) (last_puts puts)) name ≡ known_of (Some files) name
 
+-- the source has a tree
 abbrev pub HasATree : List ℕ → Type 0
 HasATree source = (tree : Tree) × IsParsed source tree
 
+-- the source has a fault of tokens or grammar
 abbrev pub HasAFault : List ℕ → Type 0
 HasAFault source = (line : ℕ) × (kind : Kind) × IsSyntaxFault source line kind
 
+-- the source is accepted, or refused at a line
 abbrev pub IsJudgedSource : List ℕ → Type 0
 IsJudgedSource source =
     ((tree : Tree) × IsAccepted source tree) ⊎ ((line : ℕ) × (kind : Kind) × IsRefusedAt source line kind)

@@ -5,13 +5,11 @@ pub mod Answers
 pub mod Delivered
 pub mod Run
 pub mod Wanted
-pub mod Known
 pub mod Exact
 pub mod Jobs
 pub mod Accepted
 pub mod Puts
 pub mod ReadAnswers
-pub mod InSize
 pub mod Reading
 pub mod Putting
 pub mod Making

@@ -1,8 +1,8 @@
 -- As the code goes about it: a job over one source.
 
 use Rattle.std.specs.Prelude.{◌≡◌, ◌≤◌, ℕ, List, [], ◌∷◌, length}
+use Rattle.mos_text.specs.Limits.{source_limit}
 use Rattle.job_calls.specs.declared.entry.Listed.{Listed}
-use Rattle.mosel_run.specs.Answered.{source_limit}
 
 -- an accepted source as a listed file
 abbrev pub listed : List ℕ → List ℕ → Listed

@@ -42,15 +42,15 @@ abbrev pub put_of : List Listed → List (Option Image) → Call → Reply → O
 put_of files images (Compile src dst) (Code code) =
     if nat_eq code 0 then Some record { name = dst; bytes = bytes_of_source files images src } else None
 put_of files images (Write name bytes) Acknowledged = plain_write name bytes
-put_of files images call reply = None
+put_of files images call reply = None  -- nothing else puts a file
 
--- what a list of puts gives a name last
-abbrev pub named : List ℕ → Put → Option (List ℕ)
-named name put = if bytes_eq put.name name then Some put.bytes else None
+-- the bytes of a put of this name
+abbrev pub bytes_under : List ℕ → Put → Option (List ℕ)
+bytes_under name put = if bytes_eq put.name name then Some put.bytes else None
 
 -- the last bytes that a name is given
 abbrev pub bytes_of : List Put → List ℕ → List ℕ
-bytes_of puts name = unwrap_or (last_given (named name) puts) []
+bytes_of puts name = unwrap_or (last_given (bytes_under name) puts) []
 
 -- each name once, in order of its first put
 abbrev pub with_put : List (List ℕ) → Put → List (List ℕ)

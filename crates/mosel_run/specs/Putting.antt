@@ -1,6 +1,6 @@
 -- As the code goes about it: how files were put, and the status that comes of it.
 
-use Rattle.std.specs.Prelude.{◌≡◌, ◌<◌, ℕ, List, ◌∷◌, Option, Some, length, take, slice_get}
+use Rattle.std.specs.Prelude.{◌≡◌, ℕ, List, Option, Some, take, slice_get}
 use Rattle.mos_text.specs.Content.{Files, lose_file, SameElsewhere}
 use Rattle.mos_text.specs.Faults.{Rose}
 use Rattle.mosel_run.specs.declared.answer.Put.{Put}
@@ -19,6 +19,7 @@ pub record StopsAt (puts : List Put) (before : Option Files) (place : ℕ) (left
   pub put_is : slice_get puts place ≡ Some put
   pub left_so : left put.name (put_all before (take place puts))
 
+-- all files were put, or those before a place
 abbrev pub IsPutting : List Put → FolderState → FolderState → Putting → Type 0
 IsPutting puts before after AllPut = after.content ≡ put_all before.content puts
 IsPutting puts before after (Failed place) =

@@ -35,9 +35,10 @@ GivesRefusal (Err (At at what)) line kind = (at ≡ line) × (what ≡ kind)
 
 -- a fault of a part of the reader
 abbrev pub of_syntax : SyntaxFault → ReadFault
-of_syntax (syntax.At line kind) = At line kind
+of_syntax (syntax.Refused refusal) = At refusal.line refusal.kind
 of_syntax syntax.NoMemory = NoMemory
 
+-- and a fault of the check
 abbrev pub of_check : CheckFault → ReadFault
-of_check (check.At line kind) = At line kind
+of_check (check.Refused refusal) = At refusal.line refusal.kind
 of_check check.NoMemory = NoMemory

@@ -4,7 +4,7 @@ use Rattle.std.specs.Prelude.{◌≡◌, ℕ, List}
 use Rattle.mos_text.specs.Faults.{Rose}
 use Rattle.mos_text.specs.declared.folder.Got.{Got}
 use Rattle.mos_text.specs.declared.folder.Got.TheVariants as got
-use Rattle.job_calls.specs.ErrorLines.{missing_line, too_large_line, read_fault_line}
+use Rattle.hub_text.specs.ErrorLines.{missing_line, too_large_line, read_fault_line}
 use Rattle.mosel_run.specs.declared.answer.Answer.{Answer}
 use Rattle.mosel_run.specs.declared.status.Status.TheVariants as status
 use Rattle.mosel_run.specs.declared.wanted.Wanted.{Wanted}
@@ -28,6 +28,7 @@ CountRose before after Missing = Unit {0}
 CountRose before after TooLarge = Unit {0}
 CountRose before after Failed = Rose before.faults after.faults
 
+-- all wanted files were read, or one was not given
 abbrev pub IsReadOf : List Wanted → FolderState → FolderState → Read → Type 0
 IsReadOf wanted before after (AllOf sources) = AreRead before.content wanted sources
 IsReadOf wanted before after (Unread name lack) =

@@ -1,6 +1,6 @@
 -- What the command `run` has to answer, and when.
 
-use Rattle.std.specs.Prelude.{◌≡◌, ◌≢◌, ℕ, List, [], ◌∷◌, Option, Some, None, pos, slice_get}
+use Rattle.std.specs.Prelude.{◌≡◌, ◌≢◌, ℕ, List, Option, Some, None, pos, slice_get, ◌⊎◌}
 use Rattle.mos_text.specs.declared.folder.Got.{Got}
 use Rattle.mos_text.specs.declared.kind.Kind.{Kind}
 use Rattle.job_calls.specs.declared.end.End.{End}
@@ -8,12 +8,12 @@ use Rattle.job_calls.specs.declared.end.End.TheVariants as end
 use Rattle.job_calls.specs.declared.entry.Entry.{Entry}
 use Rattle.job_calls.specs.declared.entry.Listed.{Listed}
 use Rattle.job_calls.specs.declared.run_line.RunLine.{RunLine}
-use Rattle.job_calls.specs.ErrorLines.{verdict_line}
-use Rattle.job_calls.specs.ReportText.{report_text}
+use Rattle.hub_text.specs.ErrorLines.{verdict_line}
+use Rattle.hub_text.specs.ReportText.{report_text}
 use Rattle.job_calls.specs.Runs.{Opening, finish_of}
 use Rattle.mosel_run.specs.declared.answer.Answer.{Answer}
 use Rattle.mosel_run.specs.declared.status.Status.{Status}
-use Rattle.mosel_run.specs.declared.status.Status.TheVariants.{Done, Usage, Refused, Missing, TooLarge, FolderFault, SinkFault, StartRefused, MasterFailed, MasterSpent, Stalled, BadInput, NoMemory, RunNoMemory}
+use Rattle.mosel_run.specs.declared.status.Status.TheVariants.{Done, Refused, MasterFailed, MasterSpent}
 use Rattle.mosel_run.specs.declared.wanted.Wanted.{Wanted}
 use Rattle.mosel_run.specs.Accepted.{IsRefusedAt, IsOnlyRefusal}
 use Rattle.mosel_run.specs.Answers.{line_answer, IsUnreadAnswer}
@@ -34,36 +34,15 @@ pub record Request : Type 0 where
 abbrev pub opening_of : Request → List Listed → Opening
 opening_of asked files = record { lanes = asked.lanes; budget = asked.budget; params = asked.params; files = files }
 
--- run 0 ended with code 0; with another code or by a fault; for want of ticks
-abbrev pub EndedWell : Option End → Type 0
-EndedWell (Some (end.Code code)) = code ≡ pos 0
-EndedWell _ = ⊥
-
-abbrev pub EndedBadly : Option End → Type 0
-EndedBadly (Some (end.Code code)) = code ≢ pos 0
-EndedBadly (Some (end.Fault kind)) = Unit {0}
-EndedBadly _ = ⊥
-
-abbrev pub EndedSpent : Option End → Type 0
-EndedSpent (Some end.Spent) = Unit {0}
-EndedSpent _ = ⊥
-
 -- the status of a job whose run 0 ended so
 abbrev pub IsStatusOf : Option End → Status → Type 0
-IsStatusOf end Done = EndedWell end
-IsStatusOf end MasterFailed = EndedBadly end
-IsStatusOf end MasterSpent = EndedSpent end
-IsStatusOf end Usage = ⊥
-IsStatusOf end (Refused line kind) = ⊥
-IsStatusOf end (Missing name) = ⊥
-IsStatusOf end (TooLarge name) = ⊥
-IsStatusOf end (FolderFault name) = ⊥
-IsStatusOf end SinkFault = ⊥
-IsStatusOf end StartRefused = ⊥
-IsStatusOf end Stalled = ⊥
-IsStatusOf end (BadInput name at rule) = ⊥
-IsStatusOf end NoMemory = ⊥
-IsStatusOf end RunNoMemory = ⊥
+IsStatusOf (Some (end.Code code)) status =
+    ((code ≡ pos 0) × (status ≡ Done)) ⊎ ((code ≢ pos 0) × (status ≡ MasterFailed))
+IsStatusOf (Some (end.Fault kind)) status = status ≡ MasterFailed
+IsStatusOf (Some end.Spent) status = status ≡ MasterSpent
+IsStatusOf (Some end.Stopped) status = ⊥
+IsStatusOf (Some end.NoMemory) status = ⊥
+IsStatusOf None status = ⊥
 
 -- the first of the files is refused, at this line and for this reason alone
 pub record IsRefusal (asked : Request) (sources : List (List ℕ)) (line : ℕ) (kind : Kind) (answer : Answer) : Type 0 where

@@ -4,6 +4,7 @@ use Rattle.std.specs.Prelude.{ℕ}
 use Rattle.mosel_run.specs.declared.status.Status.{Status}
 use Rattle.mosel_run.specs.declared.status.Status.TheVariants.{Done, Usage, Refused, Missing, TooLarge, FolderFault, SinkFault, StartRefused, MasterFailed, MasterSpent, Stalled, BadInput, NoMemory, RunNoMemory}
 
+-- the number of a status
 abbrev pub code_of : Status → ℕ
 code_of Done = 0
 code_of Usage = 1

@@ -1,6 +1,6 @@
 //! What a command has to answer.
 ghost use Rattle.std.specs.Prelude.{◌≡◌, IfOk};
-ghost use Rattle.job_calls.specs.ErrorLines.{usage_line, verdict_line};
+ghost use Rattle.hub_text.specs.ErrorLines.{usage_line, verdict_line};
 ghost use Rattle.mosel_run.specs.Answers.{line_answer};
 ghost use Rattle.mosel_run.specs.Reading.{AnswersLack};
 ghost use Rattle.mosel_run.specs.declared.status.Status.TheVariants.{Usage, Refused};
@@ -47,7 +47,8 @@ pub(crate) fn usage(alloc: Global) -> Result<Answer, NoMemory>
 
 /// The answer to a source that is refused.
 pub(crate) fn refusal(alloc: Global, name: &Text, line: u32, kind: Kind) -> Result<Answer, NoMemory>
-    ensures { IfOk result (λ answer. answer ≡ line_answer (verdict_line name.now line kind) (Refused line kind)) }
+    ensures { IfOk result (λ answer.
+        answer ≡ line_answer (verdict_line name.now line kind) (Refused line kind)) }
 {
     let text = write_verdict(alloc, name, line, &kind)?;
     Ok(line_answer(alloc, text, Status::Refused { line, kind }))

@@ -2,7 +2,7 @@
 ghost use Rattle.std.specs.Prelude.{◌≡◌, ◌≤◌};
 ghost use Rattle.mosel_run.specs.Delivered.{Delivered};
 ghost use Rattle.mosel_run.specs.Putting.{IsPutting, PutsSo};
-ghost use Rattle.mosel_run.specs.States.{folder_state, devices};
+ghost use Rattle.mosel_run.specs.States.{folder_state, states};
 
 use crate::answer::{Answer, Put};
 use crate::status::Status;
@@ -18,8 +18,8 @@ pub(crate) enum Putting {
     NoMemory(usize),
 }
 
-/// Writes the text and, when all of it is written, puts the files; the status is that of the answer where
-/// all of it is done.
+/// Writes the text and, when all of it is written, puts the files; the status is that of the answer
+/// where all of it is done.
 pub(crate) fn deliver<F: Folder, K: Sink>(
     alloc: Global,
     answer: Answer,
@@ -27,8 +27,8 @@ pub(crate) fn deliver<F: Folder, K: Sink>(
     sink: &mut K,
 ) -> Status
     ensures delivered { Delivered answer
-        (devices (F.content folder.old) (F.faults folder.old) (K.bytes sink.old) (K.faults sink.old))
-        (devices (F.content folder.new) (F.faults folder.new) (K.bytes sink.new) (K.faults sink.new))
+        (states (F.content folder.old) (F.faults folder.old) (K.bytes sink.old) (K.faults sink.old))
+        (states (F.content folder.new) (F.faults folder.new) (K.bytes sink.new) (K.faults sink.new))
         result }
     ensures folder_faults { F.faults folder.old ≤ F.faults folder.new }
     ensures sink_faults { K.faults sink.old ≤ K.faults sink.new }

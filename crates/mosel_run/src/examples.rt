@@ -1,7 +1,7 @@
 //! Worked examples of the definitions: functions that do nothing, whose contracts are the examples.
 ghost use Rattle.mosel_run.specs.Examples.{HelloSchedule, HelloPuts, HelloBytes, HelloStatements, HelloIsWhole, PutsInOrder};
 
-use job_calls::journals::hello_journal;
+use job_laws::journals::hello_journal;
 
 /// The job of a model that writes hello on one lane: its journal, and what it puts.
 pub fn hello_job()

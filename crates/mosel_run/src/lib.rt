@@ -1,6 +1,6 @@
-//! What the program does: it reads the files that its words name, runs their job, and writes the report
-//! and the images, over any folder and any sink. What is to be answered is found before anything is
-//! written; then it is delivered.
+//! What the program does: it reads the files that its words name, runs their job, and writes the
+//! report and the images, over any folder and any sink. What is to be answered is found before
+//! anything is written; then it is delivered.
 #![tactic(auto)]
 
 mod answer;

@@ -1,58 +1,51 @@
 //! From a source to the tree of a model that can be run.
 mod fault;
-mod size;
 
 ghost use Rattle.std.specs.Prelude.{◌≡◌, ◌≤◌, ℕ, length, IfOk, OnOk, IfErr, None};
+ghost use Rattle.mos_text.specs.Limits.{source_limit};
 ghost use Rattle.mos_text.specs.declared.kind.Kind.{Kind as kind_type};
 ghost use Rattle.mos_tree.specs.declared.source.Tree.{Tree as tree_type};
-ghost use Rattle.mos_meaning.specs.Syntax.{statements_of};
+ghost use Rattle.mos_tree.specs.Sizes.{size_of_tree};
 ghost use Rattle.mos_check.specs.NotBuilt.{unbuilt_of};
 ghost use Rattle.mosel_run.specs.Accepted.{IsAccepted, IsRefusedAt, IsSound, IsChecked};
 ghost use Rattle.mosel_run.specs.ReadAnswers.{IsRefusal, IsJudged, GivesTree, GivesRefusal};
-ghost use Rattle.mosel_run.specs.InSize.{IsInSize};
 ghost use Rattle.mosel_run.specs.declared.reader.fault.ReadFault.TheVariants.{At};
 
 pub use fault::ReadFault;
 use mos_check::{check, not_built};
 use mos_parse::parse;
 use mos_text::NoMemory;
-use mos_tree::{Tree, Verdict};
-use size::is_in_size;
+use mos_tree::{Refusal, Tree};
 use std::alloc::Global;
 
 /// The tree of a source, or why and where it is refused: at its first fault of tokens or grammar;
-/// where it has none, at its first piece of a form that cannot be run; and where all can, at the first
-/// that uses a name without a value, or leaves or continues a loop where there is none. A source has
-/// at most 1,048,576 bytes.
+/// where it has none, at its first piece of a form that cannot be run; and where all can, at the
+/// first that uses a name without a value, or leaves or continues a loop where there is none. A
+/// source has at most 1,048,576 bytes.
 pub fn read_source(alloc: Global, source: &[u8]) -> Result<Tree, ReadFault>
-    requires { length source.now ≤ 1048576 }
+    requires { length source.now ≤ source_limit }
     ensures tree { IfOk result (IsAccepted source.now) }
     ensures refusal { IfErr result (IsRefusal source.now) }
 
     // What is true of the source is the answer, but for want of memory.
     ensures only_tree { (tree : tree_type) → IsAccepted source.now tree → GivesTree result tree }
-    ensures only_refusal { (line : ℕ) (kind : kind_type) → IsRefusedAt source.now line kind → GivesRefusal result line kind }
+    ensures only_refusal { (line : ℕ) (kind : kind_type)
+        → IsRefusedAt source.now line kind → GivesRefusal result line kind }
 
-    ensures in_size { IfOk result (λ tree. IsInSize (statements_of tree)) }
+    ensures no_larger { IfOk result (λ tree. size_of_tree tree ≤ length source.now) }
 {
     let tree = parse(alloc, source)?;
     judge(alloc, &tree)?;
     Ok(tree)
 }
 
-/// Refuses a tree that cannot be run; for want of memory too where it is too large, which no source
-/// of at most 1,048,576 bytes has.
+/// Refuses a tree that cannot be run.
 fn judge(alloc: Global, tree: &Tree) -> Result<(), ReadFault>
     ensures sound { OnOk result (IsSound tree.now) }
     ensures wrong { IfErr result (IsJudged tree.now) }
-    ensures in_size { OnOk result (IsInSize (statements_of tree.now)) }
 {
     refuse_unbuilt(alloc, tree)?;
-    refuse_unchecked(alloc, tree)?;
-    if is_in_size(tree) {
-        return Ok(());
-    }
-    Err(ReadFault::NoMemory)
+    refuse_unchecked(alloc, tree)
 }
 
 /// Refuses a tree with a piece of a form that cannot be run.
@@ -61,7 +54,7 @@ fn refuse_unbuilt(alloc: Global, tree: &Tree) -> Result<(), ReadFault>
     ensures wrong { IfErr result (IsJudged tree.now) }
 {
     match not_built(alloc, tree)? {
-        Some(verdict) => Err(fault_of(verdict)),
+        Some(refusal) => Err(fault_of(refusal)),
         None => Ok(()),
     }
 }
@@ -75,11 +68,11 @@ fn refuse_unchecked(alloc: Global, tree: &Tree) -> Result<(), ReadFault>
     Ok(())
 }
 
-fn fault_of(verdict: Verdict) -> ReadFault
-    ensures { result ≡ At verdict.line verdict.kind }
+fn fault_of(refusal: Refusal) -> ReadFault
+    ensures { result ≡ At refusal.line refusal.kind }
 {
     ReadFault::At {
-        line: verdict.line,
-        kind: verdict.kind,
+        line: refusal.line,
+        kind: refusal.kind,
     }
 }

@@ -2,20 +2,20 @@
 ghost use Rattle.std.specs.Prelude.{◌≡◌, ◌≤◌, ◌∷◌, [], IfOk, Some, true, length};
 ghost use Rattle.bim_code.specs.Limits.{FitsFields};
 ghost use Rattle.bim_code.specs.Tables.{image_bytes};
-ghost use Rattle.job_calls.specs.ReportText.{report_text};
+ghost use Rattle.hub_text.specs.ReportText.{report_text};
 ghost use Rattle.mos_words.specs.Fit.{IsFit};
-ghost use Rattle.mos_words.specs.Words.{is_source_name};
+ghost use Rattle.mos_text.specs.FileName.{is_source_name};
+ghost use Rattle.mos_text.specs.Limits.{source_limit};
 ghost use Rattle.mos_words.specs.declared.words.commands.Command.TheVariants.{Run as RunCommand};
 ghost use Rattle.lane_step.specs.Alone.{IsOwnEnd};
 ghost use Rattle.mosel_run.specs.Accepted.{IsAccepted, IsOnlyTree};
-ghost use Rattle.mosel_run.specs.Answered.{run_request, source_limit};
-ghost use Rattle.mosel_run.specs.InSize.{IsInSize};
+ghost use Rattle.mosel_run.specs.Answered.{run_request};
 ghost use Rattle.mosel_run.specs.Jobs.{OneThread};
 ghost use Rattle.mosel_run.specs.Making.{IsOneSource, listed};
 ghost use Rattle.mosel_run.specs.Puts.{image_name};
 ghost use Rattle.mosel_run.specs.Run.{IsRunAnswer, IsAnswerTo, IsReport, IsStatusOf};
 ghost use Rattle.mosel_run.specs.States.{folder_state};
-ghost use Rattle.mos_meaning.specs.Syntax.{statements_of};
+ghost use Rattle.mos_tree.specs.Sizes.{size_of_tree};
 
 use crate::answer::{Answer, Put, refusal, unread};
 use crate::image::{image_of, name_of_image};
@@ -24,7 +24,7 @@ use crate::status::Status;
 use crate::wanted::{Read, Wanted, read_all};
 use bim_code::Image;
 use bim_format::write_image;
-use hub_text::write_report;
+use hub_text::{Report, write_report};
 use job_calls::{End, Listed};
 use lane_step::{Stepped, run_alone};
 use mos_text::{Blob, Folder, NoMemory, SharedBlob, Text};
@@ -59,7 +59,8 @@ pub(crate) fn answer_run<F: Folder>(
 
 /// The one file that is wanted.
 fn one_wanted(alloc: Global, name: &Text) -> Result<Items<Wanted>, NoMemory>
-    ensures { IfOk result (λ wanted. wanted ≡ record { name = name.now; limit = source_limit } ∷ []) }
+    ensures { IfOk result (λ wanted.
+        wanted ≡ record { name = name.now; limit = source_limit } ∷ []) }
 {
     let mut wanted = Items::new(alloc);
     wanted.push(Wanted {
@@ -96,8 +97,9 @@ fn answer_source(
     source: &[u8],
 ) -> Result<Answer, NoMemory>
     requires fit { IsFit (RunCommand name.now lanes budget) }
-    requires small { length source.now ≤ 1048576 }
-    ensures { IfOk result (IsAnswerTo OneThread (run_request name.now lanes budget) (source.now ∷ [])) }
+    requires small { length source.now ≤ source_limit }
+    ensures { IfOk result
+        (IsAnswerTo OneThread (run_request name.now lanes budget) (source.now ∷ [])) }
 {
     match read_source(alloc, source) {
         Ok(tree) => report(alloc, name, lanes, budget, source, &tree),
@@ -118,8 +120,9 @@ fn report(
     requires fit { IsFit (RunCommand name.now lanes budget) }
     requires accepted { IsAccepted source.now tree.now }
     requires only { IsOnlyTree source.now tree.now }
-    requires in_size { IsInSize (statements_of tree.now) }
-    ensures { IfOk result (IsReport OneThread (run_request name.now lanes budget) (source.now ∷ [])) }
+    requires not_large { size_of_tree tree.now ≤ source_limit }
+    ensures { IfOk result
+        (IsReport OneThread (run_request name.now lanes budget) (source.now ∷ [])) }
 {
     let image = image_of(alloc, tree)?;
     let files = files(alloc, name, source)?;
@@ -148,7 +151,8 @@ fn files(alloc: Global, name: &Text, source: &[u8]) -> Result<Items<Listed>, NoM
 fn put_of_image(alloc: Global, name: &Text, image: Image) -> Result<Put, NoMemory>
     requires fields { FitsFields image }
     requires source { is_source_name name.now ≡ true }
-    ensures { IfOk result (λ put. put ≡ record { name = image_name name.now; bytes = image_bytes image }) }
+    ensures { IfOk result (λ put.
+        put ≡ record { name = image_name name.now; bytes = image_bytes image }) }
 {
     let name = name_of_image(alloc, name)?;
     let bytes = write_image(alloc, &image)?;
@@ -162,11 +166,11 @@ fn answer_of(alloc: Global, put: Put, stepped: Stepped) -> Result<Answer, NoMemo
     ensures puts { IfOk result (λ answer. answer.puts ≡ put ∷ []) }
     ensures status { IfOk result (λ answer. IsStatusOf (Some stepped.end) answer.status) }
 {
-    let text = write_report(
-        alloc,
-        stepped.lines.as_slice(),
-        stepped.journal.as_slice(),
-    )?;
+    let report = Report {
+        runs: stepped.lines,
+        entries: stepped.journal,
+    };
+    let text = write_report(alloc, &report)?;
     let mut puts = Items::new(alloc);
     puts.push(put)?;
     let status = status_of(stepped.end);
@@ -179,8 +183,13 @@ fn status_of(end: End) -> Status
     ensures { IsStatusOf (Some end) result }
 {
     match end {
-        End::Code(0) => Status::Done,
-        End::Code(_) | End::Fault(_) => Status::MasterFailed,
+        End::Code(code) => {
+            if code == 0 {
+                return Status::Done;
+            }
+            Status::MasterFailed
+        }
+        End::Fault(_) => Status::MasterFailed,
         End::Spent => Status::MasterSpent,
         End::Stopped | End::NoMemory => unreachable!(),
     }

@@ -3,7 +3,7 @@ ghost use Rattle.std.specs.Prelude.{◌≡◌, ◌≤◌, IfOk};
 ghost use Rattle.mosel_run.specs.Answered.{Answered, IsAnswer};
 ghost use Rattle.mosel_run.specs.Exact.{ExactUsage, ExactMissing, ExactTooLarge, ExactRefused, ExactReport};
 ghost use Rattle.mosel_run.specs.Jobs.{AnyJournal, OneThread};
-ghost use Rattle.mosel_run.specs.States.{folder_state, devices};
+ghost use Rattle.mosel_run.specs.States.{folder_state, states};
 
 use crate::answer::{Answer, usage};
 use crate::deliver::deliver;
@@ -14,9 +14,10 @@ use mos_words::{Command, WordFault, command};
 use std::alloc::Global;
 
 /// Does what the words ask for: gets the files that they name from the folder, runs the job, writes
-/// one report or one line to the sink, and puts the files of the job into the folder. The first word
-/// is the program's name and is not looked at. What each status says stands in `specs/Answered`, and
-/// which one comes, by the words and what is known of the files, in `specs/Exact`.
+/// one report or one line to the sink, and puts the files of the job into the folder. The first
+/// word is the program's name and is not looked at. What each status says stands in
+/// `specs/Answered`, and which one comes, by the words and what is known of the files, in
+/// `specs/Exact`.
 pub fn tool<F: Folder, K: Sink>(
     alloc: Global,
     words: &[Text],
@@ -25,14 +26,14 @@ pub fn tool<F: Folder, K: Sink>(
 ) -> Status
     // The answer that the words ask for is delivered, as far as the status says.
     ensures answered { Answered AnyJournal words.now
-        (devices (F.content folder.old) (F.faults folder.old) (K.bytes sink.old) (K.faults sink.old))
-        (devices (F.content folder.new) (F.faults folder.new) (K.bytes sink.new) (K.faults sink.new))
+        (states (F.content folder.old) (F.faults folder.old) (K.bytes sink.old) (K.faults sink.old))
+        (states (F.content folder.new) (F.faults folder.new) (K.bytes sink.new) (K.faults sink.new))
         result }
 
     // Its journal is the one that a single thread writes.
     ensures one_thread { Answered OneThread words.now
-        (devices (F.content folder.old) (F.faults folder.old) (K.bytes sink.old) (K.faults sink.old))
-        (devices (F.content folder.new) (F.faults folder.new) (K.bytes sink.new) (K.faults sink.new))
+        (states (F.content folder.old) (F.faults folder.old) (K.bytes sink.old) (K.faults sink.old))
+        (states (F.content folder.new) (F.faults folder.new) (K.bytes sink.new) (K.faults sink.new))
         result }
 
     // By the words and the files alone, where no device fails and memory is there.
@@ -55,8 +56,8 @@ fn perform<F: Folder, K: Sink>(
     sink: &mut K,
 ) -> Status
     ensures one_thread { Answered OneThread words.now
-        (devices (F.content folder.old) (F.faults folder.old) (K.bytes sink.old) (K.faults sink.old))
-        (devices (F.content folder.new) (F.faults folder.new) (K.bytes sink.new) (K.faults sink.new))
+        (states (F.content folder.old) (F.faults folder.old) (K.bytes sink.old) (K.faults sink.old))
+        (states (F.content folder.new) (F.faults folder.new) (K.bytes sink.new) (K.faults sink.new))
         result }
     ensures folder_faults { F.faults folder.old ≤ F.faults folder.new }
     ensures sink_faults { K.faults sink.old ≤ K.faults sink.new }

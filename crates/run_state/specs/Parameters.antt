@@ -127,7 +127,7 @@ given_by params item =
     let place = place_of (trimmed (take equals item)) (map (λ (p : Parameter). p.name) params) in
     if nat_eq equals (length item) then None
     else and_then (slice_get params place) (λ (p : Parameter).
-        and_then (written_of (trimmed (drop (equals + 1) item))) (λ written. option_map (λ v. (place, v)) (value_like p.default written)))
+    and_then (written_of (trimmed (drop (equals + 1) item))) (λ written. option_map (λ v. (place, v)) (value_like p.default written)))
 
 -- the values behind some items; each counts from then on
 abbrev pub given_behind : List Parameter → List Scalar → List (List ℕ) → Option (List Scalar)

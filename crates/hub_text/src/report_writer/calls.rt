@@ -1,13 +1,13 @@
 //! The text of an end and of a call.
 ghost use Rattle.std.specs.Prelude.{◌≡◌, ◌++◌, flat_map, OnOk};
-ghost use Rattle.job_calls.specs.CallText.{bytes_text, call_text, compile_text, end_text, file_text, open_text, receiver_text, run_text, send_text, way_text};
+ghost use Rattle.hub_text.specs.CallText.{bytes_text, call_text, compile_text, end_text, file_text, open_text, receiver_text, run_text, send_text, way_text};
 
 use super::words::{put_hex, put_number, put_quoted, put_with_number, put_with_quoted};
 use job_calls::{Call, End, Listed, Way};
 use std::alloc::AllocError;
 
 /// How a run ended.
-#[tactic(auto, unfolding(job_calls::specs::CallText::end_text))]
+#[tactic(auto, unfolding(crate::specs::CallText::end_text))]
 pub fn put_end(out: &mut Vec<u8>, end: End) -> Result<(), AllocError>
     ensures { OnOk result (out.new.items ≡ out.old.items ++ end_text end) }
 {
@@ -27,7 +27,7 @@ pub fn put_end(out: &mut Vec<u8>, end: End) -> Result<(), AllocError>
 }
 
 /// A call with its arguments.
-#[tactic(auto, unfolding(job_calls::specs::CallText::call_text))]
+#[tactic(auto, unfolding(crate::specs::CallText::call_text))]
 pub fn put_call(out: &mut Vec<u8>, call: &Call) -> Result<(), AllocError>
     ensures { OnOk result (out.new.items ≡ out.old.items ++ call_text call.now) }
 {
@@ -71,7 +71,7 @@ pub fn put_call(out: &mut Vec<u8>, call: &Call) -> Result<(), AllocError>
     }
 }
 
-#[tactic(auto, unfolding(job_calls::specs::CallText::open_text))]
+#[tactic(auto, unfolding(crate::specs::CallText::open_text))]
 fn put_open(
     out: &mut Vec<u8>,
     lanes: u32,
@@ -100,7 +100,7 @@ fn put_files(out: &mut Vec<u8>, files: &[Listed]) -> Result<(), AllocError>
 }
 
 /// The name and the length of a listed file, with a space before them.
-#[tactic(auto, unfolding(job_calls::specs::CallText::file_text))]
+#[tactic(auto, unfolding(crate::specs::CallText::file_text))]
 fn put_file(out: &mut Vec<u8>, file: &Listed) -> Result<(), AllocError>
     ensures { OnOk result (out.new.items ≡ out.old.items ++ file_text file.now) }
 {
@@ -110,7 +110,7 @@ fn put_file(out: &mut Vec<u8>, file: &Listed) -> Result<(), AllocError>
     put_number(out, file.bytes.as_bytes().len())
 }
 
-#[tactic(auto, unfolding(job_calls::specs::CallText::compile_text))]
+#[tactic(auto, unfolding(crate::specs::CallText::compile_text))]
 fn put_compile(out: &mut Vec<u8>, src: &[u8], dst: &[u8]) -> Result<(), AllocError>
     ensures { OnOk result (out.new.items ≡ out.old.items ++ compile_text src.now dst.now) }
 {
@@ -120,7 +120,7 @@ fn put_compile(out: &mut Vec<u8>, src: &[u8], dst: &[u8]) -> Result<(), AllocErr
     put_quoted(out, dst)
 }
 
-#[tactic(auto, unfolding(job_calls::specs::CallText::run_text))]
+#[tactic(auto, unfolding(crate::specs::CallText::run_text))]
 fn put_run(out: &mut Vec<u8>, model: u32, params: &[u8]) -> Result<(), AllocError>
     ensures { OnOk result (out.new.items ≡ out.old.items ++ run_text model params.now) }
 {
@@ -130,7 +130,7 @@ fn put_run(out: &mut Vec<u8>, model: u32, params: &[u8]) -> Result<(), AllocErro
     put_quoted(out, params)
 }
 
-#[tactic(auto, unfolding(job_calls::specs::CallText::send_text))]
+#[tactic(auto, unfolding(crate::specs::CallText::send_text))]
 fn put_send(out: &mut Vec<u8>, to: Option<u32>, class: i32, value: i32) -> Result<(), AllocError>
     ensures { OnOk result (out.new.items ≡ out.old.items ++ send_text to class value) }
 {
@@ -142,7 +142,7 @@ fn put_send(out: &mut Vec<u8>, to: Option<u32>, class: i32, value: i32) -> Resul
     put_number(out, value)
 }
 
-#[tactic(auto, unfolding(job_calls::specs::CallText::receiver_text))]
+#[tactic(auto, unfolding(crate::specs::CallText::receiver_text))]
 fn put_receiver(out: &mut Vec<u8>, to: Option<u32>) -> Result<(), AllocError>
     ensures { OnOk result (out.new.items ≡ out.old.items ++ receiver_text to) }
 {
@@ -152,7 +152,7 @@ fn put_receiver(out: &mut Vec<u8>, to: Option<u32>) -> Result<(), AllocError>
     }
 }
 
-#[tactic(auto, unfolding(job_calls::specs::CallText::bytes_text))]
+#[tactic(auto, unfolding(crate::specs::CallText::bytes_text))]
 fn put_bytes(out: &mut Vec<u8>, word: &[u8], name: &[u8], bytes: &[u8]) -> Result<(), AllocError>
     ensures { OnOk result (out.new.items ≡ out.old.items ++ bytes_text word.now name.now bytes.now) }
 {

@@ -1,13 +1,13 @@
 //! The text of a reply.
 ghost use Rattle.std.specs.Prelude.{◌≡◌, ◌++◌, OnOk};
-ghost use Rattle.job_calls.specs.ReplyText.{reply_text};
+ghost use Rattle.hub_text.specs.ReplyText.{reply_text};
 
 use super::words::{put_hex, put_number, put_with_number};
 use job_calls::Reply;
 use std::alloc::AllocError;
 
 /// A reply, without what follows from the call, the files and earlier entries.
-#[tactic(auto, unfolding(job_calls::specs::ReplyText::reply_text))]
+#[tactic(auto, unfolding(crate::specs::ReplyText::reply_text))]
 pub fn put_reply(out: &mut Vec<u8>, reply: &Reply) -> Result<(), AllocError>
     ensures { OnOk result (out.new.items ≡ out.old.items ++ reply_text reply.now) }
 {

@@ -1,6 +1,6 @@
-//! Numbers, quoted texts and bytes.
+//! Numbers, in_quotes texts and bytes.
 ghost use Rattle.std.specs.Prelude.{◌≡◌, ◌<◌, ◌++◌, flat_map, OnOk};
-ghost use Rattle.job_calls.specs.Quoting.{escaped, hex_digit, hex_pair, hex_text, quoted, with_number, with_quoted};
+ghost use Rattle.hub_text.specs.Quoting.{escape, hex_digit, hex_pair, hex_text, in_quotes, with_number, with_quotes};
 
 use itoa::{Buffer, Integer};
 use std::alloc::AllocError;
@@ -14,7 +14,7 @@ pub fn put_number<I: Integer>(out: &mut Vec<u8>, number: I) -> Result<(), AllocE
 }
 
 /// A word, a space and a number.
-#[tactic(auto, unfolding(job_calls::specs::Quoting::with_number))]
+#[tactic(auto, unfolding(crate::specs::Quoting::with_number))]
 pub fn put_with_number(out: &mut Vec<u8>, word: &[u8], number: u32) -> Result<(), AllocError>
     ensures { OnOk result (out.new.items ≡ out.old.items ++ with_number word.now number) }
 {
@@ -24,9 +24,9 @@ pub fn put_with_number(out: &mut Vec<u8>, word: &[u8], number: u32) -> Result<()
 }
 
 /// A word, a space and a text in quotes.
-#[tactic(auto, unfolding(job_calls::specs::Quoting::with_quoted))]
+#[tactic(auto, unfolding(crate::specs::Quoting::with_quotes))]
 pub fn put_with_quoted(out: &mut Vec<u8>, word: &[u8], text: &[u8]) -> Result<(), AllocError>
-    ensures { OnOk result (out.new.items ≡ out.old.items ++ with_quoted word.now text.now) }
+    ensures { OnOk result (out.new.items ≡ out.old.items ++ with_quotes word.now text.now) }
 {
     out.extend_from_slice(word)?;
     out.push(b' ')?;
@@ -34,9 +34,9 @@ pub fn put_with_quoted(out: &mut Vec<u8>, word: &[u8], text: &[u8]) -> Result<()
 }
 
 /// A text in quotes.
-#[tactic(auto, unfolding(job_calls::specs::Quoting::quoted))]
+#[tactic(auto, unfolding(crate::specs::Quoting::in_quotes))]
 pub fn put_quoted(out: &mut Vec<u8>, text: &[u8]) -> Result<(), AllocError>
-    ensures { OnOk result (out.new.items ≡ out.old.items ++ quoted text.now) }
+    ensures { OnOk result (out.new.items ≡ out.old.items ++ in_quotes text.now) }
 {
     out.push(b'"')?;
     put_escaped(out, text)?;
@@ -44,7 +44,7 @@ pub fn put_quoted(out: &mut Vec<u8>, text: &[u8]) -> Result<(), AllocError>
 }
 
 fn put_escaped(out: &mut Vec<u8>, text: &[u8]) -> Result<(), AllocError>
-    ensures { OnOk result (out.new.items ≡ out.old.items ++ flat_map escaped text.now) }
+    ensures { OnOk result (out.new.items ≡ out.old.items ++ flat_map escape text.now) }
 {
     for byte in text {
         put_escaped_byte(out, *byte)?;
@@ -53,7 +53,7 @@ fn put_escaped(out: &mut Vec<u8>, text: &[u8]) -> Result<(), AllocError>
 }
 
 fn put_escaped_byte(out: &mut Vec<u8>, byte: u8) -> Result<(), AllocError>
-    ensures { OnOk result (out.new.items ≡ out.old.items ++ escaped byte) }
+    ensures { OnOk result (out.new.items ≡ out.old.items ++ escape byte) }
 {
     match byte {
         b'\n' => out.extend_from_slice(b"\\n"),
@@ -65,7 +65,7 @@ fn put_escaped_byte(out: &mut Vec<u8>, byte: u8) -> Result<(), AllocError>
 }
 
 /// Bytes: an x, and two digits of base 16 for each.
-#[tactic(auto, unfolding(job_calls::specs::Quoting::hex_text))]
+#[tactic(auto, unfolding(crate::specs::Quoting::hex_text))]
 pub fn put_hex(out: &mut Vec<u8>, bytes: &[u8]) -> Result<(), AllocError>
     ensures { OnOk result (out.new.items ≡ out.old.items ++ hex_text bytes.now) }
 {

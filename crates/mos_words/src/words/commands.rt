@@ -1,3 +1,4 @@
+//! Commands, and why words are none.
 use mos_text::{NoMemory, Text};
 
 /// What the words ask for.

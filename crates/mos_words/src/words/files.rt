@@ -1,12 +1,12 @@
 //! The file words of a command.
 ghost use Rattle.std.specs.Prelude.{◌≡◌, true, false, [], slice_index_or, IfOk, MatchOption};
 ghost use Rattle.std.specs.List.{list_all};
-ghost use Rattle.mos_text.specs.FileName.{is_file_name};
-ghost use Rattle.mos_words.specs.Words.{files, lacks_value, is_source_name, breaks_files};
+ghost use Rattle.mos_text.specs.FileName.{is_file_name, is_source_name};
+ghost use Rattle.mos_words.specs.CommandLine.{files, lacks_value, breaks_files};
 
 use crate::words::options::first_of;
 use crate::words::shape::{begins_with_dash, takes_next};
-use mos_text::{NoMemory, Text, is_file_name};
+use mos_text::{NoMemory, Text, is_file_name, is_source_name};
 use sqlite_items::Items;
 use std::alloc::Global;
 
@@ -52,14 +52,14 @@ pub fn only_source(named: Items<Text>) -> Option<Text>
     }
 }
 
-#[tactic(auto, unfolding(crate::specs::Words::breaks_files))]
+#[tactic(auto, unfolding(crate::specs::CommandLine::breaks_files))]
 fn breaks_files(named: &[Text]) -> bool
     ensures { result ≡ breaks_files named.now }
 {
     !are_file_names(named) || named.len() != 1 || !are_source_names(named)
 }
 
-#[tactic(auto, unfolding(crate::specs::Words::breaks_files))]
+#[tactic(auto, unfolding(crate::specs::CommandLine::breaks_files))]
 fn first_of_one(mut named: Items<Text>) -> Text
     requires { breaks_files named ≡ false }
     ensures { result ≡ slice_index_or named 0 [] }
@@ -76,12 +76,5 @@ fn are_file_names(named: &[Text]) -> bool
 fn are_source_names(named: &[Text]) -> bool
     ensures { result ≡ list_all is_source_name named.now }
 {
-    named.iter().all(|name| is_source_name(name.as_bytes()))
-}
-
-#[tactic(auto, unfolding(crate::specs::Words::is_source_name))]
-fn is_source_name(name: &[u8]) -> bool
-    ensures { result ≡ is_source_name name.now }
-{
-    &name[name.len().saturating_sub(4)..] == b".mos".as_slice()
+    named.iter().all(|name| is_source_name(name))
 }

@@ -2,7 +2,7 @@
 ghost use Rattle.std.specs.Prelude.{◌≡◌, true, false, nat_lt, not, length, slice_index_or, [], MatchOption};
 ghost use Rattle.std.specs.List.{list_all, list_any};
 ghost use Rattle.mos_text.specs.FileName.{is_digit};
-ghost use Rattle.mos_words.specs.Words.{row_of, is_named, is_unknown, value_at, values, is_number, number_of, is_value, setting_of};
+ghost use Rattle.mos_words.specs.CommandLine.{row_of, is_named, is_unknown, value_at, values, is_number, number_of, is_value, setting_of};
 
 use crate::words::shape::{has_equals_sign, is_option, name_in, value_in};
 use mos_text::Text;
@@ -47,14 +47,14 @@ fn row(option: OptionName) -> TableRow
     }
 }
 
-#[tactic(auto, unfolding(crate::specs::Words::is_named))]
+#[tactic(auto, unfolding(crate::specs::CommandLine::is_named))]
 fn is_named(option: OptionName, word: &[u8]) -> bool
     ensures { result ≡ is_named option word.now }
 {
     is_option(word) && name_in(word) == row(option).name
 }
 
-#[tactic(auto, unfolding(crate::specs::Words::is_unknown))]
+#[tactic(auto, unfolding(crate::specs::CommandLine::is_unknown))]
 pub fn is_unknown(options: &[OptionName], word: &[u8]) -> bool
     ensures { result ≡ is_unknown options.now word.now }
 {
@@ -77,7 +77,7 @@ pub fn first_of(words: &[Text]) -> &[u8]
     }
 }
 
-#[tactic(auto, unfolding(crate::specs::Words::value_at))]
+#[tactic(auto, unfolding(crate::specs::CommandLine::value_at))]
 fn value_at<'a>(word: &'a [u8], words: &'a [Text]) -> &'a [u8]
     ensures { result.now ≡ value_at word.now words.now }
 {
@@ -117,7 +117,7 @@ pub fn has_wrong_value(option: OptionName, arguments: &[Text]) -> bool
     false
 }
 
-#[tactic(auto, unfolding(crate::specs::Words::is_value))]
+#[tactic(auto, unfolding(crate::specs::CommandLine::is_value))]
 fn is_value(option: OptionName, word: &[u8]) -> bool
     ensures { result ≡ is_value option word.now }
 {
@@ -139,7 +139,7 @@ fn number(word: &[u8]) -> Option<u64>
     }
 }
 
-#[tactic(auto, unfolding(crate::specs::Words::is_number))]
+#[tactic(auto, unfolding(crate::specs::CommandLine::is_number))]
 fn is_number(word: &[u8]) -> bool
     ensures { result ≡ is_number word.now }
 {
@@ -152,7 +152,7 @@ fn has_digits_only(word: &[u8]) -> bool
     word.iter().all(|byte| byte.is_ascii_digit())
 }
 
-#[tactic(auto, unfolding(crate::specs::Words::number_of))]
+#[tactic(auto, unfolding(crate::specs::CommandLine::number_of))]
 fn number_of(digits: &[u8]) -> u64
     requires { is_number digits.now ≡ true }
     ensures { result ≡ number_of digits.now }
@@ -165,7 +165,7 @@ fn number_of(digits: &[u8]) -> u64
 }
 
 /// The value that the words give the option, or its usual one.
-#[tactic(auto, unfolding(crate::specs::Words::setting_of))]
+#[tactic(auto, unfolding(crate::specs::CommandLine::setting_of))]
 pub fn setting(option: OptionName, arguments: &[Text]) -> u32
     requires { list_all (is_value option) (values option arguments.now) ≡ true }
     ensures { result ≡ setting_of option (values option arguments.now) }
@@ -179,7 +179,7 @@ pub fn setting(option: OptionName, arguments: &[Text]) -> u32
     row(option).usual
 }
 
-#[tactic(auto, unfolding(crate::specs::Words::is_value))]
+#[tactic(auto, unfolding(crate::specs::CommandLine::is_value))]
 fn number_within(option: OptionName, word: &[u8]) -> u32
     requires { is_value option word.now ≡ true }
     ensures { result ≡ number_of word.now }

@@ -1,8 +1,7 @@
 //! The shape of one word.
-ghost use Rattle.std.specs.Prelude.{◌≡◌, drop};
-ghost use Rattle.mos_words.specs.Words.{begins_with_dash, is_option, is_equals_sign, has_equals_sign, name_in, value_in, is_misshapen, has_empty_value, takes_next};
-
-use crate::bytes::place_of;
+ghost use Rattle.std.specs.Prelude.{◌≡◌, ◌==◌, ◌≤◌, drop, length};
+ghost use Rattle.std.specs.List.{position_or_len};
+ghost use Rattle.mos_words.specs.CommandLine.{begins_with_dash, is_option, is_equals_sign, has_equals_sign, name_in, value_in, is_misshapen, has_empty_value, takes_next};
 
 pub fn begins_with_dash(word: &[u8]) -> bool
     ensures { result ≡ begins_with_dash word.now }
@@ -49,7 +48,7 @@ pub fn value_in(word: &[u8]) -> &[u8]
     }
 }
 
-#[tactic(auto, unfolding(crate::specs::Words::is_misshapen))]
+#[tactic(auto, unfolding(crate::specs::CommandLine::is_misshapen))]
 pub fn is_misshapen(word: &[u8]) -> bool
     ensures { result ≡ is_misshapen word.now }
 {
@@ -58,16 +57,26 @@ pub fn is_misshapen(word: &[u8]) -> bool
         || (is_option(word) && word.len() == 2)
 }
 
-#[tactic(auto, unfolding(crate::specs::Words::has_empty_value))]
+#[tactic(auto, unfolding(crate::specs::CommandLine::has_empty_value))]
 pub fn has_empty_value(word: &[u8]) -> bool
     ensures { result ≡ has_empty_value word.now }
 {
     is_option(word) && has_equals_sign(word) && value_in(word).is_empty()
 }
 
-#[tactic(auto, unfolding(crate::specs::Words::takes_next))]
+#[tactic(auto, unfolding(crate::specs::CommandLine::takes_next))]
 pub fn takes_next(word: &[u8]) -> bool
     ensures { result ≡ takes_next word.now }
 {
     is_option(word) && !has_equals_sign(word)
+}
+
+/// The place of the first such byte, or the length where there is none.
+fn place_of(wanted: u8, text: &[u8]) -> usize
+    ensures place { result ≡ position_or_len (λ byte. byte == wanted) text.now }
+    ensures within { result ≤ length text.now }
+{
+    text.iter()
+        .position(|byte| *byte == wanted)
+        .unwrap_or(text.len())
 }

@@ -30,7 +30,10 @@ impl From<SyntaxFault> for ReadFault {
 
     fn from(found: SyntaxFault) -> ReadFault {
         match found {
-            SyntaxFault::At { line, kind } => ReadFault::At { line, kind },
+            SyntaxFault::Refused(refusal) => ReadFault::At {
+                line: refusal.line,
+                kind: refusal.kind,
+            },
             SyntaxFault::NoMemory => ReadFault::NoMemory,
         }
     }
@@ -44,7 +47,10 @@ impl From<CheckFault> for ReadFault {
 
     fn from(found: CheckFault) -> ReadFault {
         match found {
-            CheckFault::At { line, kind } => ReadFault::At { line, kind },
+            CheckFault::Refused(refusal) => ReadFault::At {
+                line: refusal.line,
+                kind: refusal.kind,
+            },
             CheckFault::NoMemory => ReadFault::NoMemory,
         }
     }

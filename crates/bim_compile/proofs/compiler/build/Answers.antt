@@ -1,6 +1,6 @@
 -- a small model has few names and few texts
 use Rattle.std.proofs.Common.{◌≡◌, ◌∙◌, map, arith}
-use Rattle.mos_meaning.specs.Syntax.{block, top_effect, names_from, statements_of, variables_of}
+use Rattle.mos_meaning.specs.Sources.{block, top_effect, names_from, statements_of, variables_of}
 use Rattle.bim_compile.proofs.SizeLemmas.{texts_few_block, variables_few}
 use Rattle.bim_compile.proofs.compiler.build.Goals as goal
 

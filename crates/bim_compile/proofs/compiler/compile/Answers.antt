@@ -1,22 +1,24 @@
 -- what is known of every model's image, of this one
-use Rattle.std.proofs.Common.{◌≡◌, ◌≤◌, ◌*◌, ◌+◌, Result, Ok, Err, sym, subst, arith}
-use Rattle.std.specs.Prelude.{IfOk}
+use Rattle.std.proofs.Common.{◌≡◌, ◌≢◌, ◌≤◌, ◌*◌, ◌+◌, ◌∙◌, ℕ, List, Result, Ok, Err, sym, ap, subst, length, arith}
+use Rattle.std.specs.Prelude.{IfOk, OnOk}
+use Rattle.job_calls.specs.declared.reply.Reply.{Reply}
 use Rattle.bim_code.specs.declared.image.Image.{Image}
 use Rattle.bim_code.specs.Code.{code_size}
 use Rattle.bim_code.specs.Limits.{FitsFields}
+use Rattle.bim_code.specs.Rules.{KeepsRules}
 use Rattle.mos_text.specs.declared.no_memory.NoMemory.{NoMemory}
-use Rattle.mos_meaning.specs.MachineLaws.{KeepsTicks}
-use Rattle.mos_meaning.specs.Syntax.{statements_of, variables_of}
+use Rattle.run_state.specs.Stops.{Stop, Outcome, Stuck, Lost}
+use Rattle.mos_meaning.specs.Syntax.{Block}
+use Rattle.mos_meaning.specs.Sources.{program_of, statements_of, variables_of}
+use Rattle.mos_meaning.specs.Working.{NeverStuck, NeverLost}
 use Rattle.bim_compile.specs.Compiled.{image_of}
-use Rattle.bim_compile.specs.Means.{Means}
-use Rattle.bim_compile.specs.Plain.{IsPlain}
+use Rattle.bim_compile.specs.InSize.{IsInSize, IsSmallBlock}
+use Rattle.bim_compile.specs.Means.{Means, NeverFails}
 use Rattle.bim_compile.specs.Sizes.{size_of_block}
-use Rattle.bim_compile.proofs.Course.{course_is_meaning}
-use Rattle.bim_compile.proofs.NeverStuck.{never_stuck}
-use Rattle.bim_compile.proofs.PlainImages.{is_plain}
-use Rattle.bim_compile.proofs.Rules.{keeps_ticks}
-use Rattle.bim_compile.proofs.SizeLemmas.{fits_fields, code_within, variables_few, texts_few_block, block_within}
-use Rattle.bim_compile.proofs.WorkingModels.{block-built}
+use Rattle.bim_compile.proofs.BuiltModels.{block-built}
+use Rattle.bim_compile.proofs.CourseLemmas.{course_is_meaning}
+use Rattle.bim_compile.proofs.KeptRules.{keeps_rules}
+use Rattle.bim_compile.proofs.SizeLemmas.{fits_fields, code_within, few_instructions, texts_short_block}
 use Rattle.bim_compile.proofs.compiler.compile.Goals as goal
 
 -- what holds of one image holds of what is that image
@@ -24,36 +26,68 @@ of_it : (P : Image → Type 0) (image : Image) (result : Result Image NoMemory) 
 of_it P image (Ok made) h e = subst P (sym e) h
 of_it P image (Err fault) h e = tt
 
+-- or, where literals and texts are small, of a small one
+of_small : (P : Image → Type 0) (model : Block) (result : Result Image NoMemory) → (IsSmallBlock model → P (image_of model))
+    → IfOk result (λ (made : Image). made ≡ image_of model) → OnOk result (IsSmallBlock model) → IfOk result P
+of_small P model (Ok made) h e small = subst P (sym e) (h small)
+of_small P model (Err fault) h e small = tt
+
 pub build-requires-clause-built : goal.build-requires-clause-built
-build-requires-clause-built c = block-built (variables_of (statements_of c.args.tree.now)) (statements_of c.args.tree.now) c.requires.works
+build-requires-clause-built c = block-built (variables_of (statements_of c.args.tree.now)) (statements_of c.args.tree.now) c.requires.can_compile.works
+
+pub build-requires-clause-small : goal.build-requires-clause-small
+build-requires-clause-small c = c.requires.can_compile.not_large
 
 pub returns-clause-means : goal.returns-clause-means
 returns-clause-means c =
     let model = statements_of c.args.tree.now in
-    let laws = c.machine_laws.ensures in
-    of_it (Means model) (image_of model) c.build.result
-    (course_is_meaning laws.over_in_time laws.ticks_fall laws.one_end model (block-built (variables_of model) model c.requires.works)) c.build.ensures
+    let works = c.requires.can_compile.works in
+    of_small (Means (program_of model)) model c.build.result
+    (λ small.
+        let in_size : IsInSize model = record { small = small; size = c.requires.can_compile.not_large } in
+        course_is_meaning c.machine_laws.ensures.over_in_time c.machine_laws.ensures.stays_over model (block-built (variables_of model) model works)
+        (keeps_rules model works in_size).ticks (c.working_models.ensures.never_lost model works))
+    c.build.ensures.built c.build.ensures.small
 
-pub returns-clause-never_stuck : goal.returns-clause-never_stuck
-returns-clause-never_stuck c = never_stuck (statements_of c.args.tree.now) c.requires.works
+-- what means a model that is never stuck and never lost is neither
+never_fails : (model : Block) (image : Image) → Means (program_of model) image → NeverStuck (program_of model) → NeverLost (program_of model) → NeverFails image
+never_fails model image means never_stuck never_lost = record {
+  stuck = λ text replies budget e. never_stuck text replies budget (ap (λ (o : Outcome). o.stop) (sym (means text replies budget)) ∙ e);
+  lost = λ text replies budget e. never_lost text replies budget (ap (λ (o : Outcome). o.stop) (sym (means text replies budget)) ∙ e);
+}
 
-pub returns-clause-keeps_ticks : goal.returns-clause-keeps_ticks
-returns-clause-keeps_ticks c =
-    let model = statements_of c.args.tree.now in of_it KeepsTicks (image_of model) c.build.result (keeps_ticks model) c.build.ensures
+pub returns-clause-never_fails : goal.returns-clause-never_fails
+returns-clause-never_fails c =
+    let model = statements_of c.args.tree.now in
+    let works = c.requires.can_compile.works in
+    of_small NeverFails model c.build.result
+    (λ small.
+        let in_size : IsInSize model = record { small = small; size = c.requires.can_compile.not_large } in
+        never_fails model (image_of model)
+        (course_is_meaning c.machine_laws.ensures.over_in_time c.machine_laws.ensures.stays_over model (block-built (variables_of model) model works)
+        (keeps_rules model works in_size).ticks (c.working_models.ensures.never_lost model works))
+        (c.working_models.ensures.never_stuck model works) (c.working_models.ensures.never_lost model works))
+    c.build.ensures.built c.build.ensures.small
+
+pub returns-clause-rules : goal.returns-clause-rules
+returns-clause-rules c =
+    let model = statements_of c.args.tree.now in
+    of_small KeepsRules model c.build.result
+    (λ small. keeps_rules model c.requires.can_compile.works (record { small = small; size = c.requires.can_compile.not_large }))
+    c.build.ensures.built c.build.ensures.small
 
 pub returns-clause-fields : goal.returns-clause-fields
 returns-clause-fields c =
     let model = statements_of c.args.tree.now in
-    of_it FitsFields (image_of model) c.build.result (fits_fields model c.requires.small c.requires.short) c.build.ensures
+    of_small FitsFields model c.build.result (λ small. fits_fields model c.requires.can_compile.not_large (texts_short_block model small))
+    c.build.ensures.built c.build.ensures.small
 
-pub returns-clause-plain : goal.returns-clause-plain
-returns-clause-plain c =
+pub returns-clause-few : goal.returns-clause-few
+returns-clause-few c =
     let model = statements_of c.args.tree.now in
-    let small = c.requires.small in
-    of_it IsPlain (image_of model) c.build.result
-    (is_plain model c.requires.works (omega (arith, variables_few model, small)) (omega (arith, texts_few_block model, small)) (omega (arith, block_within 0 model, small))) c.build.ensures
+    of_it (λ (image : Image). length image.code ≤ 5 * size_of_block model + 2) (image_of model) c.build.result (few_instructions model) c.build.ensures.built
 
 pub returns-clause-size : goal.returns-clause-size
 returns-clause-size c =
     let model = statements_of c.args.tree.now in
-    of_it (λ (image : Image). code_size image.code ≤ 13 * size_of_block model + 6) (image_of model) c.build.result (code_within model) c.build.ensures
+    of_it (λ (image : Image). code_size image.code ≤ 13 * size_of_block model + 6) (image_of model) c.build.result (code_within model) c.build.ensures.built

@@ -1,6 +1,6 @@
 -- the names so far, and those of the statements still to come, are the names of all
 use Rattle.std.proofs.Common.{◌≡◌, drop}
-use Rattle.mos_meaning.specs.Syntax.{block_of, branches_of, names_from, names_in_branches}
+use Rattle.mos_meaning.specs.Sources.{block_of, branches_of, names_from, names_in_branches}
 use Rattle.bim_compile.proofs.names.+notes.Given as goal
 
 abbrev pub invariant-note_statement-loop-arm : goal.invariant-note_statement-loop-arm

@@ -1,6 +1,6 @@
 -- the names so far, and those of the statements still to come, are the names of all
 use Rattle.std.proofs.Common.{◌≡◌, drop, map}
-use Rattle.mos_meaning.specs.Syntax.{block, top_effect, names_from}
+use Rattle.mos_meaning.specs.Sources.{block, top_effect, names_from}
 use Rattle.bim_compile.proofs.names.note_tops.Given as goal
 
 abbrev pub invariant-loop-top : goal.invariant-loop-top

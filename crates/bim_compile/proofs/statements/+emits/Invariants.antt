@@ -1,6 +1,6 @@
 -- what was made so far, with what is still to come, is the whole
 use Rattle.std.proofs.Common.{◌≡◌, ◌≤◌, ◌++◌, ◌+◌, ◌*◌, ◌<◌, ◌^◌, drop, length}
-use Rattle.mos_meaning.specs.Syntax.{block_of, branches_of, effect}
+use Rattle.mos_meaning.specs.Sources.{block_of, branches_of, effect}
 use Rattle.bim_compile.specs.Built.{AreBuiltBranches, IsBuiltBlock, choice_of}
 use Rattle.bim_compile.specs.Compiled.{branches_code, branches_end, texts_in_branches, block_code, block_end, texts_in_block}
 use Rattle.bim_compile.specs.Sizes.{size_of_branches, size_of_block}

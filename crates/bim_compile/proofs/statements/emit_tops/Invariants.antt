@@ -1,6 +1,6 @@
 -- what was made so far, with what is still to come, is the whole
 use Rattle.std.proofs.Common.{◌≡◌, ◌≤◌, ◌++◌, ◌+◌, ◌*◌, ◌<◌, ◌^◌, drop, map, length}
-use Rattle.mos_meaning.specs.Syntax.{block, top_effect}
+use Rattle.mos_meaning.specs.Sources.{block, top_effect}
 use Rattle.bim_compile.specs.Built.{IsBuiltBlock}
 use Rattle.bim_compile.specs.Compiled.{block_code, block_end, texts_in_block}
 use Rattle.bim_compile.specs.Sizes.{size_of_block}

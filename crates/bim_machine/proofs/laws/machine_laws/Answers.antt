@@ -1,6 +1,6 @@
 -- each law by its lemma
 use Rattle.bim_machine.specs.Starts.{beginning_of}
-use Rattle.bim_machine.proofs.Runs.{step_by_step, stays_over}
+use Rattle.bim_machine.proofs.Runs.{step_by_step, stays_over, last_step}
 use Rattle.bim_machine.proofs.MoreOfTheWorld.{run_more}
 use Rattle.bim_machine.proofs.Pace.{over_in_time}
 use Rattle.bim_machine.proofs.Growth.{all_grows}
@@ -16,6 +16,7 @@ returns c = record {
   ticks_within = λ image text replies budget. ticks_within image (record { replies = replies; budget = budget }) (beginning_of image text);
   step_by_step = step_by_step;
   stays_over = stays_over;
+  last_step = last_step;
   all_grows = all_grows;
   asks_last = λ image text replies budget call e. asks_last_of image (record { replies = replies; budget = budget }) (beginning_of image text) call e;
 }

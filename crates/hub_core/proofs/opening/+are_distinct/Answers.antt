@@ -1,7 +1,6 @@
 -- the first name is none of the others'
-use Rattle.std.proofs.Common.{◌≡◌, ◌∙◌, sym, arith, length-drop}
-use Rattle.job_calls.proofs.Outcomes.{false_true}
-use Rattle.hub_core.proofs.Distinct.{distinct_first, first_apart, rest_distinct}
+use Rattle.std.proofs.Common.{◌∙◌, sym, arith, length-drop}
+use Rattle.hub_core.proofs.Distinct.{false_is_not_true, distinct_first, first_apart, rest_distinct}
 use Rattle.hub_core.proofs.opening.+are_distinct.Goals as goal
 
 pub returns-then-not-is_among-clause-yes : goal.returns-then-not-is_among-clause-yes
@@ -19,6 +18,6 @@ returns-then-not-is_among-clause-no n c = λ distinct.
 pub returns-else-not-is_among-clause-no : goal.returns-else-not-is_among-clause-no
 returns-else-not-is_among-clause-no n c = λ distinct.
     let l = length-drop 1 c.args.files.now in
-    absurd (false_true (
+    absurd (false_is_not_true (
     sym (first_apart c.args.files.now c.file-item.result _ c.in-len1-up.len_at_least c.file-item.is (omega (arith, l)) distinct)
     ∙ (sym c.is_among.ensures ∙ c.if-not-is_among.false)))

@@ -1,5 +1,5 @@
 use Rattle.std.proofs.Common.{◌≡◌, ◌++◌, drop}
-use Rattle.job_calls.specs.ReportText.{entry_lines}
+use Rattle.hub_text.specs.ReportText.{entry_lines}
 use Rattle.hub_text.proofs.report_writer.put_entries.Given as goal
 
 abbrev pub invariant-loop-place : goal.invariant-loop-place

@@ -1,5 +1,5 @@
 use Rattle.std.proofs.Common.{◌≡◌, ◌++◌, drop}
-use Rattle.job_calls.specs.ReportText.{run_lines}
+use Rattle.hub_text.specs.ReportText.{run_lines}
 use Rattle.hub_text.proofs.report_writer.put_runs.Given as goal
 
 abbrev pub invariant-loop-number : goal.invariant-loop-number

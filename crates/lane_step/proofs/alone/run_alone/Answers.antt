@@ -1,12 +1,9 @@
 -- the journal is that of the schedule, which is whole and follows the course of the image
-use Rattle.std.proofs.Common.{◌≡◌, ◌∙◌, ◌∷◌, [], List, Option, Some, ap, sym, subst}
+use Rattle.std.proofs.Common.{◌∙◌, List, ap, sym, subst}
 use Rattle.job_calls.specs.declared.entry.Entry.{Entry}
-use Rattle.job_calls.specs.declared.run_line.RunLine.{RunLine}
 use Rattle.job_calls.specs.Runs.{finish_of}
-use Rattle.mos_meaning.specs.Follows.{FollowsSources}
-use Rattle.mos_meaning.specs.Machine.{course_of}
 use Rattle.lane_step.specs.Alone.{opening_with}
-use Rattle.lane_step.specs.Lines.{line_of, IsFirstName}
+use Rattle.lane_step.specs.Lines.{IsFirstName}
 use Rattle.lane_step.specs.Whole.{IsWhole}
 use Rattle.lane_step.proofs.WholeSchedules.{is_whole, finish_is}
 use Rattle.lane_step.proofs.Following.{follows_sources}

@@ -1,11 +1,9 @@
-use Rattle.mos_expr.proofs.Whole.{list_found, list_deep, list_only}
+use Rattle.mos_expr.specs.Said.{AreExpressions}
+use Rattle.mos_expr.proofs.Whole.{says_expressions, says_want}
 use Rattle.mos_expr.proofs.tree.expressions_of_words.Goals as goal
 
-pub returns-clause-found : goal.returns-clause-found
-returns-clause-found c = list_found c.args.words.now c.in_ok-parts.parts c.trees_of.result c.in_ok-parts.ensures c.trees_of.ensures
+pub returns-in-Ok : goal.returns-in-Ok
+returns-in-Ok c = says_expressions c.args.words.now c.in-Ok.parts c.trees_of.result c.in-Ok.ensures c.trees_of.ensures
 
-pub returns-clause-deep : goal.returns-clause-deep
-returns-clause-deep c = list_deep c.args.words.now c.in_ok-parts.parts c.trees_of.result c.in_ok-parts.ensures c.trees_of.ensures
-
-pub returns-clause-only : goal.returns-clause-only
-returns-clause-only c = list_only c.args.words.now c.in_ok-parts.parts c.trees_of.result c.in_ok-parts.ensures c.trees_of.ensures
+pub returns-in-Err : goal.returns-in-Err
+returns-in-Err c = says_want (AreExpressions c.args.words.now)

@@ -3,7 +3,7 @@ use Rattle.std.proofs.Common.{◌≡◌, ℕ, zero, suc, [], ◌∷◌, Some, No
 use Rattle.std.specs.Prelude.{slice_get}
 use Rattle.job_calls.specs.declared.run_line.RunLine.{RunLine}
 use Rattle.job_calls.specs.Runs.{Opening}
-use Rattle.job_calls.specs.ReportExamples.{hello_entries, hello_runs, hello_file}
+use Rattle.job_calls.specs.HelloJournal.{hello_entries, hello_runs, hello_file}
 use Rattle.mos_meaning.specs.Examples.{hello, hello_image, hello_behaviours}
 use Rattle.mos_meaning.specs.Follows.{Follows, behaviour_of}
 use Rattle.mos_meaning.specs.Sources.{program_of}

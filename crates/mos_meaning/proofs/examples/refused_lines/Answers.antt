@@ -3,7 +3,7 @@ use Rattle.std.proofs.Common.{◌≡◌, ℕ, List, [], ◌∷◌, Option, Some,
 use Rattle.std.specs.Prelude.{slice_get, codes}
 use Rattle.job_calls.specs.declared.entry.Listed.{Listed}
 use Rattle.job_calls.specs.Runs.{Opening}
-use Rattle.job_calls.specs.ReportExamples.{hello_file}
+use Rattle.job_calls.specs.HelloJournal.{hello_file}
 use Rattle.mos_meaning.specs.Follows.{Behaviour}
 use Rattle.mos_meaning.proofs.examples.refused_lines.Goals as goal
 

@@ -1,4 +1,4 @@
-use Rattle.std.proofs.Common.{◌≡◌, ◌+◌, drop, get_or, subst, sym, ◌∙◌}
+use Rattle.std.proofs.Common.{◌+◌, drop, subst, sym}
 use Rattle.std.proofs.lemmas.List.{drop_all}
 use Rattle.mos_parse.proofs.Forms.{Done, done_one, done_all, next_piece}
 use Rattle.mos_parse.proofs.parser.forms_of.Goals as goal

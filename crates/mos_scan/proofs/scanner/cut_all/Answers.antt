@@ -1,7 +1,7 @@
 use Rattle.std.proofs.Common.{◌+◌, sym, subst, List}
 use Rattle.std.proofs.lemmas.Bool.{eqb-true}
 use Rattle.mos_scan.specs.declared.token.Token.{Token}
-use Rattle.mos_scan.specs.Scans.{IsWholeCut}
+use Rattle.mos_scan.specs.Scanning.{IsWholeCut}
 use Rattle.mos_scan.proofs.Scans.{Scanned, scanned_gap, scanned_token, scanned_end, scanned_whole}
 use Rattle.mos_scan.proofs.scanner.cut_all.Goals as goal
 

@@ -1,5 +1,5 @@
 use Rattle.std.proofs.Common.{◌∙◌, ap}
-use Rattle.mos_scan.specs.Words.{front_end}
+use Rattle.mos_scan.specs.Lexemes.{front_end}
 use Rattle.mos_scan.proofs.Tables.{ends_table}
 use Rattle.mos_scan.proofs.word.end_word.Goals as goal
 

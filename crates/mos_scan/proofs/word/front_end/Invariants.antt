@@ -1,5 +1,5 @@
 use Rattle.std.proofs.Common.{◌≡◌, map, length}
-use Rattle.mos_scan.specs.Words as spec
+use Rattle.mos_scan.specs.Lexemes as spec
 use Rattle.mos_scan.proofs.word.front_end.Given as goal
 
 abbrev pub invariant-loop-table : goal.invariant-loop-table

@@ -11,4 +11,4 @@ returns-in-Some c = says_set c.args.words.now c.in-Some.base.now c.base_form.res
 pub returns-in-None : goal.returns-in-None
 returns-in-None c =
     says_over c.args.words.now c.expression_of_words.result c.index_set.result (sym c.is_range.ensures ∙ c.if-is_range.false) c.in-None.ensures
-    c.expression_of_words.ensures.found c.expression_of_words.ensures.deep c.expression_of_words.ensures.only c.index_set.ensures
+    c.expression_of_words.ensures c.index_set.ensures

@@ -2,4 +2,4 @@ use Rattle.mos_typing.proofs.Listed.{names_answer}
 use Rattle.mos_typing.proofs.reading.names.Goals as goal
 
 pub returns : goal.returns
-returns c = record { found = names_answer c.args.words.now c.names_of_words.result c.names_of_words.ensures }
+returns c = names_answer c.args.words.now c.names_of_words.result c.names_of_words.ensures

@@ -1,5 +1,5 @@
 -- the whole text, and the files; or a first part of it
-use Rattle.std.proofs.Common.{◌≡◌, ◌∙◌, ap, refl, subst}
+use Rattle.std.proofs.Common.{◌∙◌, ap, refl, subst}
 use Rattle.mos_text.specs.SinkBytes.{appended, AppendedPart}
 use Rattle.mosel_run.specs.Delivered.{unwritten, no_memory_to_write}
 use Rattle.mosel_run.proofs.PuttingFiles.{with_puts}

@@ -1,5 +1,5 @@
 -- one file more is put
-use Rattle.std.proofs.Common.{◌≡◌, ◌+◌, ◌∙◌, ap, refl, sym, Some, arith}
+use Rattle.std.proofs.Common.{◌+◌, ◌∙◌, ap, refl, sym, Some, arith}
 use Rattle.std.proofs.lemmas.Option.{slice_get-get_or}
 use Rattle.mos_text.specs.Content.{put_file}
 use Rattle.mosel_run.proofs.PuttingFiles.{put_one}

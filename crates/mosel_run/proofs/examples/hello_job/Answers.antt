@@ -1,8 +1,8 @@
 -- by computing; that the journal is legal is an example of its own
 use Rattle.std.proofs.Common.{◌≡◌, ℕ, zero, suc, ◌<◌, true, refl, arith, rules}
-use Rattle.job_calls.specs.ReportExamples.{hello_entries}
+use Rattle.job_calls.specs.HelloJournal.{hello_entries}
 use Rattle.job_calls.specs.Words.{own_entries, is_finished}
-use Rattle.lane_step.specs.Whole.{EndsDone}
+use Rattle.job_laws.specs.Lanes.{EndsDone}
 use Rattle.mosel_run.proofs.examples.hello_job.Goals as goal
 
 finished : (run : ℕ) → run < 1 → is_finished run hello_entries ≡ true

@@ -5,7 +5,7 @@ use Rattle.mos_text.specs.declared.kind.Kind.{Kind}
 use Rattle.mos_tree.specs.declared.source.Tree.{Tree}
 use Rattle.mos_parse.specs.Parsed.{IsParsed}
 use Rattle.mos_check.specs.NotBuilt.{unbuilt_of}
-use Rattle.mos_check.specs.Names.{Names, Knows, Wrong, check_of}
+use Rattle.mos_check.specs.Names.{Knows, Wrong, check_of}
 use Rattle.mosel_run.specs.Accepted.{unparsed, wrong, not_built, found}
 use Rattle.mosel_run.specs.Laws.{HasATree, HasAFault, IsJudgedSource}
 use Rattle.mosel_run.proofs.laws.sources_are_judged.Goals as goal

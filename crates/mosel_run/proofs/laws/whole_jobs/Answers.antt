@@ -1,9 +1,8 @@
 -- each law is a field of what the job has
-use Rattle.std.proofs.Common.{◌≡◌, ℕ, List, Option, Some, None, sym, ap, ◌∙◌}
+use Rattle.std.proofs.Common.{◌≡◌, List, Option, Some, None, sym, ap, ◌∙◌}
 use Rattle.std.specs.Prelude.{slice_get}
 use Rattle.job_calls.specs.declared.entry.Listed.{Listed}
 use Rattle.job_calls.specs.Runs.{Opening}
-use Rattle.mos_meaning.specs.Follows.{Behaviour}
 use Rattle.mosel_run.proofs.laws.whole_jobs.Goals as goal
 
 inside : {A : Type 0} (x y : A) → Some x ≡ Some y → x ≡ y

@@ -1,7 +1,6 @@
 -- all files were read, or one could not be had
-use Rattle.std.proofs.Common.{◌≡◌, ◌∷◌, [], ◌∙◌, ap, refl, subst, List, ℕ}
+use Rattle.std.proofs.Common.{◌≡◌, ◌∙◌, subst, List, ℕ}
 use Rattle.std.proofs.lemmas.Result.{IfOk-weaker}
-use Rattle.mosel_run.specs.declared.answer.Answer.{Answer}
 use Rattle.mosel_run.specs.declared.wanted.Wanted.{Wanted}
 use Rattle.mosel_run.specs.Answered.{run_request}
 use Rattle.mosel_run.specs.Jobs.{OneThread}

@@ -1,7 +1,7 @@
 -- the refusal of a source is true of it alone
 use Rattle.std.proofs.Common.{◌≡◌, ◌∷◌, [], refl, subst}
 use Rattle.std.proofs.lemmas.Result.{IfOk-weaker}
-use Rattle.job_calls.specs.ErrorLines.{verdict_line}
+use Rattle.hub_text.specs.ErrorLines.{verdict_line}
 use Rattle.mosel_run.specs.declared.answer.Answer.{Answer}
 use Rattle.mosel_run.specs.declared.status.Status.TheVariants.{Refused}
 use Rattle.mosel_run.specs.Answered.{run_request}

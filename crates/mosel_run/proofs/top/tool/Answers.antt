@@ -1,6 +1,5 @@
 -- each status comes in its own way alone
 use Rattle.mosel_run.specs.Jobs.{OneThread}
-use Rattle.mosel_run.specs.States.{devices}
 use Rattle.mosel_run.proofs.Answering.{any_journal}
 use Rattle.mosel_run.proofs.Exactness.{exact_usage, exact_missing, exact_too_large, exact_refused, exact_report}
 use Rattle.mosel_run.proofs.top.tool.Goals as goal

@@ -1,7 +1,7 @@
 use Rattle.std.proofs.Common.{◌≡◌, map, []}
 use Rattle.hub_lock.specs.declared.rule.Stage.TheVariants.{Idle}
-use Rattle.hub_lock.specs.Turns.{IsSameRaw}
-use Rattle.hub_lock.proofs.Ends.{seen_by}
+use Rattle.hub_lock.specs.Inner.Turns.{IsSameRaw}
+use Rattle.hub_lock.proofs.Ends.{part_by}
 use Rattle.hub_lock.proofs.keep.Keep.close.Given as goal
 
 -- the seats so far are joined
@@ -13,5 +13,6 @@ invariant-loop-other g l = record {
   lane : l.raw.me.0.lane ≡ l.initial.raw.me.0.lane;
   made : l.raw.me.0.made ≡ l.initial.raw.me.0.made;
   seen : l.raw.me.0.seen ≡ l.initial.raw.me.0.seen;
-  joined : l.raw.me.0.joined ≡ map seen_by l.yielded;
+  marks : l.raw.me.0.marks ≡ l.initial.raw.me.0.marks;
+  joined : l.raw.me.0.joined ≡ map part_by l.yielded;
 }

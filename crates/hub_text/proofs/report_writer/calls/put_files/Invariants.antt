@@ -1,5 +1,5 @@
 use Rattle.std.proofs.Common.{◌≡◌, ◌++◌, drop, flat_map}
-use Rattle.job_calls.specs.CallText.{file_text}
+use Rattle.hub_text.specs.CallText.{file_text}
 use Rattle.hub_text.proofs.report_writer.calls.put_files.Given as goal
 
 abbrev pub invariant-loop-file : goal.invariant-loop-file

@@ -1,5 +1,5 @@
 use Rattle.std.proofs.Common.{◌≡◌, ◌++◌, drop, flat_map}
-use Rattle.job_calls.specs.Quoting.{hex_pair}
+use Rattle.hub_text.specs.Quoting.{hex_pair}
 use Rattle.hub_text.proofs.report_writer.words.put_hex_pairs.Given as goal
 
 abbrev pub invariant-loop-byte : goal.invariant-loop-byte

@@ -1,5 +1,5 @@
 use Rattle.std.proofs.Common.{◌≡◌, ◌++◌, drop}
-use Rattle.mos_words.specs.Words.{files, files_behind}
+use Rattle.mos_words.specs.CommandLine.{files, files_behind}
 use Rattle.mos_words.proofs.words.files.files.Given as goal
 
 abbrev pub invariant-loop-word : goal.invariant-loop-word

@@ -1,5 +1,5 @@
 use Rattle.std.proofs.Common.{◌≡◌, drop}
-use Rattle.mos_words.specs.Words.{lacks_value}
+use Rattle.mos_words.specs.CommandLine.{lacks_value}
 use Rattle.mos_words.proofs.words.files.lacks_value.Given as goal
 
 abbrev pub invariant-loop-place : goal.invariant-loop-place

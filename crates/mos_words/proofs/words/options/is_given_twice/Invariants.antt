@@ -1,5 +1,5 @@
 use Rattle.std.proofs.Common.{◌≡◌, ◌+◌, cond, length, drop}
-use Rattle.mos_words.specs.Words.{values}
+use Rattle.mos_words.specs.CommandLine.{values}
 use Rattle.mos_words.proofs.words.options.is_given_twice.Given as goal
 
 abbrev pub invariant-loop-word : goal.invariant-loop-word

@@ -4,7 +4,7 @@ use Rattle.std.proofs.lemmas.Grind.{pow_more, common_steps}
 use Rattle.std.proofs.lemmas.Bool.{and_parts, leb-true}
 use Rattle.std.proofs.lemmas.List.Sums.{AllPass-from_list_all}
 use Rattle.mos_text.specs.FileName.{is_digit}
-use Rattle.mos_words.specs.Words.{is_number}
+use Rattle.mos_words.specs.CommandLine.{is_number}
 use Rattle.mos_words.proofs.words.options.number_of.Goals as goal
 
 -- each byte of a number is a digit, and there are at most ten

@@ -1,5 +1,5 @@
 use Rattle.std.proofs.Common.{◌≡◌, drop}
-use Rattle.mos_words.specs.Words.{values}
+use Rattle.mos_words.specs.CommandLine.{values}
 use Rattle.mos_words.proofs.words.options.setting.Given as goal
 
 abbrev pub invariant-loop-place : goal.invariant-loop-place

@@ -1,0 +1,78 @@
+-- A model whose statements work has forms alone that the compiler takes apart.
+
+use Rattle.mos_names.specs.NameLists.{Name}
+use Rattle.std.specs.Prelude.{List}
+use Rattle.mos_value.specs.Answers.{sum, difference, compare}
+use Rattle.mos_meaning.specs.Syntax.{Own, Model, Scope, Expression, number, text, truth, variable, index, apply, range_of, sum_over, invoke, ask_hub, unbuilt, Shown, nothing, one_more, Effect, assign, change, write, perform, if_, while_, do_, break_, next_, unbuilt_effect, Branches, else_, elif, Block, no_more, first}
+use Rattle.mos_meaning.specs.Working.{IsVariable, IsNumeric, IsShown, IsCondition, AreShown, Works, BranchesWork, AllWork}
+use Rattle.bim_compile.specs.Built.{IsModels, IsBuilt, AreBuilt, IsBuiltEffect, AreBuiltBranches, IsBuiltBlock}
+
+models-built : (names : List Name) (scope : Scope) (n : Name) → IsVariable names scope n → IsModels scope
+models-built names Model n h = tt
+models-built names Own n h = absurd h
+
+numeric-built : (names : List Name) (e : Expression) → IsNumeric names e → IsBuilt e
+numeric-built names (number n) h = tt
+numeric-built names (variable scope n) h = models-built names scope n h
+numeric-built names (apply operator a b) h = (numeric-built names a h.1, numeric-built names b h.2)
+numeric-built names (text t) h = absurd h
+numeric-built names (truth b) h = absurd h
+numeric-built names (index n) h = absurd h
+numeric-built names (range_of a b) h = absurd h
+numeric-built names (sum_over i set condition body) h = absurd h
+numeric-built names (invoke routine all) h = absurd h
+numeric-built names (ask_hub function all) h = absurd h
+numeric-built names unbuilt h = absurd h
+
+condition-built : (names : List Name) (e : Expression) → IsCondition names e → IsBuilt e
+condition-built names (truth b) h = tt
+condition-built names (apply (compare how) a b) h = (numeric-built names a h.0, numeric-built names b h.1)
+condition-built names (apply sum a b) h = absurd h
+condition-built names (apply difference a b) h = absurd h
+condition-built names (number n) h = absurd h
+condition-built names (text t) h = absurd h
+condition-built names (variable scope n) h = absurd h
+condition-built names (index n) h = absurd h
+condition-built names (range_of a b) h = absurd h
+condition-built names (sum_over i set condition body) h = absurd h
+condition-built names (invoke routine all) h = absurd h
+condition-built names (ask_hub function all) h = absurd h
+condition-built names unbuilt h = absurd h
+
+shown-built : (names : List Name) (e : Expression) → IsShown names e → IsBuilt e
+shown-built names (text t) h = tt
+shown-built names (number n) h = tt
+shown-built names (variable scope n) h = models-built names scope n h
+shown-built names (apply operator a b) h = numeric-built names (apply operator a b) h
+shown-built names (truth b) h = absurd h
+shown-built names (index n) h = absurd h
+shown-built names (range_of a b) h = absurd h
+shown-built names (sum_over i set condition body) h = absurd h
+shown-built names (invoke routine all) h = absurd h
+shown-built names (ask_hub function all) h = absurd h
+shown-built names unbuilt h = absurd h
+
+all-built : (names : List Name) (all : Shown) → AreShown names all → AreBuilt all
+all-built names nothing h = tt
+all-built names (one_more e es) h = (shown-built names e h.0, all-built names es h.1)
+
+mutual
+  effect-built : (names : List Name) (e : Effect) → Works names e → IsBuiltEffect e
+  effect-built names (assign line scope n e) h = (models-built names scope n h.0, numeric-built names e h.1)
+  effect-built names (change line operator scope n e) h = (models-built names scope n h.1, numeric-built names e h.2)
+  effect-built names (write line newline all) h = all-built names all h
+  effect-built names (perform line routine all) h = absurd h
+  effect-built names (if_ line all) h = branches-built names all h
+  effect-built names (while_ line e body) h = (condition-built names e h.0, effect-built names body h.1)
+  effect-built names (do_ all) h = block-built names all h
+  effect-built names (break_ line) h = tt
+  effect-built names (next_ line) h = tt
+  effect-built names unbuilt_effect h = absurd h
+
+  branches-built : (names : List Name) (all : Branches) → BranchesWork names all → AreBuiltBranches all
+  branches-built names (else_ all) h = block-built names all h
+  branches-built names (elif line e all rest) h = (condition-built names e h.0, block-built names all h.1, branches-built names rest h.2)
+
+  pub block-built : (names : List Name) (all : Block) → AllWork names all → IsBuiltBlock all
+  block-built names no_more h = tt
+  block-built names (first e rest) h = (effect-built names e h.0, block-built names rest h.1)

@@ -1,0 +1,142 @@
+-- The course of a model's image is the model's meaning.
+
+use Rattle.std.proofs.Common.{◌≡◌, ◌≢◌, ◌≤◌, ℕ, ◌+◌, zero, suc, pos, List, [], ◌∷◌, ◌++◌, length, map, Option, Some, None, refl, sym, ap, ◌∙◌, subst, arith}
+use Rattle.std.specs.Prelude.{replicate, option_map}
+use Rattle.std.proofs.lemmas.List.{length-replicate}
+use Rattle.mos_text.specs.declared.scalar.Scalar.{Scalar}
+use Rattle.mos_text.specs.declared.scalar.Scalar.TheVariants.{Int}
+use Rattle.job_calls.specs.declared.reply.Reply.{Reply}
+use Rattle.bim_code.specs.declared.image.Image.{Image}
+use Rattle.bim_code.specs.declared.image.ImageType.{ImageType}
+use Rattle.bim_code.specs.declared.image.ImageType.TheVariants.{Integer}
+use Rattle.bim_code.specs.declared.instruction.Instruction.TheVariants.{PushInt, End}
+use Rattle.bim_code.specs.Code.{instruction_at}
+use Rattle.bim_code.specs.Rules.{KeepsTicks}
+use Rattle.mos_names.specs.NameLists.{Name}
+use Rattle.mos_value.specs.Values.{Value, One}
+use Rattle.run_state.specs.Stops.{Stop, Exited, Failed, Spent, Stopped, Asking, Stuck, Lost, Outcome}
+use Rattle.run_state.specs.State.{World, State, beginning, over, outcome_of, Out, Gave, Halts}
+use Rattle.run_state.specs.Parameters.{and_then, given_values}
+use Rattle.bim_machine.specs.Starts.{Beginning, all_of, type_default, defaults_in, or_broken, Begins, with_given as image_given, beginning_of}
+use Rattle.bim_machine.specs.Machine.{Machine, At, Over, idle}
+use Rattle.bim_machine.specs.Courses.{Progress, run, main, start, most_steps, told, course_from, course_of}
+use Rattle.bim_machine.specs.Laws.{OverInTime, StaysOver, IsOver}
+use Rattle.mos_meaning.specs.Syntax.{Block, Program}
+use Rattle.mos_meaning.specs.Sources.{variables_of, zeros, program_of}
+use Rattle.mos_meaning.specs.Effects.{Flow, Goes, Breaks, Continues}
+use Rattle.mos_meaning.specs.Meaning.{names_of, outside, main_effect, ended, with_given, meaning_of}
+use Rattle.mos_meaning.specs.Working.{AllWork, NeverLost}
+use Rattle.bim_compile.specs.declared.draft.Labelled.{Labelled}
+use Rattle.bim_compile.specs.Built.{IsBuiltBlock}
+use Rattle.bim_compile.specs.Compiled.{at_line, block_code, block_end, types_of, labelled_of, image_of}
+use Rattle.bim_compile.specs.Means.{Means}
+use Rattle.bim_compile.proofs.Leads.{Leads, same, chain, then_one, reached}
+use Rattle.bim_compile.proofs.Standing.{HasAt, whole, cut, all_texts}
+use Rattle.bim_compile.proofs.EndLemmas.{block_after}
+use Rattle.bim_compile.proofs.Stores.{Known, Stores, alone, begun_stores}
+use Rattle.bim_compile.proofs.Lands.{Lands, Landing, owed, Ends}
+use Rattle.bim_compile.proofs.StatementRuns.{bare, leading, block_runs}
+
+-- Each global slot begins with 0.
+
+zero_slots : (m : ℕ) → defaults_in (Integer ∷ []) (replicate m 0) ≡ Some (replicate m (One (Int (pos 0))))
+zero_slots zero = refl
+zero_slots (suc m) = ap (λ (o : Option (List Value)). option_map (λ (vs : List Value). One (Int (pos 0)) ∷ vs) o) (zero_slots m)
+
+slots_begin : (names : List Name) → defaults_in (types_of names) (replicate (length names) 0) ≡ Some (zeros names)
+slots_begin [] = refl
+slots_begin (n ∷ names) = zero_slots (length (n ∷ names))
+
+-- The end of the text.
+
+exits : {image : Image} {w : World} (address : ℕ) (s : State)
+    → instruction_at image.code address ≡ Some (PushInt (pos 0)) → instruction_at image.code (address + 5) ≡ Some End
+    → Leads image w (At address (bare []) main s) (Over (Exited (pos 0)) (address + 5) s)
+exits address s p q =
+    then_one (PushInt (pos 0)) address (bare []) main s _ p (then_one End (address + 5) _ main s _ q (same _))
+
+-- a machine that comes to an end with this outcome
+record ComesTo (image : Image) (w : World) (from : Machine) (outcome : Outcome) : Type 0 where
+  stop : Stop
+  address : ℕ
+  state : State
+  by : Leads image w from (Over stop address state)
+  told_so : outcome_of stop state ≡ outcome
+
+comes : {image : Image} {w : World} {k : Known} {end : ℕ} (from : Machine) (o : Out Flow) → instruction_at image.code end ≡ Some (PushInt (pos 0)) → instruction_at image.code (end + 5) ≡ Some End
+    → (ended o).stop ≢ Lost → Lands image w k (λ flow s1. At (leading end end end flow) (bare []) main s1) from o → ComesTo image w from (ended o)
+comes {end = end} from (Gave Goes s) p q n l = record {
+  stop = Exited (pos 0);
+  address = end + 5;
+  state = over l.by.0 s;
+  by = chain from _ _ l.by.2 (exits end (over l.by.0 s) p q);
+  told_so = refl;
+}
+comes {end = end} from (Gave Breaks s) p q n l = record {
+  stop = Exited (pos 0);
+  address = end + 5;
+  state = over l.by.0 s;
+  by = chain from _ _ l.by.2 (exits end (over l.by.0 s) p q);
+  told_so = refl;
+}
+comes {end = end} from (Gave Continues s) p q n l = record {
+  stop = Exited (pos 0);
+  address = end + 5;
+  state = over l.by.0 s;
+  by = chain from _ _ l.by.2 (exits end (over l.by.0 s) p q);
+  told_so = refl;
+}
+comes {image = image} {w = w} from (Halts stop line s) p q n l = stopped stop n l.by
+  where
+    stopped : (stop : Stop) → stop ≢ Lost → owed stop (Ends image w from stop s) → ComesTo image w from (outcome_of stop s)
+    stopped Lost n e = absurd (n refl)
+    stopped (Exited code) n e = record { stop = Exited code; address = e.2.0; state = over e.0 s; by = e.2.1; told_so = refl }
+    stopped (Failed kind) n e = record { stop = Failed kind; address = e.2.0; state = over e.0 s; by = e.2.1; told_so = refl }
+    stopped Spent n e = record { stop = Spent; address = e.2.0; state = over e.0 s; by = e.2.1; told_so = refl }
+    stopped Stopped n e = record { stop = Stopped; address = e.2.0; state = over e.0 s; by = e.2.1; told_so = refl }
+    stopped (Asking call) n e = record { stop = Asking call; address = e.2.0; state = over e.0 s; by = e.2.1; told_so = refl }
+    stopped Stuck n e = record { stop = Stuck; address = e.2.0; state = over e.0 s; by = e.2.1; told_so = refl }
+
+-- the machine comes to the end that the model means
+main_comes : (model : Block) (w : World) → IsBuiltBlock model → (ended (main_effect w (program_of model) (beginning (zeros (variables_of model))))).stop ≢ Lost
+    → ComesTo (image_of model) w (start (zeros (variables_of model))) (ended (main_effect w (program_of model) (beginning (zeros (variables_of model)))))
+main_comes model w built n =
+    let image = image_of model in
+    let names = variables_of model in
+    let values : List Value = zeros names in
+    let end : ℕ = block_end 0 model in
+    let last : List Labelled = at_line 0 (PushInt (pos 0)) ∷ at_line 0 End ∷ [] in
+    let cuts = cut image.code 0 end (block_code names 0 0 end end model) last (block_after names 0 0 end end model) (whole (labelled_of model)) in
+    comes (start values) _ cuts.1.0 cuts.1.1.0 n
+    (block_runs {k = alone (length values)} _ (names_of (program_of model)) outside model 0 0 end end built cuts.0 (all_texts image.constants) [] (beginning values) (values ∷ []) (begun_stores values))
+
+-- two machines that are over after some steps are over alike
+one_end : StaysOver → (image : Image) (w : World) (n m steps : ℕ) (a : Machine) → IsOver (run image w n steps a).machine → IsOver (run image w m steps a).machine
+    → (run image w n steps a).machine ≡ (run image w m steps a).machine
+one_end stays image w n m steps a p q =
+    let one = stays image w n (n + m) steps a p (omega arith) in
+    let two = stays image w m (n + m) steps a q (omega arith) in
+    ap (λ (x : Progress). x.machine) (sym one ∙ two)
+
+told_comes : OverInTime → StaysOver → (image : Image) (w : World) (values : List Value) (outcome : Outcome) → KeepsTicks image → ComesTo image w (start values) outcome
+    → told (run image w (most_steps image w.budget) 0 (start values)).machine ≡ outcome
+told_comes in_time stays image w values outcome keeps c =
+    let r = reached (start values) (Over c.stop c.address c.state) c.by 0 in
+    let over_there : IsOver (run image w r.0 0 (start values)).machine = record { stop = c.stop; address = c.address; state = c.state; by = r.1 } in
+    ap told (one_end stays image w (most_steps image w.budget) r.0 0 (start values) (in_time image w values keeps) over_there ∙ r.1) ∙ c.told_so
+
+pub course_is_meaning : OverInTime → StaysOver → (model : Block) → IsBuiltBlock model → KeepsTicks (image_of model) → NeverLost (program_of model) → Means (program_of model) (image_of model)
+course_is_meaning in_time stays model built keeps never text replies budget = given (given_values [] text) (never text replies budget)
+  where
+    begun : (o : Option (List Value)) (given : List Scalar) → o ≡ Some (zeros (variables_of model))
+        → (with_given (record { replies = replies; budget = budget }) (program_of model) (Some given)).stop ≢ Lost
+        → (course_from (image_of model) (record { replies = replies; budget = budget }) (or_broken (and_then o (λ frame. Some frame)))).outcome ≡ with_given (record { replies = replies; budget = budget }) (program_of model) (Some given)
+    begun o given e n =
+        ap (λ (found : Option (List Value)). (course_from (image_of model) (record { replies = replies; budget = budget }) (or_broken (and_then found (λ frame. Some frame)))).outcome) e
+        ∙ told_comes in_time stays (image_of model) (record { replies = replies; budget = budget }) (zeros (variables_of model)) _ keeps (main_comes model (record { replies = replies; budget = budget }) built n)
+
+    given : (o : Option (List Scalar)) → (with_given (record { replies = replies; budget = budget }) (program_of model) o).stop ≢ Lost
+        → (course_from (image_of model) (record { replies = replies; budget = budget }) (image_given o (image_of model) (defaults_in (image_of model).types (image_of model).globals))).outcome
+        ≡ with_given (record { replies = replies; budget = budget }) (program_of model) o
+    given None n = refl
+    given (Some values) n = begun (defaults_in (image_of model).types (image_of model).globals) values (slots_begin (variables_of model)) n

@@ -1,7 +1,0 @@
--- so many are left after those that the entries before this one made
-use Rattle.std.proofs.Common.{◌≡◌, ◌+◌, length, take}
-use Rattle.job_calls.specs.Events.{arrivals}
-use Rattle.hub_core.proofs.events.arrival_at.Given as goal
-
-abbrev pub invariant-loop-i : goal.invariant-loop-i
-invariant-loop-i l = l.left + length (arrivals l.r (take l.i l.journal)) ≡ l.number

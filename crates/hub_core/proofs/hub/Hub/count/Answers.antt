@@ -1,0 +1,6 @@
+-- a legal journal has few entries
+use Rattle.std.proofs.Common.{arith}
+use Rattle.hub_core.proofs.hub.Hub.count.Goals as goal
+
+pub overflow_cast-result : goal.overflow_cast-result
+overflow_cast-result c = let few = c.few_entries.ensures c.self.inside.entries.items c.self.invariant in let len = c.len.ensures in omega (arith, few, len)

@@ -1,8 +1,0 @@
-use Rattle.std.proofs.Common.{◌≡◌, ℕ, ◌%◌, ◌^◌, []}
-use Rattle.hub_lock.specs.Turns.{IsSameRaw}
-use Rattle.hub_lock.specs.Steps.{drawing}
-use Rattle.hub_lock.proofs.keep.Keep.enter.Given as goal
-
--- the seat waits with its ticket
-abbrev pub invariant-loop : goal.invariant-loop
-invariant-loop g l = IsSameRaw l.fn.raw l.raw × ((t : ℕ) × (l.ticket ≡ t % 2 ^ 64) × (l.raw.me ≡ (drawing l.fn.raw.me.0 t, [])))

@@ -1,0 +1,3 @@
+pub mod Unclaimed
+pub mod Scans
+pub mod Prefixes

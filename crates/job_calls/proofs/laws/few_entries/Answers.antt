@@ -1,5 +1,0 @@
-use Rattle.job_calls.proofs.Bound.{few_entries}
-use Rattle.job_calls.proofs.laws.few_entries.Goals as goal
-
-pub returns : goal.returns
-returns c = few_entries

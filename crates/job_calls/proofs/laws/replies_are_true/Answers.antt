@@ -1,5 +1,0 @@
-use Rattle.job_calls.proofs.Piping.{replies_true}
-use Rattle.job_calls.proofs.laws.replies_are_true.Goals as goal
-
-pub returns : goal.returns
-returns c = replies_true

@@ -1,5 +1,0 @@
-use Rattle.job_calls.proofs.Taking.{in_order}
-use Rattle.job_calls.proofs.laws.taken_in_order.Goals as goal
-
-pub returns : goal.returns
-returns c = λ journal h r. in_order journal h r

@@ -1,0 +1,10 @@
+pub mod Truth
+pub mod Order
+pub mod Lanes
+pub mod Growth
+pub mod Laws
+pub mod JournalExamples
+pub mod RunExamples
+pub mod HubExamples
+pub mod FitExamples
+pub mod RowExamples

@@ -1,0 +1,312 @@
+//! What stands between brackets: expressions with commas between them, and the sets of an index.
+ghost use Rattle.std.specs.Prelude.{◌≡◌, IfOk, Some};
+ghost use Rattle.mos_expr.specs.Operands as spec;
+
+use crate::building::{boxed, with_item};
+use crate::operand::{Groups, Operand, Parts, WholeIndex, higher, keep, node};
+use mos_text::{NoMemory, SourceText, let_go};
+use mos_tree::{Expr, Group, Index};
+use sqlite_items::Items;
+use std::alloc::Global;
+
+/// No expression yet.
+pub(crate) fn no_parts(alloc: Global) -> Parts
+    ensures { result ≡ spec.no_parts }
+{
+    Parts {
+        height: 0,
+        items: Some(Items::new(alloc)),
+    }
+}
+
+fn item_added(items: Items<Expr>, expr: Expr) -> Result<Option<Items<Expr>>, NoMemory>
+    ensures { IfOk result (λ made. made ≡ Some (spec.pushed items expr)) }
+{
+    match with_item(items, expr) {
+        Ok(all) => Ok(Some(all)),
+        Err(refused) => Err(refused),
+    }
+}
+
+fn item_with(items: Items<Expr>, expr: Option<Expr>) -> Result<Option<Items<Expr>>, NoMemory>
+    ensures { IfOk result (λ made. made ≡ spec.map1 (spec.pushed items) expr) }
+{
+    match expr {
+        None => {
+            let_go(items);
+            Ok(None)
+        }
+        Some(expr) => item_added(items, expr),
+    }
+}
+
+fn items_with(
+    items: Option<Items<Expr>>,
+    expr: Option<Expr>,
+) -> Result<Option<Items<Expr>>, NoMemory>
+    ensures { IfOk result (λ made. made ≡ spec.map2 spec.pushed items expr) }
+{
+    match items {
+        None => {
+            let_go(expr);
+            Ok(None)
+        }
+        Some(items) => item_with(items, expr),
+    }
+}
+
+/// The expressions with one more.
+pub(crate) fn parts_with(parts: Parts, x: Operand) -> Result<Parts, NoMemory>
+    ensures { IfOk result (λ made. made ≡ spec.parts_with parts x) }
+{
+    let height = parts.height.max(x.height);
+    match items_with(parts.items, x.expr) {
+        Ok(items) => Ok(Parts { height, items }),
+        Err(refused) => Err(refused),
+    }
+}
+
+fn call(name: SourceText, items: Option<Items<Expr>>) -> Option<Expr>
+    ensures { result ≡ spec.call name items }
+{
+    match items {
+        None => {
+            let_go(name);
+            None
+        }
+        Some(items) => Some(Expr::Call(name, items)),
+    }
+}
+
+fn call_field(name: SourceText, items: Option<Items<Expr>>, field: SourceText) -> Option<Expr>
+    ensures { result ≡ spec.call_field name items field }
+{
+    match items {
+        None => {
+            let_go(name);
+            let_go(field);
+            None
+        }
+        Some(items) => Some(Expr::CallField(name, items, field)),
+    }
+}
+
+fn set(items: Option<Items<Expr>>) -> Option<Expr>
+    ensures { result ≡ spec.set items }
+{
+    match items {
+        None => None,
+        Some(items) => Some(Expr::Set(items)),
+    }
+}
+
+fn list(items: Option<Items<Expr>>) -> Option<Expr>
+    ensures { result ≡ spec.list items }
+{
+    match items {
+        None => None,
+        Some(items) => Some(Expr::List(items)),
+    }
+}
+
+/// A call with its arguments, or a cell with its indexes.
+pub(crate) fn call_of(name: SourceText, parts: Parts) -> Operand
+    ensures { result ≡ spec.call_of name parts }
+{
+    node(parts.height, call(name, parts.items))
+}
+
+/// A field of what a call gives.
+pub(crate) fn call_field_of(name: SourceText, parts: Parts, field: SourceText) -> Operand
+    ensures { result ≡ spec.call_field_of name parts field }
+{
+    node(parts.height, call_field(name, parts.items, field))
+}
+
+/// A set of its members.
+pub(crate) fn set_of(parts: Parts) -> Operand
+    ensures { result ≡ spec.set_of parts }
+{
+    node(parts.height, set(parts.items))
+}
+
+/// A list of its items.
+pub(crate) fn list_of(parts: Parts) -> Operand
+    ensures { result ≡ spec.list_of parts }
+{
+    node(parts.height, list(parts.items))
+}
+
+/// No set yet.
+pub(crate) fn no_groups(alloc: Global) -> Groups
+    ensures { result ≡ spec.no_groups }
+{
+    Groups {
+        height: 0,
+        items: Some(Items::new(alloc)),
+    }
+}
+
+fn group_added(
+    items: Items<Group<Expr>>,
+    names: Items<SourceText>,
+    set: Expr,
+) -> Result<Option<Items<Group<Expr>>>, NoMemory>
+    ensures { IfOk result (λ made. made ≡ Some (spec.grouped names items set)) }
+{
+    match with_item(items, Group { names, set }) {
+        Ok(all) => Ok(Some(all)),
+        Err(refused) => Err(refused),
+    }
+}
+
+fn group_with(
+    items: Items<Group<Expr>>,
+    names: Items<SourceText>,
+    set: Option<Expr>,
+) -> Result<Option<Items<Group<Expr>>>, NoMemory>
+    ensures { IfOk result (λ made. made ≡ spec.map1 (spec.grouped names items) set) }
+{
+    match set {
+        None => {
+            let_go(items);
+            let_go(names);
+            Ok(None)
+        }
+        Some(set) => group_added(items, names, set),
+    }
+}
+
+fn items_with_group(
+    items: Option<Items<Group<Expr>>>,
+    names: Items<SourceText>,
+    set: Option<Expr>,
+) -> Result<Option<Items<Group<Expr>>>, NoMemory>
+    ensures { IfOk result (λ made. made ≡ spec.map2 (spec.grouped names) items set) }
+{
+    match items {
+        None => {
+            let_go(names);
+            let_go(set);
+            Ok(None)
+        }
+        Some(items) => group_with(items, names, set),
+    }
+}
+
+/// The sets with one more, which its names make a node.
+pub(crate) fn groups_with(
+    groups: Groups,
+    names: Items<SourceText>,
+    x: Operand,
+) -> Result<Groups, NoMemory>
+    ensures { IfOk result (λ made. made ≡ spec.groups_with groups names x) }
+{
+    let high = higher(x.height);
+    let height = groups.height.max(high);
+    match items_with_group(groups.items, names, keep(high, x.expr)) {
+        Ok(items) => Ok(Groups { height, items }),
+        Err(refused) => Err(refused),
+    }
+}
+
+fn index_of(groups: Option<Items<Group<Expr>>>) -> Option<Index<Expr>>
+    ensures { result ≡ spec.index_of groups }
+{
+    match groups {
+        None => None,
+        Some(groups) => Some(Index {
+            groups,
+            condition: None,
+        }),
+    }
+}
+
+/// The index of these sets, without a condition.
+pub(crate) fn whole_index_of(groups: Groups) -> WholeIndex
+    ensures { result ≡ spec.whole_index_of groups }
+{
+    WholeIndex {
+        height: groups.height,
+        index: index_of(groups.items),
+    }
+}
+
+fn conditioned(
+    alloc: Global,
+    groups: Items<Group<Expr>>,
+    condition: Expr,
+) -> Result<Option<Index<Expr>>, NoMemory>
+    ensures { IfOk result (λ made. made ≡ Some (spec.conditioned groups condition)) }
+{
+    match boxed(alloc, condition, groups) {
+        Ok((condition, groups)) => Ok(Some(Index {
+            groups,
+            condition: Some(condition),
+        })),
+        Err(refused) => Err(refused),
+    }
+}
+
+fn index_on(
+    alloc: Global,
+    groups: Items<Group<Expr>>,
+    condition: Option<Expr>,
+) -> Result<Option<Index<Expr>>, NoMemory>
+    ensures { IfOk result (λ made. made ≡ spec.map1 (spec.conditioned groups) condition) }
+{
+    match condition {
+        None => {
+            let_go(groups);
+            Ok(None)
+        }
+        Some(condition) => conditioned(alloc, groups, condition),
+    }
+}
+
+fn index_with(
+    alloc: Global,
+    groups: Option<Items<Group<Expr>>>,
+    condition: Option<Expr>,
+) -> Result<Option<Index<Expr>>, NoMemory>
+    ensures { IfOk result (λ made. made ≡ spec.map2 spec.conditioned groups condition) }
+{
+    match groups {
+        None => {
+            let_go(condition);
+            Ok(None)
+        }
+        Some(groups) => index_on(alloc, groups, condition),
+    }
+}
+
+/// The index of these sets, with a condition.
+pub(crate) fn conditioned_index_of(
+    alloc: Global,
+    groups: Groups,
+    x: Operand,
+) -> Result<WholeIndex, NoMemory>
+    ensures { IfOk result (λ made. made ≡ spec.conditioned_index_of groups x) }
+{
+    let height = groups.height.max(x.height);
+    match index_with(alloc, groups.items, x.expr) {
+        Ok(index) => Ok(WholeIndex { height, index }),
+        Err(refused) => Err(refused),
+    }
+}
+
+fn count(index: Option<Index<Expr>>) -> Option<Expr>
+    ensures { result ≡ spec.count index }
+{
+    match index {
+        None => None,
+        Some(index) => Some(Expr::Count(index)),
+    }
+}
+
+/// The count of an index.
+pub(crate) fn counted_of(index: WholeIndex) -> Operand
+    ensures { result ≡ spec.counted_of index }
+{
+    node(index.height, count(index.index))
+}

@@ -1,9 +1,0 @@
-use Rattle.std.proofs.Common.{◌≡◌, ◌+◌, length, false}
-use Rattle.mos_scan.specs.Tokens as spec
-use Rattle.mos_scan.proofs.front.closing.Given as goal
-
-abbrev pub invariant-loop-rest : goal.invariant-loop-rest
-invariant-loop-rest l = record { value : spec.closing l.quote l.escaped l.at l.rest ≡ spec.closing l.quote false 0 l.text; room : l.at + length l.rest ≡ length l.text }
-
-abbrev pub decreases-loop-rest : goal.decreases-loop-rest
-decreases-loop-rest l = length l.rest

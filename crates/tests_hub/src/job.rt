@@ -1,0 +1,115 @@
+//! A job: how it is opened, and what its hub answers.
+use crate::words::{byte, call_of, number, some_number, text};
+use hub_core::{Held, Hub, can_open};
+use job_calls::{Call, Listed};
+use mos_text::{Blob, NoMemory, SharedBlob, Text};
+use sqlite_items::Items;
+use std::alloc::Global;
+
+fn words(alloc: Global, words: &str) -> Result<String, NoMemory> {
+    Ok(String::from_str(alloc, words)?)
+}
+
+/// A listed file by its name and code, as `m.mos:0`; its bytes are always the same four.
+fn file(alloc: Global, word: &str) -> Result<Listed, NoMemory> {
+    let (name, code) = word.split_once(':').unwrap_or((word, ""));
+    Ok(Listed {
+        name: text(alloc, name)?,
+        bytes: SharedBlob::new(alloc, Blob::new(alloc, b"x: 1")?)?,
+        code: byte(code),
+    })
+}
+
+fn files(alloc: Global, words: &[&str]) -> Result<Items<Listed>, NoMemory> {
+    let mut files = Items::new(alloc);
+    for word in words {
+        files.push(file(alloc, word)?)?;
+    }
+    Ok(files)
+}
+
+/// The job's hub, where the job may be opened so.
+fn hub(
+    alloc: Global,
+    lanes: u32,
+    budget: u32,
+    files: Items<Listed>,
+) -> Result<Option<Hub>, NoMemory> {
+    if !can_open(lanes, budget, files.as_slice()) {
+        return Ok(None);
+    }
+    Ok(Some(Hub::new(alloc, lanes, budget, text(alloc, "")?, files)?))
+}
+
+/// What the hub answers to the call.
+fn ask(
+    alloc: Global,
+    hub: &mut Hub,
+    lane: u32,
+    run: Option<u32>,
+    call: Call,
+) -> Result<String, NoMemory> {
+    if !hub.fits(lane, run, &call) {
+        return words(alloc, "unfit");
+    }
+    let word = match hub.act(lane, run, call) {
+        Ok(acted) => return Ok(format!(in alloc; "{:?}", acted.reply)?),
+        Err(Held::NotYet(_)) => "not yet",
+        Err(Held::Shut(_)) => "shut",
+        Err(Held::NoMemory(_)) => "no memory",
+    };
+    words(alloc, word)
+}
+
+/// Whether room could be made, and is then there.
+fn room(hub: &mut Hub, many: u32) -> &'static str {
+    match hub.reserve_entries(many) {
+        Ok(()) => if hub.spare_entries() >= many as usize {
+            "room"
+        } else {
+            "no room"
+        },
+        Err(_) => "no memory",
+    }
+}
+
+/// What is answered of the hub itself, or to the call of a lane.
+fn of_hub(alloc: Global, hub: &mut Hub, line: &[&str]) -> Result<String, NoMemory> {
+    match line {
+        ["entries"] => Ok(format!(in alloc; "{}", hub.journal().len())?),
+        ["room", many] => words(alloc, room(hub, number(many))),
+        [lane, run, call @ ..] => {
+            let call = call_of(alloc, call)?;
+            ask(alloc, hub, number(lane), some_number(run), call)
+        }
+        _ => words(alloc, "no call"),
+    }
+}
+
+/// What is answered to a line: of a job, whether it can be opened.
+pub fn answer(alloc: Global, hub: &mut Option<Hub>, line: &[&str]) -> Result<String, NoMemory> {
+    match line {
+        ["job", lanes, budget, files @ ..] => open(
+            alloc,
+            hub,
+            number(lanes),
+            number(budget),
+            files,
+        ),
+        _ => match hub {
+            None => words(alloc, "no job"),
+            Some(hub) => of_hub(alloc, hub, line),
+        },
+    }
+}
+
+fn open(
+    alloc: Global,
+    job: &mut Option<Hub>,
+    lanes: u32,
+    budget: u32,
+    names: &[&str],
+) -> Result<String, NoMemory> {
+    *job = hub(alloc, lanes, budget, files(alloc, names)?)?;
+    words(alloc, if job.is_some() { "opened" } else { "refused" })
+}

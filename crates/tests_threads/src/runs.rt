@@ -1,0 +1,127 @@
+//! What the lanes of the test do: a master that starts two children, and a child.
+ghost use Rattle.std.specs.Prelude.{◌≡◌, IfSome};
+ghost use Rattle.tests_threads.specs.Holding.{IsLane, IsKept, IsFresh, IsHolding, IsPlainCall};
+
+use crate::asking::{call, claim, done, finish};
+use hub_core::Hub;
+use hub_lock::{Keep, Seat};
+use job_calls::{Call, Reply};
+use mos_text::{NoMemory, Text};
+use std::alloc::Global;
+use std::sync::Wait;
+
+fn text(alloc: Global, text: &str) -> Result<Text, NoMemory> {
+    Ok(Text::from_string(String::from_str(alloc, text)?))
+}
+
+// Compiles the child's source, loads it and starts a run of it; whether all was done.
+fn start<R: Wait>(
+    rt: &R,
+    alloc: Global,
+    keep: &Keep<Hub>,
+    seat: &mut Seat<Hub>,
+    run: u32,
+) -> Option<()>
+    requires lane { IsLane keep.now seat.old }
+    requires held { IsHolding run seat.old }
+    ensures kept { IsKept keep.now seat.old seat.new }
+    ensures held { IfSome result (λ _. IsHolding run seat.new) }
+{
+    let (src, dst) = (text(alloc, "c.mos").ok()?, text(alloc, "c.bim").ok()?);
+    let (file, params) = (text(alloc, "c.bim").ok()?, text(alloc, "").ok()?);
+    call(rt, keep, seat, run, Call::Compile { src, dst })?;
+    match call(rt, keep, seat, run, Call::Load { file })? {
+        Reply::Loaded { model, .. } => {
+            call(rt, keep, seat, run, Call::Run { model, params })?;
+            Some(())
+        }
+        _ => None,
+    }
+}
+
+// Waits for an event and takes it.
+fn take<R: Wait>(rt: &R, keep: &Keep<Hub>, seat: &mut Seat<Hub>, run: u32) -> Option<Reply>
+    requires lane { IsLane keep.now seat.old }
+    requires held { IsHolding run seat.old }
+    ensures kept { IsKept keep.now seat.old seat.new }
+    ensures held { IfSome result (λ _. IsHolding run seat.new) }
+{
+    call(rt, keep, seat, run, Call::Wait)?;
+    call(rt, keep, seat, run, Call::Next)
+}
+
+fn event(to: Option<u32>) -> Call
+    ensures { IsPlainCall result }
+{
+    Call::Send {
+        to,
+        class: 2,
+        value: 7,
+    }
+}
+
+// Starts two children, hears from both, lets them end and hears of their ends.
+fn lead<R: Wait>(
+    rt: &R,
+    alloc: Global,
+    keep: &Keep<Hub>,
+    seat: &mut Seat<Hub>,
+    run: u32,
+) -> Option<()>
+    requires lane { IsLane keep.now seat.old }
+    requires held { IsHolding run seat.old }
+    ensures kept { IsKept keep.now seat.old seat.new }
+    ensures held { IfSome result (λ _. IsHolding run seat.new) }
+{
+    start(rt, alloc, keep, seat, run)?;
+    start(rt, alloc, keep, seat, run)?;
+    take(rt, keep, seat, run)?;
+    take(rt, keep, seat, run)?;
+    call(rt, keep, seat, run, event(Some(1)))?;
+    call(rt, keep, seat, run, event(Some(2)))?;
+    take(rt, keep, seat, run)?;
+    take(rt, keep, seat, run)?;
+    Some(())
+}
+
+// Says that it is there, and waits for an event.
+fn follow<R: Wait>(rt: &R, keep: &Keep<Hub>, seat: &mut Seat<Hub>, run: u32) -> Option<()>
+    requires lane { IsLane keep.now seat.old }
+    requires held { IsHolding run seat.old }
+    ensures kept { IsKept keep.now seat.old seat.new }
+    ensures held { IfSome result (λ _. IsHolding run seat.new) }
+{
+    call(rt, keep, seat, run, event(None))?;
+    take(rt, keep, seat, run)?;
+    Some(())
+}
+
+// The whole of lane 0; whether it was told at its end that the job is done.
+pub fn master<R: Wait>(rt: &R, alloc: Global, keep: &Keep<Hub>, seat: &mut Seat<Hub>) -> bool
+    requires lane { IsLane keep.now seat.old }
+    requires fresh { IsFresh seat.old }
+    ensures kept { IsKept keep.now seat.old seat.new }
+{
+    let Some(run) = claim(rt, keep, seat) else {
+        return false;
+    };
+    if lead(rt, alloc, keep, seat, run).is_none() {
+        return false;
+    }
+    finish(rt, keep, seat, run) && done(rt, keep, seat)
+}
+
+// The whole of another lane; whether it was told at its end that the job is done.
+pub fn child<R: Wait>(rt: &R, keep: &Keep<Hub>, seat: &mut Seat<Hub>) -> bool
+    requires lane { IsLane keep.now seat.old }
+    requires fresh { IsFresh seat.old }
+    ensures kept { IsKept keep.now seat.old seat.new }
+{
+    let Some(run) = claim(rt, keep, seat) else {
+        return false;
+    };
+    if follow(rt, keep, seat, run).is_none() {
+        return false;
+    }
+    finish(rt, keep, seat, run) && done(rt, keep, seat)
+}
