@@ -16,7 +16,8 @@ loop-index-init c = record {
 
 pub put_item-requires-clause-utf8 : goal.put_item-requires-clause-utf8
 put_item-requires-clause-utf8 c =
-    let ascii : get_or c.args.text.now c.loop-index.index 0 < 128 = item_end_is_ascii _ _ (sym c.ends_item.ensures ∙ c.if-ends_item.true) in
+    let ascii : get_or c.args.text.now c.loop-index.index 0 < 128 =
+    item_end_is_ascii c.loop-index.quote (get_or c.args.text.now c.loop-index.index 0) (sym c.ends_item.ensures ∙ c.if-ends_item.true) in
     IsUtf8-between c.args.text.now c.loop-index.begin c.loop-index.index c.requires.utf8 c.loop-index.invariant.begin c.loop-index.invariant.cut
     (IsCharBoundary-before_ascii c.args.text.now c.loop-index.index (omega (arith, c.loop-index-test.true)) ascii)
 
