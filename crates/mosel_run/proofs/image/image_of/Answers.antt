@@ -10,9 +10,12 @@ use Rattle.mosel_run.proofs.image.image_of.Goals as goal
 pub compile-requires : goal.compile-requires
 compile-requires c =
     let tree = c.args.tree.now in
+    let sound = c.requires.sound in
     record {
-      works = c.checked_models.ensures tree c.requires.sound.checked.names c.requires.sound.built c.requires.sound.checked.known;
-      not_large = omega (arith, model_within tree, c.requires.not_large);
+      can_compile = record {
+        works = c.checked_models.ensures tree sound.checked.names sound.built sound.checked.known;
+        not_large = omega (arith, model_within tree, c.requires.not_large);
+      };
     }
 
 pub returns-clause-small : goal.returns-clause-small
