@@ -37,7 +37,7 @@ took o file ran end ends =
 
 -- and that is the course of its image
 run_follows : (o : Opening) (file : Listed) (image : Image) (ran : RunResult) (end : End)
-    → IsCourse image o.budget ran → end_of (stop_of ran.stop) ≡ Some end
+    → IsCourse image [] o.budget ran → end_of (stop_of ran.stop) ≡ Some end
     → RunFollows (schedule_of o end) 0 (line_of file.name end ran) file (course_of image [] (replies_of 0 (schedule_of o end)) o.budget)
 run_follows o file image ran end course ends =
     let same : course_of image [] (replies_of 0 (schedule_of o end)) o.budget ≡ record { outcome = outcome_of ran; steps = ran.steps } =
@@ -50,7 +50,7 @@ HasFollowed lanes budget file files image end others =
     Follows (schedule_of (opening_with lanes budget (file ∷ files)) end) (opening_with lanes budget (file ∷ files)) (Some (course_of image) ∷ others)
 
 by_file : (lanes budget : ℕ) (file : Listed) (files : List Listed) (image : Image) (ran : RunResult) (end : End) (others : List (Option Behaviour))
-    → IsCourse image budget ran → end_of (stop_of ran.stop) ≡ Some end
+    → IsCourse image [] budget ran → end_of (stop_of ran.stop) ≡ Some end
     → FollowsSources (schedule_of (opening_with lanes budget (file ∷ files)) end) (line_of file.name end ran ∷ []) (Some (course_of image) ∷ others)
 by_file lanes budget file files image ran end others course ends =
     let o = opening_with lanes budget (file ∷ files) in
@@ -74,7 +74,7 @@ by_file lanes budget file files image ran end others course ends =
     each (suc run) line found = cc
 
 pub follows_sources : (lanes budget : ℕ) (files : List Listed) (name : List ℕ) (image : Image) (ran : RunResult) (end : End) (others : List (Option Behaviour))
-    → IsFirstName files name → IsCourse image budget ran → end_of (stop_of ran.stop) ≡ Some end
+    → IsFirstName files name → IsCourse image [] budget ran → end_of (stop_of ran.stop) ≡ Some end
     → FollowsSources (schedule_of (opening_with lanes budget files) end) (line_of name end ran ∷ []) (Some (course_of image) ∷ others)
 follows_sources lanes budget [] name image ran end others first course ends = absurd first
 follows_sources lanes budget (file ∷ files) name image ran end others first course ends =

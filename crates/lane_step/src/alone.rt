@@ -13,7 +13,7 @@ ghost use Rattle.lane_step.specs.Lines.{line_of, IsFirstName};
 ghost use Rattle.lane_step.specs.Schedule.{schedule_of};
 ghost use Rattle.lane_step.specs.Whole.{IsWhole};
 
-use crate::schedule::schedule;
+use crate::schedule::{no_text, schedule};
 use bim_code::Image;
 use job_calls::{End, Entry, Listed, RunEnd, RunLine};
 use mos_text::{NoMemory, Text};
@@ -49,7 +49,8 @@ pub fn run_alone(
     ensures finish { IfOk result (λ s. finish_of 0 s.journal ≡ Some s.end) }
     ensures own_end { IfOk result (λ s. IsOwnEnd s.end) }
 {
-    let ran = run(alloc, image, budget)?;
+    let params = no_text(alloc);
+    let ran = run(alloc, image, &params, budget)?;
     let end = end_by(ran.stop);
     let name = first_name(alloc, files.as_slice())?;
     let journal = schedule(alloc, files, lanes, budget, end)?;

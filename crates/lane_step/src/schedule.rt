@@ -83,7 +83,8 @@ fn done(lane: u32) -> Entry
     }
 }
 
-fn no_text(alloc: Global) -> Text
+/// The empty text.
+pub(crate) fn no_text(alloc: Global) -> Text
     ensures { result ≡ [] }
 {
     Text::from_string(String::new(alloc))

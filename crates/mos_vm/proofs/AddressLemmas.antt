@@ -54,7 +54,8 @@ pub begun_is : (code : List Instruction) (address : ℕ) → found_at (by_addres
 begun_is code address = let e : 0 + address ≡ address = omega arith in begun_spread 0 code address ∙ ap (instruction_from 0 code) e
 
 -- what is found ends within the code
-found_within : (at : ℕ) (is : List Instruction) (address : ℕ) (i : Instruction) → instruction_from at is address ≡ Some i → address + width i ≤ at + code_size is
+found_within : (at : ℕ) (is : List Instruction) (address : ℕ) (i : Instruction)
+    → instruction_from at is address ≡ Some i → address + width i ≤ at + code_size is
 found_within at [] address i h = cc
 found_within at (j ∷ is) address i h = tested (nat_eq at address) refl h (found_within (at + width j) is address i)
   where

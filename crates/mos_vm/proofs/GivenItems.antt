@@ -1,6 +1,6 @@
 -- Items of a parameter text, one after the other.
 
-use Rattle.std.proofs.Common.{◌≡◌, ◌<◌, ◌≤◌, ℕ, ◌+◌, ◌-◌, true, false, List, [], ◌∷◌, ◌++◌, take, drop, get_or, length, Option, Some, None, sym, ap, ◌∙◌, nat_eq, add-one, drop-cons, length-drop, arith}
+use Rattle.std.proofs.Common.{◌≡◌, ◌<◌, ◌≤◌, ℕ, ◌+◌, ◌-◌, Bool, true, false, List, [], ◌∷◌, ◌++◌, take, drop, get_or, length, Option, Some, None, sym, ap, ◌∙◌, nat_eq, add-one, drop-cons, length-drop, arith}
 use Rattle.std.specs.Prelude.{slice_get, slice_set, option_map, if◌then◌else◌}
 use Rattle.std.specs.List.{position_or_len}
 use Rattle.std.proofs.lemmas.Option.{same_Some}
@@ -27,12 +27,14 @@ pub put_by : (formals : List Parameter) (values : List Scalar) (item : List ℕ)
     → IsPut formals values item true (slice_set values place v)
 put_by formals values item equals place formal v at apart there found is =
     let by : ℕ → ℕ → Option Parameter → Option (ℕ × Scalar) =
-    λ e k o. and_then o (λ (p : Parameter). and_then (written_of (trimmed (drop (e + 1) item))) (λ written. option_map (with_place k) (value_like p.default written))) in
+    λ e k o. and_then o (λ (p : Parameter). and_then (written_of (trimmed (drop (e + 1) item)))
+        (λ written. option_map (with_place k) (value_like p.default written))) in
+    let named : ℕ → ℕ = λ e. place_of (trimmed (take e item)) (names_of formals) in
     let whole : ℕ → Option (ℕ × Scalar) =
-    λ e. if nat_eq e (length item) then None else by e (place_of (trimmed (take e item)) (names_of formals)) (slice_get formals (place_of (trimmed (take e item)) (names_of formals))) in
+    λ e. if nat_eq e (length item) then None else by e (named e) (slice_get formals (named e)) in
     let given : given_by formals item ≡ Some (with_place place v) =
     ap whole (sym at)
-    ∙ ap (λ b. if b then None else by equals (place_of (trimmed (take equals item)) (names_of formals)) (slice_get formals (place_of (trimmed (take equals item)) (names_of formals)))) apart
+    ∙ ap (λ b. if b then None else by equals (named equals) (slice_get formals (named equals))) apart
     ∙ ap (λ k. by equals k (slice_get formals k)) (sym there)
     ∙ ap (by equals place) found
     ∙ placed (written_of (trimmed (drop (equals + 1) item))) (value_like formal.default) place v is in
@@ -44,19 +46,25 @@ put_then : (formals : List Parameter) (values after : List Scalar) (rest : List 
 put_then formals values after rest None e = cc
 put_then formals values after rest (Some g) e = ap (λ vs. given_behind formals vs rest) (same_Some _ _ e)
 
+-- the items from a byte on, by whether the byte ends one
+abbrev items_at : Bool → Option ℕ → ℕ → List ℕ → List ℕ → List (List ℕ)
+items_at ends quote byte item more =
+    (if ends then item ∷ [] else []) ++ items_from (open_behind quote byte) (if ends then [] else item ++ byte ∷ []) more
+
 -- an item ends
 pub behind_item : (formals : List Parameter) (values after : List Scalar) (quote : Option ℕ) (byte : ℕ) (item more : List ℕ)
     → ends_item quote byte ≡ true → IsPut formals values item true after
     → given_behind formals after (items_from (open_behind quote byte) [] more) ≡ given_behind formals values (items_from quote item (byte ∷ more))
 behind_item formals values after quote byte item more ends put =
-    sym (ap (λ b. given_behind formals values ((if b then item ∷ [] else []) ++ items_from (open_behind quote byte) (if b then [] else item ++ byte ∷ []) more)) ends
+    sym (ap (λ b. given_behind formals values (items_at b quote byte item more)) ends
     ∙ put_then formals values after (items_from (open_behind quote byte) [] more) (given_by formals item) put)
 
 -- an item goes on
 pub in_item : (formals : List Parameter) (values : List Scalar) (quote : Option ℕ) (byte : ℕ) (item more : List ℕ) → ends_item quote byte ≡ false
-    → given_behind formals values (items_from (open_behind quote byte) (item ++ byte ∷ []) more) ≡ given_behind formals values (items_from quote item (byte ∷ more))
+    → given_behind formals values (items_from (open_behind quote byte) (item ++ byte ∷ []) more)
+    ≡ given_behind formals values (items_from quote item (byte ∷ more))
 in_item formals values quote byte item more goes =
-    sym (ap (λ b. given_behind formals values ((if b then item ∷ [] else []) ++ items_from (open_behind quote byte) (if b then [] else item ++ byte ∷ []) more)) goes)
+    sym (ap (λ b. given_behind formals values (items_at b quote byte item more)) goes)
 
 -- the bytes from one on
 from_byte : (text : List ℕ) (i : ℕ) → i < length text → drop i text ≡ get_or text i 0 ∷ drop (i + 1) text

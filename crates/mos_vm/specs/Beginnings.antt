@@ -20,5 +20,6 @@ beginning_by (start.Begins values) = Begins values
 abbrev pub field_default : List ImageType → Field → Option Scalar
 field_default types field = and_then (slice_get types field.typ) scalar_default
 
+-- the slots of parameters
 abbrev pub slots_of : List table.Parameter → List ℕ
 slots_of params = map (λ (p : table.Parameter). p.slot) params

@@ -22,4 +22,5 @@ outcome_of ran = record { output = ran.output; calls = []; ticks = ran.ticks; st
 
 -- the run is the course of the image, given a parameter text and no replies
 abbrev pub IsCourse : Image → List ℕ → ℕ → RunResult → Type 0
-IsCourse image params budget ran = course_of image params [] budget ≡ record { outcome = outcome_of ran; steps = ran.steps }
+IsCourse image params budget ran =
+    course_of image params [] budget ≡ record { outcome = outcome_of ran; steps = ran.steps }

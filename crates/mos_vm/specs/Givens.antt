@@ -6,9 +6,11 @@ use Rattle.mos_text.specs.declared.scalar.Scalar.TheVariants.{Int}
 use Rattle.mos_names.specs.NameLists.{Name}
 use Rattle.run_state.specs.Parameters.{Parameter, skip_blanks, digits_from, and_then, given_behind}
 
+-- the names of parameters
 abbrev pub names_of : List Parameter → List Name
 names_of formals = map (λ (p : Parameter). p.name) formals
 
+-- their values where a text gives none
 abbrev pub defaults_of : List Parameter → List Scalar
 defaults_of formals = map (λ (p : Parameter). p.default) formals
 
@@ -25,6 +27,7 @@ trimmed_end text = reverse (skip_blanks (reverse text))
 abbrev pub up_to_least : ℕ → Option ℕ
 up_to_least n = if nat_le n 2147483648 then Some n else None
 
+-- the same of a number that may be there
 abbrev pub IsUpToLeast : Option ℕ → Type 0
 IsUpToLeast None = Unit {0}
 IsUpToLeast (Some n) = n ≤ 2147483648

@@ -26,7 +26,7 @@ scalar_in (ListOf items) = None
 scalar_in (Range first last) = None
 scalar_in (Fields values) = None
 
--- a scalar of one kind
+-- the integer that a scalar is
 abbrev pub integer_of_scalar : Scalar → Option ℤ
 integer_of_scalar (scalar.Int n) = Some n
 integer_of_scalar (scalar.Bool b) = None
@@ -34,6 +34,7 @@ integer_of_scalar (scalar.Str t) = None
 integer_of_scalar (scalar.Model n) = None
 integer_of_scalar (scalar.Event class value) = None
 
+-- the boolean that it is
 abbrev pub truth_of_scalar : Scalar → Option Bool
 truth_of_scalar (scalar.Bool b) = Some b
 truth_of_scalar (scalar.Int n) = None
@@ -41,6 +42,7 @@ truth_of_scalar (scalar.Str t) = None
 truth_of_scalar (scalar.Model n) = None
 truth_of_scalar (scalar.Event class value) = None
 
+-- the text that it is
 abbrev pub text_of_scalar : Scalar → Option (List ℕ)
 text_of_scalar (scalar.Str t) = Some t
 text_of_scalar (scalar.Int n) = None
@@ -48,13 +50,15 @@ text_of_scalar (scalar.Bool b) = None
 text_of_scalar (scalar.Model n) = None
 text_of_scalar (scalar.Event class value) = None
 
--- a value of one kind
+-- the integer that a value is
 abbrev pub integer_in : Value → Option ℤ
 integer_in value = and_then (scalar_in value) integer_of_scalar
 
+-- the boolean that it is
 abbrev pub truth_in : Value → Option Bool
 truth_in value = and_then (scalar_in value) truth_of_scalar
 
+-- the text that it is
 abbrev pub text_in : Value → Option (List ℕ)
 text_in value = and_then (scalar_in value) text_of_scalar
 

@@ -14,6 +14,7 @@ use Rattle.mos_vm.specs.declared.asked.Asked.TheVariants as asked
 use Rattle.mos_vm.specs.declared.answers.Answer.{Answer}
 use Rattle.mos_vm.specs.declared.answers.Answer.TheVariants as answer
 
+-- the same stop in the words of the definitions
 abbrev pub halt_of : VmHalt → Halt
 halt_of (halt.Exits code) = Exits code
 halt_of (halt.Fails kind) = Fails kind

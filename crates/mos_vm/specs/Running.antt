@@ -31,8 +31,10 @@ course_of_run ran = record { outcome = outcome_of ran; steps = ran.steps }
 
 -- it is all that the machine does
 abbrev pub IsRunOf : Image → ℕ → Kept → RunResult → Type 0
-IsRunOf image budget kept ran = told_course (after_steps image budget kept (most_steps image budget)) ≡ course_of_run ran
+IsRunOf image budget kept ran =
+    told_course (after_steps image budget kept (most_steps image budget)) ≡ course_of_run ran
 
 -- nothing was done before it stopped so
 abbrev pub HasNoStep : VmStop → RunResult → Type 0
-HasNoStep how ran = course_of_run ran ≡ record { outcome = state.outcome_of (stop_of how) (beginning []); steps = 0 }
+HasNoStep how ran =
+    course_of_run ran ≡ record { outcome = state.outcome_of (stop_of how) (beginning []); steps = 0 }

@@ -43,9 +43,11 @@ Settles budget asked before control after = (image : Image) (site : Site)
 -- the instruction leads from the one to the other, wherever it stands
 abbrev pub IsStep : Image → ℕ → Instruction → Kept → Control → Kept → Type 0
 IsStep image budget i before control after = (site : Site)
-    → settle image (world budget) (act image.constants i main.slots before.work before.state.memory.store) site main before.state
+    → settle image (world budget)
+    (act image.constants i main.slots before.work before.state.memory.store) site main before.state
     ≡ machine_after site control after
 
 -- the result of a machine that stopped so, after so many steps
 abbrev pub IsResultOf : Kept → VmStop → ℕ → RunResult → Type 0
-IsResultOf kept how steps ran = (outcome_of ran ≡ state.outcome_of (stop_of how) kept.state) × (ran.steps ≡ steps)
+IsResultOf kept how steps ran =
+    (outcome_of ran ≡ state.outcome_of (stop_of how) kept.state) × (ran.steps ≡ steps)

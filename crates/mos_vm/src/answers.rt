@@ -8,12 +8,9 @@ ghost use Rattle.mos_vm.specs.Rows.{result_of};
 use crate::printing::printed_form;
 use crate::value::Value;
 use bim_code::Comparison;
-use mos_text::{FaultKind, NoMemory, Scalar, Text};
+use mos_text::{FaultKind, NoMemory, Scalar, TEXT_LIMIT, Text};
 use std::alloc::Global;
 use std::cmp::Ordering;
-
-/// The most bytes that a text may have.
-const TEXT_LIMIT: usize = 1_000_000;
 
 /// What comes of values.
 #[derive(Drop)]

@@ -13,13 +13,10 @@ use crate::stop::{Control, Stop};
 use crate::value::Value;
 use crate::work::Work;
 use bim_code::{Image, Instruction};
-use mos_text::{Blob, FaultKind, NoMemory};
+use mos_text::{Blob, FaultKind, NoMemory, OUTPUT_LIMIT};
 use sqlite_items::Items;
 use std::alloc::Global;
 use std::marker::Model;
-
-/// The most bytes that a run may write.
-const OUTPUT_LIMIT: usize = 1_048_576;
 
 /// A machine between two instructions.
 #[derive(Drop)]

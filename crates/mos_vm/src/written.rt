@@ -4,11 +4,9 @@ ghost use Rattle.std.specs.List.{list_any, position_or_len};
 ghost use Rattle.run_state.specs.Parameters.{and_then, is_blank, skip_blanks, trimmed, is_quote, quoted, Bare, written_of, value_like, fitting, signed_digits, digits, truth_of, text_of};
 ghost use Rattle.mos_vm.specs.Givens.{trimmed_end, up_to_least, IsUpToLeast, negative_of, number_behind};
 
-use mos_text::{NoMemory, Scalar, Text, TextFault};
+use mos_text::{NoMemory, Scalar, TEXT_LIMIT, Text, TextFault};
 use std::alloc::Global;
 
-/// The most bytes that a text may have.
-const TEXT_LIMIT: usize = 1_000_000;
 /// The greatest number of digits behind a `-`.
 const LEAST: u32 = 2_147_483_648;
 

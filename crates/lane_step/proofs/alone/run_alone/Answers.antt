@@ -19,7 +19,7 @@ returns-clause-follows c = λ others.
     rw (c.in_ok-journal.ensures, c.in_ok-lines.ensures)
     (follows_sources c.args.lanes c.args.budget c.args.files c.in_ok-name.name c.args.image.now c.in_ok-ran.ran c.end_by-end.result others
     (subst (λ (files : List _). IsFirstName files c.in_ok-name.name) c.as_slice.ensures c.in_ok-name.ensures)
-    c.in_ok-ran.ensures.course c.end_by-end.ensures.end)
+    (rw c.no_text-params.ensures at c.in_ok-ran.ensures.course) c.end_by-end.ensures.end)
 
 pub returns-clause-finish : goal.returns-clause-finish
 returns-clause-finish c =

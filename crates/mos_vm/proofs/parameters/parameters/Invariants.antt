@@ -5,4 +5,6 @@ use Rattle.bim_machine.specs.Starts.{all_of, parameter_in}
 use Rattle.mos_vm.proofs.parameters.parameters.Given as goal
 
 abbrev pub invariant-loop-param : goal.invariant-loop-param
-invariant-loop-param l = option_map (λ rest. l.all ++ rest) (all_of (parameter_in l.constants) (drop l.param-index l.params)) ≡ all_of (parameter_in l.constants) l.params
+invariant-loop-param l =
+    option_map (λ rest. l.all ++ rest) (all_of (parameter_in l.constants) (drop l.param-index l.params))
+    ≡ all_of (parameter_in l.constants) l.params

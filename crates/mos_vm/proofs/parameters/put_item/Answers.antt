@@ -14,7 +14,8 @@ pub value_written-requires : goal.value_written-requires
 value_written-requires c =
     let there = c.position-equals.ensures.there (omega (arith, c.if-equals-item.false, c.position-equals.ensures.within)) in
     c.trimmed-in-Some.ensures.utf8
-    (utf8_behind c.args.item.now c.position-equals.result c.requires.utf8 (omega (arith, c.if-equals-item.false, c.position-equals.ensures.within)) (omega (arith, there)))
+    (utf8_behind c.args.item.now c.position-equals.result c.requires.utf8
+    (omega (arith, c.if-equals-item.false, c.position-equals.ensures.within)) (omega (arith, there)))
 
 pub set-requires : goal.set-requires
 set-requires c =

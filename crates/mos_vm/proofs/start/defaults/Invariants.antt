@@ -5,4 +5,6 @@ use Rattle.std.specs.Prelude.{option_map}
 use Rattle.mos_vm.proofs.start.defaults.Given as goal
 
 abbrev pub invariant-loop-number : goal.invariant-loop-number
-invariant-loop-number l = option_map (λ rest. l.values ++ rest) (defaults_in l.types (drop l.number-index l.numbers)) ≡ defaults_in l.types l.numbers
+invariant-loop-number l =
+    option_map (λ rest. l.values ++ rest) (defaults_in l.types (drop l.number-index l.numbers))
+    ≡ defaults_in l.types l.numbers

@@ -6,4 +6,6 @@ use Rattle.std.specs.Prelude.{option_map}
 use Rattle.mos_vm.proofs.start.field_defaults.Given as goal
 
 abbrev pub invariant-loop-field : goal.invariant-loop-field
-invariant-loop-field l = option_map (λ rest. l.values ++ rest) (all_of (field_default l.types) (drop l.field-index l.fields)) ≡ all_of (field_default l.types) l.fields
+invariant-loop-field l =
+    option_map (λ rest. l.values ++ rest) (all_of (field_default l.types) (drop l.field-index l.fields))
+    ≡ all_of (field_default l.types) l.fields

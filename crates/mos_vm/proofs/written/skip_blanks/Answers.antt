@@ -9,7 +9,8 @@ loop-begin-init c = record { value = refl; cut = λ u. IsCharBoundary-start c.ar
 
 pub returns-then-not-is_blank-clause-utf8 : goal.returns-then-not-is_blank-clause-utf8
 returns-then-not-is_blank-clause-utf8 c = λ u.
-    IsUtf8-between c.args.text.now c.loop-begin.begin _ u (omega (arith, c.loop-begin-test.true)) (c.loop-begin.invariant.cut u) (IsCharBoundary-end c.args.text.now)
+    IsUtf8-between c.args.text.now c.loop-begin.begin _ u (omega (arith, c.loop-begin-test.true)) (c.loop-begin.invariant.cut u)
+    (IsCharBoundary-end c.args.text.now)
 
 pub loop-begin-preserved : goal.loop-begin-preserved
 loop-begin-preserved c =
