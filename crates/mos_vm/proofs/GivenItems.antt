@@ -28,7 +28,7 @@ pub put_by : (formals : List Parameter) (values : List Scalar) (item : List ℕ)
 put_by formals values item equals place formal v at apart there found is =
     let by : ℕ → ℕ → Option Parameter → Option (ℕ × Scalar) =
     λ e k o. and_then o (λ (p : Parameter). and_then (written_of (trimmed (drop (e + 1) item)))
-        (λ written. option_map (with_place k) (value_like p.default written))) in
+    (λ written. option_map (with_place k) (value_like p.default written))) in
     let named : ℕ → ℕ = λ e. place_of (trimmed (take e item)) (names_of formals) in
     let whole : ℕ → Option (ℕ × Scalar) =
     λ e. if nat_eq e (length item) then None else by e (named e) (slice_get formals (named e)) in

@@ -16,7 +16,7 @@ overflow_add-begun c =
     let image = c.args.image.now in
     let now = c.loop-instruction in
     let few = still_few image c.args.budget c.args.machine now.steps now.address now.machine
-        c.machine_laws.ensures.stays_over c.requires.over now.invariant.stands in
+    c.machine_laws.ensures.stays_over c.requires.over now.invariant.stands in
     let fit = steps_fit image c.args.budget c.requires.small c.ranges.budget.fits in
     omega (arith, few, fit)
 
@@ -24,8 +24,8 @@ pub loop-instruction-smaller : goal.loop-instruction-smaller
 loop-instruction-smaller c =
     let now = c.loop-instruction in
     let few : now.steps < most_steps c.args.image.now c.args.budget =
-        still_few c.args.image.now c.args.budget c.args.machine now.steps now.address now.machine
-        c.machine_laws.ensures.stays_over c.requires.over now.invariant.stands in
+    still_few c.args.image.now c.args.budget c.args.machine now.steps now.address now.machine
+    c.machine_laws.ensures.stays_over c.requires.over now.invariant.stands in
     omega (arith, few)
 
 pub overflow_add-next : goal.overflow_add-next
@@ -33,8 +33,8 @@ overflow_add-next c =
     let image = c.args.image.now in
     let now = c.loop-instruction in
     let found : instruction_at image.code now.address ≡ Some c.in-Some.instruction =
-        found_there image _ now.address (Some c.in-Some.instruction) (c.deref.ensures.value ∙ now.invariant.code)
-        (sym c.found_at.ensures ∙ c.in-Some.is) in
+    found_there image _ now.address (Some c.in-Some.instruction) (c.deref.ensures.value ∙ now.invariant.code)
+    (sym c.found_at.ensures ∙ c.in-Some.is) in
     let within = at_within image.code now.address c.in-Some.instruction found in
     omega (arith, within, c.requires.small, c.width.ensures)
 
@@ -57,10 +57,10 @@ returns-in-Halts c =
     let how = c.in-Halts.stop in
     let next = c.step.new.self in
     let found : instruction_at image.code now.address ≡ Some i =
-        found_there image _ now.address (Some i) (c.deref.ensures.value ∙ now.invariant.code) (sym c.found_at.ensures ∙ c.in-Some.is) in
+    found_there image _ now.address (Some i) (c.deref.ensures.value ∙ now.invariant.code) (sym c.found_at.ensures ∙ c.in-Some.is) in
     let few = still_few image c.args.budget c.args.machine now.steps now.address now.machine laws.stays_over c.requires.over now.invariant.stands in
     let over = leads_on image c.args.budget c.args.machine now.steps now.address now.machine i (Halts how) next
-        laws.step_by_step now.invariant.stands found (rw c.in-Halts.is at c.in_ok-step.ensures) in
+    laws.step_by_step now.invariant.stands found (rw c.in-Halts.is at c.in_ok-step.ensures) in
     is_run image c.args.budget c.args.machine now.steps now.address how next c.ended-in-Halts.result laws.stays_over few over
     c.ended-in-Halts.ensures
 
@@ -72,7 +72,7 @@ loop-instruction-preserved c =
     let i = c.in-Some.instruction in
     let next = c.step.new.self in
     let found : instruction_at image.code now.address ≡ Some i =
-        found_there image _ now.address (Some i) (c.deref.ensures.value ∙ now.invariant.code) (sym c.found_at.ensures ∙ c.in-Some.is) in
+    found_there image _ now.address (Some i) (c.deref.ensures.value ∙ now.invariant.code) (sym c.found_at.ensures ∙ c.in-Some.is) in
     record {
       code = now.invariant.code;
       stands = elim c.match-branch-3.branch [
