@@ -44,6 +44,3 @@ fn put_heading(out: &mut Vec<u8>) -> Result<(), AllocError>
     out.extend_from_slice(b"MBIM")?;
     put_u16(out, 1)
 }
-
-#[cfg(test)]
-mod tests;

@@ -1,0 +1,84 @@
+//! The tests of images: prints the row of each instruction (code byte, name, operands, width), and the bytes of the smallest
+//! image.
+#![tactic(auto)]
+
+ghost use Rattle.std.specs.Prelude.{◌≡◌, IfOk};
+ghost use Rattle.bim_code.specs.Examples.{ends_at_once};
+
+use bim_code::{Comparison, Image, Instruction, Operands};
+use bim_format::write_image;
+use mos_text::{Blob, NoMemory};
+use sqlite_items::Items;
+use std::alloc::Global;
+use std::io;
+
+/// One of each instruction, some with operands that mean nothing.
+const ROWS: [Instruction; 24] = [
+    Instruction::Tick,
+    Instruction::PushInt(-2),
+    Instruction::PushBool(1),
+    Instruction::PushBool(7),
+    Instruction::PushText(9),
+    Instruction::LoadGlobal(258),
+    Instruction::StoreGlobal(0),
+    Instruction::Swap,
+    Instruction::Add,
+    Instruction::Subtract,
+    Instruction::Show,
+    Instruction::Compare(Comparison::Equal),
+    Instruction::Compare(Comparison::NotEqual),
+    Instruction::Compare(Comparison::Less),
+    Instruction::Compare(Comparison::AtMost),
+    Instruction::Compare(Comparison::Greater),
+    Instruction::Compare(Comparison::AtLeast),
+    Instruction::Jump(4294967295),
+    Instruction::JumpIf(7),
+    Instruction::JumpNot(8),
+    Instruction::Write,
+    Instruction::Line,
+    Instruction::End,
+    Instruction::Fault(12),
+];
+
+fn print_row(rt: &impl Print, instruction: &Instruction) -> io::Result<()> {
+    let (code, name, width) = (instruction.code(), instruction.name(), instruction.width());
+    match instruction.operands() {
+        Operands::None => println!(rt; "{code} {name} width {width}"),
+        Operands::One(one) => println!(rt; "{code} {name} {one} width {width}"),
+        Operands::Two(one, two) => println!(rt; "{code} {name} {one} {two} width {width}"),
+    }
+}
+
+/// An image that ends with code 0 at once.
+fn smallest(alloc: Global) -> Result<Image, NoMemory>
+    ensures { IfOk result (λ image. image ≡ ends_at_once) }
+{
+    let mut code = Items::new(alloc);
+    code.push(Instruction::PushInt(0))?;
+    code.push(Instruction::End)?;
+    Ok(Image {
+        constants: Items::new(alloc),
+        types: Items::new(alloc),
+        params: Items::new(alloc),
+        globals: Items::new(alloc),
+        routines: Items::new(alloc),
+        points: Items::new(alloc),
+        code,
+    })
+}
+
+/// Its bytes; none where memory is wanting.
+fn bytes(alloc: Global) -> Option<Blob> {
+    let image = smallest(alloc).ok()?;
+    write_image(alloc, &image).ok()
+}
+
+fn main(rt: HostRuntime) -> io::Result<()> {
+    for instruction in &ROWS {
+        print_row(&rt, instruction)?;
+    }
+    match bytes(rt.alloc()) {
+        Some(blob) => println!(rt; "{:?}", blob.as_bytes()),
+        None => println!(rt; "no memory"),
+    }
+}
