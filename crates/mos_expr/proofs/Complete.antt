@@ -2,7 +2,7 @@
 
 use Rattle.std.proofs.Common.{◌≡◌, ℕ, ◌+◌, ◌≤◌, max, true, false, nat_le, List, [], ◌∷◌, ◌++◌, Option, Some, None, refl, sym, ◌∙◌, ap, subst, arith, append_assoc}
 use Rattle.std.proofs.lemmas.List.{append-nil}
-use Rattle.std.proofs.lemmas.Bool.{le-leb}
+use Rattle.std.proofs.lemmas.Bool.{le-leb, or_parts}
 use Rattle.mos_tree.specs.declared.expr.Expr.{Expr}
 use Rattle.mos_tree.specs.declared.expr.Group.{Group}
 use Rattle.mos_tree.specs.declared.expr.UnaryOperator.{UnaryOperator}
@@ -11,11 +11,12 @@ use Rattle.mos_tree.specs.declared.expr.AggregateOperator.{AggregateOperator}
 use Rattle.mos_tree.specs.declared.expr.AggregateOperator.TheVariants as ag
 use Rattle.mos_tree.specs.declared.expr.Conversion.{Conversion}
 use Rattle.mos_tree.specs.declared.expr.Conversion.TheVariants as c
+use Rattle.mos_scan.specs.declared.token.TokenKind.{TokenKind}
 use Rattle.mos_scan.specs.declared.token.TokenKind.TheVariants as t
 use Rattle.mos_scan.specs.declared.reading.Word.{Word}
 use Rattle.mos_scan.specs.declared.reading.Word.TheVariants as w
 use Rattle.mos_expr.specs.Grammar.{Leaf, number, text, truth, name, returned, field, Names, one_name, and_name, Syntax, leaf, call, call_field, set, list, bracket, if_expr, convert, before, between, aggregate, counted, Written, no_more, one_more, Over, last_set, such_that, another, level, binds, takes, tree, trees, height, heights, height_over, groups_of, condition_of, IsGrouped, AreGrouped, IsGroupedOver, key, spell, spell_leaf, spell_before, spell_between, spell_aggregate, spell_conversion, spell_names, spell_list, spell_rest, spell_over, list_of_names, index_of}
-use Rattle.mos_expr.specs.Machine.{State, Settled, and_then, folds, room, settled, at_frame, after_key, index_read, at_round}
+use Rattle.mos_expr.specs.Machine.{Settled, and_then, folds, settled, at_frame, operator_of, after_key, index_read, at_round}
 use Rattle.mos_expr.specs.Reader.{step, read, want_key, aggregate_key, last_of_index}
 use Rattle.mos_expr.specs.Operands as o
 use Rattle.mos_expr.specs.declared.operand.Operand.{Operand}
@@ -24,30 +25,21 @@ use Rattle.mos_expr.specs.declared.operand.Groups.{Groups}
 use Rattle.mos_expr.specs.declared.operand.WholeIndex.{WholeIndex}
 use Rattle.mos_expr.specs.declared.frame.IndexKind.{IndexKind}
 use Rattle.mos_expr.specs.declared.frame.IndexKind.TheVariants as i
+use Rattle.mos_expr.specs.declared.frame.ListKind.{ListKind}
+use Rattle.mos_expr.specs.declared.frame.ListKind.TheVariants as lk
 use Rattle.mos_expr.specs.declared.frame.Frame.{Frame}
 use Rattle.mos_expr.specs.declared.frame.Frame.TheVariants as f
+use Rattle.mos_expr.specs.declared.frame.Mode.{Mode}
 use Rattle.mos_expr.specs.declared.frame.Mode.TheVariants as m
 use Rattle.mos_expr.proofs.Values.{whole, parts_at, groups_at, index_at, group_of, bracketed-whole, convert-whole, if_expr-whole, counted-whole, parts-whole, call-whole, call_field-whole, set-whole, list-whole, groups-whole, index-whole, conditioned-whole}
-use Rattle.mos_expr.proofs.Steps.{or_right, Follows, follows-part, follows-operator, level-9, left-binds, Fits, fits-less, pops-before, pops-between, pops-body, stays-fits, reads-operator, name-ends, call-ends}
+use Rattle.mos_expr.proofs.Steps.{goes_on, next_words, Follows, follows-part, follows-operator, level-9, left-binds, Fits, fits-less, pops-before, pops-between, pops-body, stays-fits, reads-operator, name-ends, call-ends}
 
 -- nothing that takes part in an expression comes next
 abbrev pub Closes : List Word → Type 0
 Closes rest = (s : Syntax) → Follows s rest
 
-pub closes-round : (ws : List Word) → Closes (w.Key t.CloseRound ∷ ws)
-closes-round ws s = (refl, λ op e. cc)
-
-closes-curly : (ws : List Word) → Closes (w.Key t.CloseCurly ∷ ws)
-closes-curly ws s = (refl, λ op e. cc)
-
-closes-square : (ws : List Word) → Closes (w.Key t.CloseSquare ∷ ws)
-closes-square ws s = (refl, λ op e. cc)
-
-closes-comma : (ws : List Word) → Closes (w.Key t.Comma ∷ ws)
-closes-comma ws s = (refl, λ op e. cc)
-
-closes-bar : (ws : List Word) → Closes (w.Key t.Bar ∷ ws)
-closes-bar ws s = (refl, λ op e. cc)
+pub closes-key : (k : TokenKind) → goes_on k ≡ false → operator_of k ≡ None → (ws : List Word) → Closes (w.Key k ∷ ws)
+closes-key k goes none ws s = (goes, λ op e. let h : None ≡ Some op = sym none ∙ e in cc)
 
 pub closes-end : Closes []
 closes-end s = tt
@@ -103,9 +95,6 @@ begins (between op x y) =
 begins (aggregate p i s) = record { word = spell_aggregate p; words = _; spelled = refl; opens = opens-aggregate p }
 begins (counted i) = record { word = w.Key t.Count; words = _; spelled = refl; opens = λ fs. refl }
 
-abbrev next_words : List Word → State → Settled
-next_words ws z = and_then z (λ next. read next.0 next.1 ws)
-
 pub first-operand : (s : Syntax) (fs : List Frame) (rest : List Word) → read m.WantFirst fs (spell s ++ rest) ≡ read m.Want fs (spell s ++ rest)
 first-operand s fs rest =
     let first : Begins s = begins s in
@@ -114,69 +103,54 @@ first-operand s fs rest =
 
 -- ---- lists of parts
 
--- a frame of expressions with commas between them
-pub record IsListFrame (frame : Parts → Frame) : Type 0 where
-  pub wide : (ps : Parts) → room (frame ps) ≡ 9
-  pub at_comma : (ps : Parts) (x : Operand) (fs : List Frame) (ws : List Word) → read (m.After x) (frame ps ∷ fs) (w.Key t.Comma ∷ ws) ≡ read m.Want (frame (o.parts_with ps x) ∷ fs) ws
-
-abbrev call_frame : List ℕ → Parts → Frame
-call_frame n ps = f.Call n ps
-
-abbrev set_frame : Parts → Frame
-set_frame ps = f.Set ps
-
-abbrev list_frame : Parts → Frame
-list_frame ps = f.List ps
-
-abbrev pub bare_list_frame : Parts → Frame
-bare_list_frame ps = f.BareList ps
-
-in_call : (n : List ℕ) → IsListFrame (call_frame n)
+list-comma : (form : ListKind) (ps : Parts) (x : Operand) (fs : List Frame) (ws : List Word) → read (m.After x) (f.Listed form ps ∷ fs) (w.Key t.Comma ∷ ws) ≡ read m.Want (f.Listed form (o.parts_with ps x) ∷ fs) ws
 unfolding step after_key
-in_call n = record { wide = λ ps. refl; at_comma = λ ps x fs ws. refl }
-
-in_set : IsListFrame set_frame
-unfolding step after_key
-in_set = record { wide = λ ps. refl; at_comma = λ ps x fs ws. refl }
-
-in_list : IsListFrame list_frame
-unfolding step after_key
-in_list = record { wide = λ ps. refl; at_comma = λ ps x fs ws. refl }
-
-pub in_bare_list : IsListFrame bare_list_frame
-unfolding step after_key
-in_bare_list = record { wide = λ ps. refl; at_comma = λ ps x fs ws. refl }
+list-comma form ps x fs ws = refl
 
 -- behind the last of some expressions, which is not yet among the parts
-pub record ListRead (frame : Parts → Frame) (h : ℕ) (xs : List Expr) (s : Syntax) (ss : Written) (fs : List Frame) (rest : List Word) : Type 0 where
+pub record ListRead (form : ListKind) (h : ℕ) (xs : List Expr) (s : Syntax) (ss : Written) (fs : List Frame) (rest : List Word) : Type 0 where
   pub last : Operand
   pub parts : Parts
-  pub reads_to : read (m.After (whole s)) (frame (parts_at h xs) ∷ fs) (spell_rest ss ++ rest) ≡ read (m.After last) (frame parts ∷ fs) rest
+  pub reads_to : read (m.After (whole s)) (f.Listed form (parts_at h xs) ∷ fs) (spell_rest ss ++ rest) ≡ read (m.After last) (f.Listed form parts ∷ fs) rest
   pub all : o.parts_with parts last ≡ parts_at (max (max h (height s)) (heights ss)) (xs ++ tree s ∷ [] ++ trees ss)
 
 -- the same from the first of them on
-pub record WholeListRead (frame : Parts → Frame) (ss : Written) (fs : List Frame) (rest : List Word) : Type 0 where
+pub record WholeListRead (mode : Mode) (form : ListKind) (ss : Written) (fs : List Frame) (words rest : List Word) : Type 0 where
   pub last : Operand
   pub parts : Parts
-  pub reads_to : read m.Want (frame o.no_parts ∷ fs) (spell_list ss ++ rest) ≡ read (m.After last) (frame parts ∷ fs) rest
+  pub reads_to : read mode (f.Listed form o.no_parts ∷ fs) words ≡ read (m.After last) (f.Listed form parts ∷ fs) rest
   pub all : o.parts_with parts last ≡ parts_at (heights ss) (trees ss)
 
-whole-list : (frame : Parts → Frame) (s : Syntax) (ss : Written) (fs : List Frame) (rest : List Word) → read m.Want (frame o.no_parts ∷ fs) (spell s ++ (spell_rest ss ++ rest)) ≡ read (m.After (whole s)) (frame o.no_parts ∷ fs) (spell_rest ss ++ rest) → ListRead frame 0 [] s ss fs rest → WholeListRead frame (one_more s ss) fs rest
-whole-list frame s ss fs rest first r =
+whole-list : (form : ListKind) (s : Syntax) (ss : Written) (fs : List Frame) (rest : List Word) → read m.Want (f.Listed form o.no_parts ∷ fs) (spell s ++ (spell_rest ss ++ rest)) ≡ read (m.After (whole s)) (f.Listed form o.no_parts ∷ fs) (spell_rest ss ++ rest) → ListRead form 0 [] s ss fs rest
+    → WholeListRead m.Want form (one_more s ss) fs (spell s ++ (spell_rest ss ++ rest)) rest
+whole-list form s ss fs rest first r =
     let low : max (max 0 (height s)) (heights ss) ≡ max (height s) (heights ss) = omega arith in
     record {
       last = r.last;
       parts = r.parts;
-      reads_to = ap (read m.Want (frame o.no_parts ∷ fs)) (append_assoc (spell s) (spell_rest ss) rest) ∙ first ∙ r.reads_to;
+      reads_to = first ∙ r.reads_to;
       all = r.all ∙ ap (λ h. parts_at h (tree s ∷ trees ss)) low;
     }
+
+-- the same behind an opening bracket, up to the closing one
+first-list : (form : ListKind) (s : Syntax) (ss : Written) (fs : List Frame) (k : TokenKind) (tail rest : List Word) → WholeListRead m.Want form (one_more s ss) fs (spell s ++ (spell_rest ss ++ w.Key k ∷ (tail ++ rest))) (w.Key k ∷ (tail ++ rest))
+    → WholeListRead m.WantFirst form (one_more s ss) fs ((spell_list (one_more s ss) ++ w.Key k ∷ tail) ++ rest) (w.Key k ∷ (tail ++ rest))
+first-list form s ss fs k tail rest r = record {
+  last = r.last;
+  parts = r.parts;
+  reads_to =
+      ap (read m.WantFirst (f.Listed form o.no_parts ∷ fs)) (append_assoc (spell s ++ spell_rest ss) (w.Key k ∷ tail) rest ∙ append_assoc (spell s) (spell_rest ss) (w.Key k ∷ (tail ++ rest)))
+      ∙ first-operand s (f.Listed form o.no_parts ∷ fs) (spell_rest ss ++ w.Key k ∷ (tail ++ rest))
+      ∙ r.reads_to;
+  all = r.all;
+}
 
 zero-high : (n : ℕ) → n ≡ max n 0
 zero-high n = omega arith
 
 follows-rest : (s : Syntax) (ss : Written) (rest : List Word) → Closes rest → Follows s (spell_rest ss ++ rest)
 follows-rest s no_more rest c = c s
-follows-rest s (one_more x xs) rest c = closes-comma ((spell x ++ spell_rest xs) ++ rest) s
+follows-rest s (one_more x xs) rest c = closes-key t.Comma refl refl ((spell x ++ spell_rest xs) ++ rest) s
 
 -- ---- indexes
 
@@ -291,78 +265,70 @@ mutual
   reads (leaf x) fs rest g l h = reads-leaf x fs rest h
   reads (call n no_more) fs rest g l h = call-ends n o.no_parts (call n no_more) fs rest h
   reads (call n (one_more s ss)) fs rest g l h =
-      let r : WholeListRead (call_frame n) (one_more s ss) fs (w.Key t.CloseRound ∷ rest) = whole-list (call_frame n) s ss fs (w.Key t.CloseRound ∷ rest) (reads s (f.Call n o.no_parts ∷ fs) (spell_rest ss ++ w.Key t.CloseRound ∷ rest) g.0 (level-9 s) (follows-rest s ss (w.Key t.CloseRound ∷ rest) (closes-round rest))) (reads_rest (call_frame n) (in_call n) 0 [] s ss fs (w.Key t.CloseRound ∷ rest) g.1 (closes-round rest)) in
-      ap (read m.WantFirst (f.Call n o.no_parts ∷ fs)) (append_assoc (spell s ++ spell_rest ss) (key t.CloseRound) rest ∙ append_assoc (spell s) (spell_rest ss) (w.Key t.CloseRound ∷ rest))
-      ∙ first-operand s (f.Call n o.no_parts ∷ fs) (spell_rest ss ++ w.Key t.CloseRound ∷ rest)
-      ∙ ap (read m.Want (f.Call n o.no_parts ∷ fs)) (sym (append_assoc (spell s) (spell_rest ss) (w.Key t.CloseRound ∷ rest)))
-      ∙ r.reads_to
+      let r : WholeListRead m.WantFirst (lk.Call n) (one_more s ss) fs ((spell_list (one_more s ss) ++ w.Key t.CloseRound ∷ []) ++ rest) (w.Key t.CloseRound ∷ rest) =
+      first-list (lk.Call n) s ss fs t.CloseRound [] rest (whole-list (lk.Call n) s ss fs (w.Key t.CloseRound ∷ rest) (reads s (f.Listed (lk.Call n) o.no_parts ∷ fs) (spell_rest ss ++ w.Key t.CloseRound ∷ rest) g.0 (level-9 s) (follows-rest s ss (w.Key t.CloseRound ∷ rest) (closes-key t.CloseRound refl refl rest))) (reads_rest (lk.Call n) 0 [] s ss fs (w.Key t.CloseRound ∷ rest) g.1 (closes-key t.CloseRound refl refl rest))) in
+      r.reads_to
       ∙ ap (λ ps. read (m.Called n ps) fs rest) r.all
       ∙ call-ends n (parts_at (heights (one_more s ss)) (trees (one_more s ss))) (call n (one_more s ss)) fs rest h
       ∙ ap (λ x. read (m.After x) fs rest) (call-whole n (heights (one_more s ss)) (trees (one_more s ss)))
   reads (call_field n no_more x) fs rest g l h = refl
   reads (call_field n (one_more s ss) x) fs rest g l h =
-      let r : WholeListRead (call_frame n) (one_more s ss) fs (w.Key t.CloseRound ∷ w.Key t.Dot ∷ w.Name x ∷ rest) = whole-list (call_frame n) s ss fs (w.Key t.CloseRound ∷ w.Key t.Dot ∷ w.Name x ∷ rest) (reads s (f.Call n o.no_parts ∷ fs) (spell_rest ss ++ w.Key t.CloseRound ∷ w.Key t.Dot ∷ w.Name x ∷ rest) g.0 (level-9 s) (follows-rest s ss (w.Key t.CloseRound ∷ w.Key t.Dot ∷ w.Name x ∷ rest) (closes-round (w.Key t.Dot ∷ w.Name x ∷ rest)))) (reads_rest (call_frame n) (in_call n) 0 [] s ss fs (w.Key t.CloseRound ∷ w.Key t.Dot ∷ w.Name x ∷ rest) g.1 (closes-round (w.Key t.Dot ∷ w.Name x ∷ rest))) in
-      ap (read m.WantFirst (f.Call n o.no_parts ∷ fs)) (append_assoc (spell s ++ spell_rest ss) (w.Key t.CloseRound ∷ w.Key t.Dot ∷ w.Name x ∷ []) rest ∙ append_assoc (spell s) (spell_rest ss) (w.Key t.CloseRound ∷ w.Key t.Dot ∷ w.Name x ∷ rest))
-      ∙ first-operand s (f.Call n o.no_parts ∷ fs) (spell_rest ss ++ w.Key t.CloseRound ∷ w.Key t.Dot ∷ w.Name x ∷ rest)
-      ∙ ap (read m.Want (f.Call n o.no_parts ∷ fs)) (sym (append_assoc (spell s) (spell_rest ss) (w.Key t.CloseRound ∷ w.Key t.Dot ∷ w.Name x ∷ rest)))
-      ∙ r.reads_to
+      let r : WholeListRead m.WantFirst (lk.Call n) (one_more s ss) fs ((spell_list (one_more s ss) ++ w.Key t.CloseRound ∷ (w.Key t.Dot ∷ w.Name x ∷ [])) ++ rest) (w.Key t.CloseRound ∷ w.Key t.Dot ∷ w.Name x ∷ rest) =
+      first-list (lk.Call n) s ss fs t.CloseRound (w.Key t.Dot ∷ w.Name x ∷ []) rest (whole-list (lk.Call n) s ss fs (w.Key t.CloseRound ∷ w.Key t.Dot ∷ w.Name x ∷ rest) (reads s (f.Listed (lk.Call n) o.no_parts ∷ fs) (spell_rest ss ++ w.Key t.CloseRound ∷ w.Key t.Dot ∷ w.Name x ∷ rest) g.0 (level-9 s) (follows-rest s ss (w.Key t.CloseRound ∷ w.Key t.Dot ∷ w.Name x ∷ rest) (closes-key t.CloseRound refl refl (w.Key t.Dot ∷ w.Name x ∷ rest)))) (reads_rest (lk.Call n) 0 [] s ss fs (w.Key t.CloseRound ∷ w.Key t.Dot ∷ w.Name x ∷ rest) g.1 (closes-key t.CloseRound refl refl (w.Key t.Dot ∷ w.Name x ∷ rest)))) in
+      r.reads_to
       ∙ ap (λ ps. read (m.After (o.call_field_of n ps x)) fs rest) r.all
       ∙ ap (λ y. read (m.After y) fs rest) (call_field-whole n (heights (one_more s ss)) (trees (one_more s ss)) x)
   reads (set no_more) fs rest g l h = refl
   reads (set (one_more s ss)) fs rest g l h =
-      let r : WholeListRead set_frame (one_more s ss) fs (w.Key t.CloseCurly ∷ rest) = whole-list set_frame s ss fs (w.Key t.CloseCurly ∷ rest) (reads s (f.Set o.no_parts ∷ fs) (spell_rest ss ++ w.Key t.CloseCurly ∷ rest) g.0 (level-9 s) (follows-rest s ss (w.Key t.CloseCurly ∷ rest) (closes-curly rest))) (reads_rest set_frame in_set 0 [] s ss fs (w.Key t.CloseCurly ∷ rest) g.1 (closes-curly rest)) in
-      ap (read m.WantFirst (f.Set o.no_parts ∷ fs)) (append_assoc (spell s ++ spell_rest ss) (key t.CloseCurly) rest ∙ append_assoc (spell s) (spell_rest ss) (w.Key t.CloseCurly ∷ rest))
-      ∙ first-operand s (f.Set o.no_parts ∷ fs) (spell_rest ss ++ w.Key t.CloseCurly ∷ rest)
-      ∙ ap (read m.Want (f.Set o.no_parts ∷ fs)) (sym (append_assoc (spell s) (spell_rest ss) (w.Key t.CloseCurly ∷ rest)))
-      ∙ r.reads_to
+      let r : WholeListRead m.WantFirst lk.Set (one_more s ss) fs ((spell_list (one_more s ss) ++ w.Key t.CloseCurly ∷ []) ++ rest) (w.Key t.CloseCurly ∷ rest) =
+      first-list lk.Set s ss fs t.CloseCurly [] rest (whole-list lk.Set s ss fs (w.Key t.CloseCurly ∷ rest) (reads s (f.Listed lk.Set o.no_parts ∷ fs) (spell_rest ss ++ w.Key t.CloseCurly ∷ rest) g.0 (level-9 s) (follows-rest s ss (w.Key t.CloseCurly ∷ rest) (closes-key t.CloseCurly refl refl rest))) (reads_rest lk.Set 0 [] s ss fs (w.Key t.CloseCurly ∷ rest) g.1 (closes-key t.CloseCurly refl refl rest))) in
+      r.reads_to
       ∙ ap (λ ps. read (m.After (o.set_of ps)) fs rest) r.all
       ∙ ap (λ y. read (m.After y) fs rest) (set-whole (heights (one_more s ss)) (trees (one_more s ss)))
   reads (list no_more) fs rest g l h = refl
   reads (list (one_more s ss)) fs rest g l h =
-      let r : WholeListRead list_frame (one_more s ss) fs (w.Key t.CloseSquare ∷ rest) = whole-list list_frame s ss fs (w.Key t.CloseSquare ∷ rest) (reads s (f.List o.no_parts ∷ fs) (spell_rest ss ++ w.Key t.CloseSquare ∷ rest) g.0 (level-9 s) (follows-rest s ss (w.Key t.CloseSquare ∷ rest) (closes-square rest))) (reads_rest list_frame in_list 0 [] s ss fs (w.Key t.CloseSquare ∷ rest) g.1 (closes-square rest)) in
-      ap (read m.WantFirst (f.List o.no_parts ∷ fs)) (append_assoc (spell s ++ spell_rest ss) (key t.CloseSquare) rest ∙ append_assoc (spell s) (spell_rest ss) (w.Key t.CloseSquare ∷ rest))
-      ∙ first-operand s (f.List o.no_parts ∷ fs) (spell_rest ss ++ w.Key t.CloseSquare ∷ rest)
-      ∙ ap (read m.Want (f.List o.no_parts ∷ fs)) (sym (append_assoc (spell s) (spell_rest ss) (w.Key t.CloseSquare ∷ rest)))
-      ∙ r.reads_to
+      let r : WholeListRead m.WantFirst lk.List (one_more s ss) fs ((spell_list (one_more s ss) ++ w.Key t.CloseSquare ∷ []) ++ rest) (w.Key t.CloseSquare ∷ rest) =
+      first-list lk.List s ss fs t.CloseSquare [] rest (whole-list lk.List s ss fs (w.Key t.CloseSquare ∷ rest) (reads s (f.Listed lk.List o.no_parts ∷ fs) (spell_rest ss ++ w.Key t.CloseSquare ∷ rest) g.0 (level-9 s) (follows-rest s ss (w.Key t.CloseSquare ∷ rest) (closes-key t.CloseSquare refl refl rest))) (reads_rest lk.List 0 [] s ss fs (w.Key t.CloseSquare ∷ rest) g.1 (closes-key t.CloseSquare refl refl rest))) in
+      r.reads_to
       ∙ ap (λ ps. read (m.After (o.list_of ps)) fs rest) r.all
       ∙ ap (λ y. read (m.After y) fs rest) (list-whole (heights (one_more s ss)) (trees (one_more s ss)))
   reads (bracket s) fs rest g l h =
       ap (read m.Want (f.Bracket ∷ fs)) (append_assoc (spell s) (key t.CloseRound) rest)
-      ∙ reads s (f.Bracket ∷ fs) (w.Key t.CloseRound ∷ rest) g (level-9 s) (closes-round rest s)
+      ∙ reads s (f.Bracket ∷ fs) (w.Key t.CloseRound ∷ rest) g (level-9 s) (closes-key t.CloseRound refl refl rest s)
       ∙ ap (λ y. read (m.After y) fs rest) (bracketed-whole s)
   reads (if_expr x y z) fs rest g l h =
       ap (read m.Want (f.IfExpr ∷ fs)) (three-parts (spell x) (spell y) (spell z) rest)
-      ∙ reads x (f.IfExpr ∷ fs) (w.Key t.Comma ∷ (spell y ++ w.Key t.Comma ∷ (spell z ++ w.Key t.CloseRound ∷ rest))) g.0 (level-9 x) (closes-comma (spell y ++ w.Key t.Comma ∷ (spell z ++ w.Key t.CloseRound ∷ rest)) x)
-      ∙ reads y (f.IfFirst (whole x) ∷ fs) (w.Key t.Comma ∷ (spell z ++ w.Key t.CloseRound ∷ rest)) g.1 (level-9 y) (closes-comma (spell z ++ w.Key t.CloseRound ∷ rest) y)
-      ∙ reads z (f.IfSecond (whole x) (whole y) ∷ fs) (w.Key t.CloseRound ∷ rest) g.2 (level-9 z) (closes-round rest z)
+      ∙ reads x (f.IfExpr ∷ fs) (w.Key t.Comma ∷ (spell y ++ w.Key t.Comma ∷ (spell z ++ w.Key t.CloseRound ∷ rest))) g.0 (level-9 x) (closes-key t.Comma refl refl (spell y ++ w.Key t.Comma ∷ (spell z ++ w.Key t.CloseRound ∷ rest)) x)
+      ∙ reads y (f.IfFirst (whole x) ∷ fs) (w.Key t.Comma ∷ (spell z ++ w.Key t.CloseRound ∷ rest)) g.1 (level-9 y) (closes-key t.Comma refl refl (spell z ++ w.Key t.CloseRound ∷ rest) y)
+      ∙ reads z (f.IfSecond (whole x) (whole y) ∷ fs) (w.Key t.CloseRound ∷ rest) g.2 (level-9 z) (closes-key t.CloseRound refl refl rest z)
       ∙ ap (λ v. read (m.After v) fs rest) (if_expr-whole x y z)
   reads (convert to s) fs rest g l h =
       conversion-begins to fs ((spell s ++ key t.CloseRound) ++ rest)
       ∙ ap (read m.Want (f.Convert to ∷ fs)) (append_assoc (spell s) (key t.CloseRound) rest)
-      ∙ reads s (f.Convert to ∷ fs) (w.Key t.CloseRound ∷ rest) g (level-9 s) (closes-round rest s)
+      ∙ reads s (f.Convert to ∷ fs) (w.Key t.CloseRound ∷ rest) g (level-9 s) (closes-key t.CloseRound refl refl rest s)
       ∙ ap (λ y. read (m.After y) fs rest) (convert-whole to s)
   reads (before p s) fs rest g l h =
       prefix-begins p fs (spell s ++ rest)
-      ∙ reads s (f.Before p ∷ fs) rest g.1 g.0 (follows-part (before p s) s rest (λ op e. or_right _ (takes s op) e) h)
+      ∙ reads s (f.Before p ∷ fs) rest g.1 g.0 (follows-part (before p s) s rest (λ op e. (or_parts _ (takes s op) e).1) h)
       ∙ pops-before p s fs rest g.0 h
   reads (between op x y) fs rest g l h =
       ap (read m.Want fs) (append_assoc (spell x) (spell_between op ++ spell y) rest ∙ ap (λ ws. spell x ++ ws) (append_assoc (spell_between op) (spell y) rest))
       ∙ reads x fs (spell_between op ++ (spell y ++ rest)) g.2 (fits-less (level x) (binds op) fs (omega (arith, g.0, left-binds op)) l) (follows-operator x op (spell y ++ rest) g.4)
       ∙ reads-operator op (whole x) fs (spell y ++ rest) (stays-fits op (level x) fs g.0 l)
-      ∙ reads y (f.Between op (whole x) ∷ fs) rest g.3 g.1 (follows-part (between op x y) y rest (λ q e. or_right _ (takes y q) e) h)
+      ∙ reads y (f.Between op (whole x) ∷ fs) rest g.3 g.1 (follows-part (between op x y) y rest (λ q e. (or_parts _ (takes y q) e).1) h)
       ∙ pops-between op x y fs rest g.1 h
   reads (aggregate p over s) fs rest g l h =
-      let r : IndexRead (i.Aggregate p) 0 [] over fs (w.Key t.CloseRound ∷ (spell s ++ rest)) = reads_over (i.Aggregate p) 0 [] over fs (w.Key t.CloseRound ∷ (spell s ++ rest)) g.1 (closes-round (spell s ++ rest)) in
+      let r : IndexRead (i.Aggregate p) 0 [] over fs (w.Key t.CloseRound ∷ (spell s ++ rest)) = reads_over (i.Aggregate p) 0 [] over fs (w.Key t.CloseRound ∷ (spell s ++ rest)) g.1 (closes-key t.CloseRound refl refl (spell s ++ rest)) in
       let zero : max 0 (height_over over) ≡ height_over over = omega arith in
       aggregate-begins p fs ((spell_over over ++ w.Key t.CloseRound ∷ spell s) ++ rest)
       ∙ ap (read (m.WantName (i.Aggregate p) o.no_groups []) fs) (append_assoc (spell_over over) (w.Key t.CloseRound ∷ spell s) rest)
       ∙ r.reads_to
       ∙ index-closes (i.Aggregate p) r.top r.last (index_at (max 0 (height_over over)) (index_of over)) fs (spell s ++ rest) r.ends
       ∙ ap (λ k. read m.Want (f.Body p (index_at k (index_of over)) ∷ fs) (spell s ++ rest)) zero
-      ∙ reads s (f.Body p (index_at (height_over over) (index_of over)) ∷ fs) rest g.2 g.0 (follows-part (aggregate p over s) s rest (λ op e. or_right _ (takes s op) e) h)
+      ∙ reads s (f.Body p (index_at (height_over over) (index_of over)) ∷ fs) rest g.2 g.0 (follows-part (aggregate p over s) s rest (λ op e. (or_parts _ (takes s op) e).1) h)
       ∙ pops-body p over s fs rest g.0 h
   reads (counted over) fs rest g l h =
-      let r : IndexRead i.Count 0 [] over fs (w.Key t.CloseRound ∷ rest) = reads_over i.Count 0 [] over fs (w.Key t.CloseRound ∷ rest) g (closes-round rest) in
+      let r : IndexRead i.Count 0 [] over fs (w.Key t.CloseRound ∷ rest) = reads_over i.Count 0 [] over fs (w.Key t.CloseRound ∷ rest) g (closes-key t.CloseRound refl refl rest) in
       let zero : max 0 (height_over over) ≡ height_over over = omega arith in
       count-begins fs ((spell_over over ++ key t.CloseRound) ++ rest)
       ∙ ap (read (m.WantName i.Count o.no_groups []) fs) (append_assoc (spell_over over) (key t.CloseRound) rest)
@@ -371,25 +337,24 @@ mutual
       ∙ ap (λ k. read (m.After (o.counted_of (index_at k (index_of over)))) fs rest) zero
       ∙ ap (λ y. read (m.After y) fs rest) (counted-whole (height_over over) (index_of over))
 
-  reads_rest : (frame : Parts → Frame) → IsListFrame frame → (h : ℕ) (xs : List Expr) (s : Syntax) (ss : Written) (fs : List Frame) (rest : List Word) → AreGrouped ss → Closes rest → ListRead frame h xs s ss fs rest
-  reads_rest frame is h xs s no_more fs rest g c = record {
+  reads_rest : (form : ListKind) (h : ℕ) (xs : List Expr) (s : Syntax) (ss : Written) (fs : List Frame) (rest : List Word) → AreGrouped ss → Closes rest → ListRead form h xs s ss fs rest
+  reads_rest form h xs s no_more fs rest g c = record {
     last = whole s;
     parts = parts_at h xs;
     reads_to = refl;
     all = parts-whole h xs s ∙ ap (λ k. parts_at k (xs ++ tree s ∷ [])) (zero-high (max h (height s))) ∙ ap (parts_at (max (max h (height s)) 0)) (sym (append-nil (xs ++ tree s ∷ [])));
   }
-  reads_rest frame is h xs s (one_more y ys) fs rest g c =
-      let fits : level y ≤ room (frame (parts_at (max h (height s)) (xs ++ tree s ∷ []))) = subst (λ r. level y ≤ r) (sym (is.wide (parts_at (max h (height s)) (xs ++ tree s ∷ [])))) (level-9 y) in
-      let r : ListRead frame (max h (height s)) (xs ++ tree s ∷ []) y ys fs rest = reads_rest frame is (max h (height s)) (xs ++ tree s ∷ []) y ys fs rest g.1 c in
+  reads_rest form h xs s (one_more y ys) fs rest g c =
+      let r : ListRead form (max h (height s)) (xs ++ tree s ∷ []) y ys fs rest = reads_rest form (max h (height s)) (xs ++ tree s ∷ []) y ys fs rest g.1 c in
       let high : max (max (max h (height s)) (height y)) (heights ys) ≡ max (max h (height s)) (max (height y) (heights ys)) = omega arith in
       record {
         last = r.last;
         parts = r.parts;
         reads_to =
-            is.at_comma (parts_at h xs) (whole s) fs ((spell y ++ spell_rest ys) ++ rest)
-            ∙ ap (λ ps. read m.Want (frame ps ∷ fs) ((spell y ++ spell_rest ys) ++ rest)) (parts-whole h xs s)
-            ∙ ap (read m.Want (frame (parts_at (max h (height s)) (xs ++ tree s ∷ [])) ∷ fs)) (append_assoc (spell y) (spell_rest ys) rest)
-            ∙ reads y (frame (parts_at (max h (height s)) (xs ++ tree s ∷ [])) ∷ fs) (spell_rest ys ++ rest) g.0 fits (follows-rest y ys rest c)
+            list-comma form (parts_at h xs) (whole s) fs ((spell y ++ spell_rest ys) ++ rest)
+            ∙ ap (λ ps. read m.Want (f.Listed form ps ∷ fs) ((spell y ++ spell_rest ys) ++ rest)) (parts-whole h xs s)
+            ∙ ap (read m.Want (f.Listed form (parts_at (max h (height s)) (xs ++ tree s ∷ [])) ∷ fs)) (append_assoc (spell y) (spell_rest ys) rest)
+            ∙ reads y (f.Listed form (parts_at (max h (height s)) (xs ++ tree s ∷ [])) ∷ fs) (spell_rest ys ++ rest) g.0 (level-9 y) (follows-rest y ys rest c)
             ∙ r.reads_to;
         all = r.all ∙ ap (λ q. parts_at q (xs ++ tree s ∷ [] ++ tree y ∷ [] ++ trees ys)) high ∙ ap (λ q. parts_at (max (max h (height s)) (max (height y) (heights ys))) q) (append_assoc (xs ++ tree s ∷ []) (tree y ∷ []) (trees ys));
       }
@@ -411,7 +376,7 @@ mutual
         ap (read (m.WantName kind (groups_at h gs) []) fs) (append_assoc (spell_names ns) (w.Key t.In ∷ (spell s ++ w.Key t.Bar ∷ spell x)) rest)
         ∙ reads-names kind (groups_at h gs) ns [] fs ((spell s ++ w.Key t.Bar ∷ spell x) ++ rest)
         ∙ ap (read m.Want (f.IndexSet kind (groups_at h gs) (list_of_names ns) ∷ fs)) (append_assoc (spell s) (w.Key t.Bar ∷ spell x) rest)
-        ∙ reads s (f.IndexSet kind (groups_at h gs) (list_of_names ns) ∷ fs) (w.Key t.Bar ∷ (spell x ++ rest)) g.1 g.0 (closes-bar (spell x ++ rest) s)
+        ∙ reads s (f.IndexSet kind (groups_at h gs) (list_of_names ns) ∷ fs) (w.Key t.Bar ∷ (spell x ++ rest)) g.1 g.0 (closes-key t.Bar refl refl (spell x ++ rest) s)
         ∙ reads-bar kind h gs (list_of_names ns) s fs (spell x ++ rest) g.0
         ∙ reads x (f.IndexCondition kind (groups_at (max h (height s + 1)) (gs ++ group_of (list_of_names ns) s ∷ [])) ∷ fs) rest g.2 (level-9 x) (c x);
     ends =
@@ -427,15 +392,12 @@ mutual
             ap (read (m.WantName kind (groups_at h gs) []) fs) (append_assoc (spell_names ns) (w.Key t.In ∷ (spell s ++ w.Key t.Comma ∷ spell_over over)) rest)
             ∙ reads-names kind (groups_at h gs) ns [] fs ((spell s ++ w.Key t.Comma ∷ spell_over over) ++ rest)
             ∙ ap (read m.Want (f.IndexSet kind (groups_at h gs) (list_of_names ns) ∷ fs)) (append_assoc (spell s) (w.Key t.Comma ∷ spell_over over) rest)
-            ∙ reads s (f.IndexSet kind (groups_at h gs) (list_of_names ns) ∷ fs) (w.Key t.Comma ∷ (spell_over over ++ rest)) g.1 g.0 (closes-comma (spell_over over ++ rest) s)
+            ∙ reads s (f.IndexSet kind (groups_at h gs) (list_of_names ns) ∷ fs) (w.Key t.Comma ∷ (spell_over over ++ rest)) g.1 g.0 (closes-key t.Comma refl refl (spell_over over ++ rest) s)
             ∙ reads-comma kind h gs (list_of_names ns) s fs (spell_over over ++ rest) g.0
             ∙ r.reads_to;
         ends = more_ends kind r.top r.last h (height s + 1) (height_over over) gs (groups_of over) (group_of (list_of_names ns) s) (condition_of over) r.ends;
       }
 
-pub reads_list : (frame : Parts → Frame) → IsListFrame frame → (s : Syntax) (ss : Written) (fs : List Frame) (rest : List Word) → IsGrouped s × AreGrouped ss → Closes rest → WholeListRead frame (one_more s ss) fs rest
-reads_list frame is s ss fs rest g c =
-    let fits : level s ≤ room (frame o.no_parts) = subst (λ r. level s ≤ r) (sym (is.wide o.no_parts)) (level-9 s) in
-    whole-list frame s ss fs rest
-    (reads s (frame o.no_parts ∷ fs) (spell_rest ss ++ rest) g.0 fits (follows-rest s ss rest c))
-    (reads_rest frame is 0 [] s ss fs rest g.1 c)
+pub reads_list : (form : ListKind) (s : Syntax) (ss : Written) (fs : List Frame) (rest : List Word) → IsGrouped s × AreGrouped ss → Closes rest → WholeListRead m.Want form (one_more s ss) fs (spell s ++ (spell_rest ss ++ rest)) rest
+reads_list form s ss fs rest g c =
+    whole-list form s ss fs rest (reads s (f.Listed form o.no_parts ∷ fs) (spell_rest ss ++ rest) g.0 (level-9 s) (follows-rest s ss rest c)) (reads_rest form 0 [] s ss fs rest g.1 c)

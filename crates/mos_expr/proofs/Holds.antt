@@ -16,6 +16,8 @@ use Rattle.mos_expr.specs.declared.operand.Groups.{Groups}
 use Rattle.mos_expr.specs.declared.operand.WholeIndex.{WholeIndex}
 use Rattle.mos_expr.specs.declared.frame.IndexKind.{IndexKind}
 use Rattle.mos_expr.specs.declared.frame.IndexKind.TheVariants as i
+use Rattle.mos_expr.specs.declared.frame.ListKind.{ListKind}
+use Rattle.mos_expr.specs.declared.frame.ListKind.TheVariants as lk
 use Rattle.mos_expr.specs.declared.frame.Frame.{Frame}
 use Rattle.mos_expr.specs.declared.frame.Frame.TheVariants as f
 use Rattle.mos_expr.specs.declared.frame.Mode.{Mode}
@@ -158,6 +160,13 @@ pub record WholeParts (parts : Parts) : Type 0 where
 
 -- ---- the open frames
 
+-- the words that begin expressions with commas between them
+abbrev pub begin_list : ListKind → List Word → List Word
+begin_list (lk.Call n) ws = w.Name n ∷ w.Key t.OpenRound ∷ ws
+begin_list lk.Set ws = w.Key t.OpenCurly ∷ ws
+begin_list lk.List ws = w.Key t.OpenSquare ∷ ws
+begin_list lk.Bare ws = ws
+
 -- the words that begin an index
 abbrev pub begin_index : IndexKind → List Word → List Word
 begin_index (i.Aggregate op) ws = spell_aggregate op ∷ w.Key t.OpenRound ∷ ws
@@ -168,10 +177,7 @@ begin_index i.Loop ws = ws
 abbrev pub Holds : List Frame → List Word → List Word → Type 0
 Holds [] rest all = all ≡ rest
 Holds (f.Bracket ∷ fs) rest all = Holds fs (w.Key t.OpenRound ∷ rest) all
-Holds (f.Call n parts ∷ fs) rest all = (p : PartsBefore parts) × Holds fs (w.Name n ∷ w.Key t.OpenRound ∷ p.words rest) all
-Holds (f.Set parts ∷ fs) rest all = (p : PartsBefore parts) × Holds fs (w.Key t.OpenCurly ∷ p.words rest) all
-Holds (f.List parts ∷ fs) rest all = (p : PartsBefore parts) × Holds fs (w.Key t.OpenSquare ∷ p.words rest) all
-Holds (f.BareList parts ∷ fs) rest all = (p : PartsBefore parts) × Holds fs (p.words rest) all
+Holds (f.Listed list parts ∷ fs) rest all = (p : PartsBefore parts) × Holds fs (begin_list list (p.words rest)) all
 Holds (f.IfExpr ∷ fs) rest all = Holds fs (w.Key t.If ∷ w.Key t.OpenRound ∷ rest) all
 Holds (f.IfFirst a ∷ fs) rest all = (x : Whole a) × Holds fs (w.Key t.If ∷ w.Key t.OpenRound ∷ (spell x.syntax ++ w.Key t.Comma ∷ rest)) all
 Holds (f.IfSecond a b ∷ fs) rest all = (x : Whole a) × (y : Whole b) × Holds fs (w.Key t.If ∷ w.Key t.OpenRound ∷ (spell x.syntax ++ w.Key t.Comma ∷ (spell y.syntax ++ w.Key t.Comma ∷ rest))) all
@@ -184,9 +190,7 @@ Holds (f.Body op ready ∷ fs) rest all = (x : SpelledIndex ready) × Holds fs (
 
 -- a bracket that was just opened
 abbrev pub HoldsFirst : List Frame → List Word → List Word → Type 0
-HoldsFirst (f.Call n parts ∷ fs) rest all = (parts ≡ o.no_parts) × Holds fs (w.Name n ∷ w.Key t.OpenRound ∷ rest) all
-HoldsFirst (f.Set parts ∷ fs) rest all = (parts ≡ o.no_parts) × Holds fs (w.Key t.OpenCurly ∷ rest) all
-HoldsFirst (f.List parts ∷ fs) rest all = (parts ≡ o.no_parts) × Holds fs (w.Key t.OpenSquare ∷ rest) all
+HoldsFirst (f.Listed list parts ∷ fs) rest all = (parts ≡ o.no_parts) × Holds fs (begin_list list rest) all
 HoldsFirst _ rest all = ⊥
 
 -- the words that are left, and before them what the frames and the mode have read

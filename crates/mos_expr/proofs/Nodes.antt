@@ -1,19 +1,17 @@
 -- How many nodes a tree has, form by form.
 
-use Rattle.std.proofs.Common.{◌≡◌, ℕ, ℤ, ◌+◌, Bool, List, [], ◌∷◌, Option, Some, None, map, refl, sym, ◌∙◌, ap}
+use Rattle.std.proofs.Common.{◌≡◌, ℕ, ◌+◌, List, [], ◌∷◌, Option, Some, None, map, refl, sym, ◌∙◌, ap}
 use Rattle.std.specs.Prelude.{option_map}
 use Rattle.std.proofs.lemmas.List.Sums.{sum-map, sum_by-cons}
 use Rattle.mos_tree.specs.declared.expr.Expr.{Expr}
 use Rattle.mos_tree.specs.declared.expr.Expr.TheVariants as e
 use Rattle.mos_tree.specs.declared.expr.Expr.TheOpen as o
 use Rattle.mos_tree.specs.declared.expr.Expr.TheOpen.{Expr-F}
+use Rattle.mos_tree.specs.declared.expr.Expr.TheViews.{roll-Expr}
 use Rattle.mos_tree.specs.declared.expr.Expr.TheFolds.{fold-roll-Expr, map-Expr}
 use Rattle.mos_tree.specs.declared.expr.Group.{Group}
 use Rattle.mos_tree.specs.declared.expr.Index.{Index}
-use Rattle.mos_tree.specs.declared.expr.UnaryOperator.{UnaryOperator}
-use Rattle.mos_tree.specs.declared.expr.BinaryOperator.{BinaryOperator}
 use Rattle.mos_tree.specs.declared.expr.AggregateOperator.{AggregateOperator}
-use Rattle.mos_tree.specs.declared.expr.Conversion.{Conversion}
 use Rattle.mos_tree.specs.Children.{in_group}
 use Rattle.mos_tree.specs.Nodes.{nodes_step, nodes, nodes_in, nodes_in_groups, nodes_in_index, nodes_of_groups, nodes_of_condition, nodes_of_index}
 
@@ -31,49 +29,9 @@ nodes_of_more g gs = sum-map of_group (g ∷ gs) ∙ sum_by-cons of_group g gs �
 pub nodes_in_more_groups : (g : Group Expr) (gs : List (Group Expr)) → nodes_in_groups (g ∷ gs) ≡ (nodes g.set + 1) + nodes_in_groups gs
 nodes_in_more_groups g gs = nodes_of_more (in_group nodes g) (map (in_group nodes) gs)
 
--- ---- forms without an index
-
-pub nodes_of_returned : nodes e.Returned ≡ 1
-nodes_of_returned = ap nodes (sym e.rolls-Returned) ∙ fold-roll-Expr ℕ nodes_step o.Returned
-
-pub nodes_of_integer : (n : ℤ) → nodes (e.Integer n) ≡ 1
-nodes_of_integer n = ap nodes (sym (e.rolls-Integer n)) ∙ fold-roll-Expr ℕ nodes_step (o.Integer n)
-
-pub nodes_of_text : (x : List ℕ) → nodes (e.Text x) ≡ 1
-nodes_of_text x = ap nodes (sym (e.rolls-Text x)) ∙ fold-roll-Expr ℕ nodes_step (o.Text x)
-
-pub nodes_of_truth : (b : Bool) → nodes (e.Truth b) ≡ 1
-nodes_of_truth b = ap nodes (sym (e.rolls-Truth b)) ∙ fold-roll-Expr ℕ nodes_step (o.Truth b)
-
-pub nodes_of_name : (n : List ℕ) → nodes (e.Name n) ≡ 1
-nodes_of_name n = ap nodes (sym (e.rolls-Name n)) ∙ fold-roll-Expr ℕ nodes_step (o.Name n)
-
-pub nodes_of_field : (n f : List ℕ) → nodes (e.Field n f) ≡ 1
-nodes_of_field n f = ap nodes (sym (e.rolls-Field n f)) ∙ fold-roll-Expr ℕ nodes_step (o.Field n f)
-
-pub nodes_of_call : (n : List ℕ) (xs : List Expr) → nodes (e.Call n xs) ≡ nodes_in xs + 1
-nodes_of_call n xs = ap nodes (sym (e.rolls-Call n xs)) ∙ fold-roll-Expr ℕ nodes_step (o.Call n xs)
-
-pub nodes_of_call_field : (n : List ℕ) (xs : List Expr) (f : List ℕ) → nodes (e.CallField n xs f) ≡ nodes_in xs + 1
-nodes_of_call_field n xs f = ap nodes (sym (e.rolls-CallField n xs f)) ∙ fold-roll-Expr ℕ nodes_step (o.CallField n xs f)
-
-pub nodes_of_set : (xs : List Expr) → nodes (e.Set xs) ≡ nodes_in xs + 1
-nodes_of_set xs = ap nodes (sym (e.rolls-Set xs)) ∙ fold-roll-Expr ℕ nodes_step (o.Set xs)
-
-pub nodes_of_list : (xs : List Expr) → nodes (e.List xs) ≡ nodes_in xs + 1
-nodes_of_list xs = ap nodes (sym (e.rolls-List xs)) ∙ fold-roll-Expr ℕ nodes_step (o.List xs)
-
-pub nodes_of_if : (x y z : Expr) → nodes (e.If x y z) ≡ nodes x + nodes y + nodes z + 1
-nodes_of_if x y z = ap nodes (sym (e.rolls-If x y z)) ∙ fold-roll-Expr ℕ nodes_step (o.If x y z)
-
-pub nodes_of_convert : (c : Conversion) (x : Expr) → nodes (e.Convert c x) ≡ nodes x + 1
-nodes_of_convert c x = ap nodes (sym (e.rolls-Convert c x)) ∙ fold-roll-Expr ℕ nodes_step (o.Convert c x)
-
-pub nodes_of_before : (p : UnaryOperator) (x : Expr) → nodes (e.Unary p x) ≡ nodes x + 1
-nodes_of_before p x = ap nodes (sym (e.rolls-Unary p x)) ∙ fold-roll-Expr ℕ nodes_step (o.Unary p x)
-
-pub nodes_of_between : (p : BinaryOperator) (x y : Expr) → nodes (e.Binary p x y) ≡ nodes x + nodes y + 1
-nodes_of_between p x y = ap nodes (sym (e.rolls-Binary p x y)) ∙ fold-roll-Expr ℕ nodes_step (o.Binary p x y)
+-- the nodes of a form, from those of its parts
+pub layer : {x : Expr} (z : Expr-F Expr) → roll-Expr z ≡ x → nodes x ≡ nodes_step (map-Expr Expr ℕ nodes z)
+layer z e = ap nodes (sym e) ∙ fold-roll-Expr ℕ nodes_step z
 
 -- ---- forms with an index
 
@@ -117,9 +75,9 @@ index_is groups condition =
 pub nodes_of_aggregate : (p : AggregateOperator) (i : Index Expr) (x : Expr) → nodes (e.Aggregate p i x) ≡ nodes_in_index i + nodes x + 1
 unfolding index_of_layer counts
 nodes_of_aggregate p i x =
-    ap nodes (sym (e.rolls-Aggregate p i x)) ∙ fold-roll-Expr ℕ nodes_step (o.Aggregate p i x)
+    layer (o.Aggregate p i x) (e.rolls-Aggregate p i x)
     ∙ ap (λ z. z + nodes x + 1) (index_is i.groups i.condition)
 
 pub nodes_of_counted : (i : Index Expr) → nodes (e.Count i) ≡ nodes_in_index i + 1
 unfolding index_of_layer counts
-nodes_of_counted i = ap nodes (sym (e.rolls-Count i)) ∙ fold-roll-Expr ℕ nodes_step (o.Count i) ∙ ap (λ z. z + 1) (index_is i.groups i.condition)
+nodes_of_counted i = layer (o.Count i) (e.rolls-Count i) ∙ ap (λ z. z + 1) (index_is i.groups i.condition)

@@ -9,6 +9,8 @@ use Rattle.mos_scan.specs.declared.token.TokenKind.{TokenKind}
 use Rattle.mos_scan.specs.declared.token.TokenKind.TheVariants as t
 use Rattle.mos_scan.specs.declared.reading.Word.{Word}
 use Rattle.mos_scan.specs.declared.reading.Word.TheVariants as w
+use Rattle.mos_tree.specs.declared.expr.Expr.TheVariants as e
+use Rattle.mos_tree.specs.declared.expr.Expr.TheOpen as o
 use Rattle.mos_expr.proofs.Nodes as form
 use Rattle.mos_expr.specs.Grammar.{Leaf, number, text, truth, name, returned, field, Names, Syntax, leaf, call, call_field, set, list, bracket, if_expr, convert, before, between, aggregate, counted, Written, no_more, one_more, Over, last_set, such_that, another, spell_leaf, spell_between, spell_names, spell, spell_list, spell_rest, spell_over, tree_of_leaf, list_of_names, tree, trees, index_of, groups_of, condition_of}
 use Rattle.mos_expr.specs.Sizes.{ExpressionIsSmall, ExpressionsAreSmall, IndexIsSmall}
@@ -26,34 +28,18 @@ closed : (xs : List Word) (k : TokenKind) (a : ℕ) → a ≤ length xs → a + 
 closed xs k a h = joined xs (w.Key k ∷ []) a 1 h (omega arith)
 
 leaf_small : (x : Leaf) → nodes (tree_of_leaf x) ≤ length (spell_leaf x)
-leaf_small (number n) = within (nodes (tree_of_leaf (number n))) 1 1 1 (form.nodes_of_integer n) refl (omega arith)
-leaf_small (text x) = within (nodes (tree_of_leaf (text x))) 1 1 1 (form.nodes_of_text x) refl (omega arith)
-leaf_small (truth true) = within (nodes (tree_of_leaf (truth true))) 1 1 1 (form.nodes_of_truth true) refl (omega arith)
-leaf_small (truth false) = within (nodes (tree_of_leaf (truth false))) 1 1 1 (form.nodes_of_truth false) refl (omega arith)
-leaf_small (name n) = within (nodes (tree_of_leaf (name n))) 1 1 1 (form.nodes_of_name n) refl (omega arith)
-leaf_small returned = within (nodes (tree_of_leaf returned)) 1 1 1 form.nodes_of_returned refl (omega arith)
-leaf_small (field n f) = within (nodes (tree_of_leaf (field n f))) 1 3 3 (form.nodes_of_field n f) refl (omega arith)
+leaf_small (number n) = within (nodes (tree_of_leaf (number n))) 1 1 1 (form.layer (o.Integer n) (e.rolls-Integer n)) refl (omega arith)
+leaf_small (text x) = within (nodes (tree_of_leaf (text x))) 1 1 1 (form.layer (o.Text x) (e.rolls-Text x)) refl (omega arith)
+leaf_small (truth true) = within (nodes (tree_of_leaf (truth true))) 1 1 1 (form.layer (o.Truth true) (e.rolls-Truth true)) refl (omega arith)
+leaf_small (truth false) = within (nodes (tree_of_leaf (truth false))) 1 1 1 (form.layer (o.Truth false) (e.rolls-Truth false)) refl (omega arith)
+leaf_small (name n) = within (nodes (tree_of_leaf (name n))) 1 1 1 (form.layer (o.Name n) (e.rolls-Name n)) refl (omega arith)
+leaf_small returned = within (nodes (tree_of_leaf returned)) 1 1 1 (form.layer o.Returned e.rolls-Returned) refl (omega arith)
+leaf_small (field n f) = within (nodes (tree_of_leaf (field n f))) 1 3 3 (form.layer (o.Field n f) (e.rolls-Field n f)) refl (omega arith)
 
 -- an operator is one word, or two
 operator_word : (p : BinaryOperator) → 1 ≤ length (spell_between p)
-operator_word b.Times = omega arith
-operator_word b.Div = omega arith
-operator_word b.Mod = omega arith
-operator_word b.Inter = omega arith
-operator_word b.Plus = omega arith
-operator_word b.Minus = omega arith
-operator_word b.Union = omega arith
-operator_word b.Range = omega arith
-operator_word b.Equal = omega arith
-operator_word b.NotEqual = omega arith
-operator_word b.Less = omega arith
-operator_word b.AtMost = omega arith
-operator_word b.Greater = omega arith
-operator_word b.AtLeast = omega arith
-operator_word b.In = omega arith
-operator_word b.NotIn = omega arith
-operator_word b.And = omega arith
 operator_word b.Or = omega arith
+operator_word p = omega arith
 
 -- a set with the names before it
 named_set : (a : ℕ) (ns : Names) (xs : List Word) → a ≤ length xs → a + 1 ≤ length (spell_names ns ++ w.Key t.In ∷ xs)
@@ -64,16 +50,16 @@ mutual
   small (leaf x) = leaf_small x
   small (call n xs) =
       let h : nodes_in (trees xs) + 1 ≤ length (spell_list xs ++ w.Key t.CloseRound ∷ []) = closed (spell_list xs) t.CloseRound (nodes_in (trees xs)) (smalls xs) in
-      within (nodes (tree (call n xs))) (nodes_in (trees xs) + 1) (length (spell (call n xs))) (length (spell_list xs ++ w.Key t.CloseRound ∷ []) + 2) (form.nodes_of_call n (trees xs)) (omega arith) (omega (arith, h))
+      within (nodes (tree (call n xs))) (nodes_in (trees xs) + 1) (length (spell (call n xs))) (length (spell_list xs ++ w.Key t.CloseRound ∷ []) + 2) (form.layer (o.Call n (trees xs)) (e.rolls-Call n (trees xs))) (omega arith) (omega (arith, h))
   small (call_field n xs f) =
       let h : nodes_in (trees xs) + 3 ≤ length (spell_list xs ++ w.Key t.CloseRound ∷ w.Key t.Dot ∷ w.Name f ∷ []) = joined (spell_list xs) (w.Key t.CloseRound ∷ w.Key t.Dot ∷ w.Name f ∷ []) (nodes_in (trees xs)) 3 (smalls xs) (omega arith) in
-      within (nodes (tree (call_field n xs f))) (nodes_in (trees xs) + 1) (length (spell (call_field n xs f))) (length (spell_list xs ++ w.Key t.CloseRound ∷ w.Key t.Dot ∷ w.Name f ∷ []) + 2) (form.nodes_of_call_field n (trees xs) f) (omega arith) (omega (arith, h))
+      within (nodes (tree (call_field n xs f))) (nodes_in (trees xs) + 1) (length (spell (call_field n xs f))) (length (spell_list xs ++ w.Key t.CloseRound ∷ w.Key t.Dot ∷ w.Name f ∷ []) + 2) (form.layer (o.CallField n (trees xs) f) (e.rolls-CallField n (trees xs) f)) (omega arith) (omega (arith, h))
   small (set xs) =
       let h : nodes_in (trees xs) + 1 ≤ length (spell_list xs ++ w.Key t.CloseCurly ∷ []) = closed (spell_list xs) t.CloseCurly (nodes_in (trees xs)) (smalls xs) in
-      within (nodes (tree (set xs))) (nodes_in (trees xs) + 1) (length (spell (set xs))) (length (spell_list xs ++ w.Key t.CloseCurly ∷ []) + 1) (form.nodes_of_set (trees xs)) (omega arith) (omega (arith, h))
+      within (nodes (tree (set xs))) (nodes_in (trees xs) + 1) (length (spell (set xs))) (length (spell_list xs ++ w.Key t.CloseCurly ∷ []) + 1) (form.layer (o.Set (trees xs)) (e.rolls-Set (trees xs))) (omega arith) (omega (arith, h))
   small (list xs) =
       let h : nodes_in (trees xs) + 1 ≤ length (spell_list xs ++ w.Key t.CloseSquare ∷ []) = closed (spell_list xs) t.CloseSquare (nodes_in (trees xs)) (smalls xs) in
-      within (nodes (tree (list xs))) (nodes_in (trees xs) + 1) (length (spell (list xs))) (length (spell_list xs ++ w.Key t.CloseSquare ∷ []) + 1) (form.nodes_of_list (trees xs)) (omega arith) (omega (arith, h))
+      within (nodes (tree (list xs))) (nodes_in (trees xs) + 1) (length (spell (list xs))) (length (spell_list xs ++ w.Key t.CloseSquare ∷ []) + 1) (form.layer (o.List (trees xs)) (e.rolls-List (trees xs))) (omega arith) (omega (arith, h))
   small (bracket s) =
       let h : nodes (tree s) + 1 ≤ length (spell s ++ w.Key t.CloseRound ∷ []) = closed (spell s) t.CloseRound (nodes (tree s)) (small s) in
       within (nodes (tree (bracket s))) (nodes (tree s)) (length (spell (bracket s))) (length (spell s ++ w.Key t.CloseRound ∷ []) + 1) refl (omega arith) (omega (arith, h))
@@ -81,16 +67,16 @@ mutual
       let hz : nodes (tree z) + 1 ≤ length (spell z ++ w.Key t.CloseRound ∷ []) = closed (spell z) t.CloseRound (nodes (tree z)) (small z) in
       let hy : nodes (tree y) + (nodes (tree z) + 2) ≤ length (spell y ++ w.Key t.Comma ∷ (spell z ++ w.Key t.CloseRound ∷ [])) = joined (spell y) (w.Key t.Comma ∷ (spell z ++ w.Key t.CloseRound ∷ [])) (nodes (tree y)) (nodes (tree z) + 2) (small y) (omega (arith, hz)) in
       let hx : nodes (tree x) + (nodes (tree y) + (nodes (tree z) + 3)) ≤ length (spell x ++ w.Key t.Comma ∷ (spell y ++ w.Key t.Comma ∷ (spell z ++ w.Key t.CloseRound ∷ []))) = joined (spell x) (w.Key t.Comma ∷ (spell y ++ w.Key t.Comma ∷ (spell z ++ w.Key t.CloseRound ∷ []))) (nodes (tree x)) (nodes (tree y) + (nodes (tree z) + 3)) (small x) (omega (arith, hy)) in
-      within (nodes (tree (if_expr x y z))) (nodes (tree x) + nodes (tree y) + nodes (tree z) + 1) (length (spell (if_expr x y z))) (length (spell x ++ w.Key t.Comma ∷ (spell y ++ w.Key t.Comma ∷ (spell z ++ w.Key t.CloseRound ∷ []))) + 2) (form.nodes_of_if (tree x) (tree y) (tree z)) (omega arith) (omega (arith, hx))
+      within (nodes (tree (if_expr x y z))) (nodes (tree x) + nodes (tree y) + nodes (tree z) + 1) (length (spell (if_expr x y z))) (length (spell x ++ w.Key t.Comma ∷ (spell y ++ w.Key t.Comma ∷ (spell z ++ w.Key t.CloseRound ∷ []))) + 2) (form.layer (o.If (tree x) (tree y) (tree z)) (e.rolls-If (tree x) (tree y) (tree z))) (omega arith) (omega (arith, hx))
   small (convert c s) =
       let h : nodes (tree s) + 1 ≤ length (spell s ++ w.Key t.CloseRound ∷ []) = closed (spell s) t.CloseRound (nodes (tree s)) (small s) in
-      within (nodes (tree (convert c s))) (nodes (tree s) + 1) (length (spell (convert c s))) (length (spell s ++ w.Key t.CloseRound ∷ []) + 2) (form.nodes_of_convert c (tree s)) (omega arith) (omega (arith, h))
+      within (nodes (tree (convert c s))) (nodes (tree s) + 1) (length (spell (convert c s))) (length (spell s ++ w.Key t.CloseRound ∷ []) + 2) (form.layer (o.Convert c (tree s)) (e.rolls-Convert c (tree s))) (omega arith) (omega (arith, h))
   small (before p s) =
-      within (nodes (tree (before p s))) (nodes (tree s) + 1) (length (spell (before p s))) (length (spell s) + 1) (form.nodes_of_before p (tree s)) (omega arith) (omega (arith, small s))
+      within (nodes (tree (before p s))) (nodes (tree s) + 1) (length (spell (before p s))) (length (spell s) + 1) (form.layer (o.Unary p (tree s)) (e.rolls-Unary p (tree s))) (omega arith) (omega (arith, small s))
   small (between p x y) =
       let hy : 1 + nodes (tree y) ≤ length (spell_between p ++ spell y) = joined (spell_between p) (spell y) 1 (nodes (tree y)) (operator_word p) (small y) in
       let hx : nodes (tree x) + (1 + nodes (tree y)) ≤ length (spell x ++ (spell_between p ++ spell y)) = joined (spell x) (spell_between p ++ spell y) (nodes (tree x)) (1 + nodes (tree y)) (small x) hy in
-      within (nodes (tree (between p x y))) (nodes (tree x) + nodes (tree y) + 1) (length (spell (between p x y))) (length (spell x ++ (spell_between p ++ spell y))) (form.nodes_of_between p (tree x) (tree y)) refl (omega (arith, hx))
+      within (nodes (tree (between p x y))) (nodes (tree x) + nodes (tree y) + 1) (length (spell (between p x y))) (length (spell x ++ (spell_between p ++ spell y))) (form.layer (o.Binary p (tree x) (tree y)) (e.rolls-Binary p (tree x) (tree y))) refl (omega (arith, hx))
   small (aggregate p i s) =
       let h : nodes_in_index (index_of i) + (nodes (tree s) + 1) ≤ length (spell_over i ++ w.Key t.CloseRound ∷ spell s) = joined (spell_over i) (w.Key t.CloseRound ∷ spell s) (nodes_in_index (index_of i)) (nodes (tree s) + 1) (small_over i) (omega (arith, small s)) in
       within (nodes (tree (aggregate p i s))) (nodes_in_index (index_of i) + nodes (tree s) + 1) (length (spell (aggregate p i s))) (length (spell_over i ++ w.Key t.CloseRound ∷ spell s) + 2) (form.nodes_of_aggregate p (index_of i) (tree s)) (omega arith) (omega (arith, h))

@@ -10,9 +10,9 @@ use Rattle.mos_scan.specs.declared.token.TokenKind.{TokenKind}
 use Rattle.mos_scan.specs.declared.token.TokenKind.TheVariants as t
 use Rattle.mos_scan.specs.declared.reading.Word.{Word}
 use Rattle.mos_scan.specs.declared.reading.Word.TheVariants as w
-use Rattle.mos_expr.specs.Grammar.{Leaf, number, text, truth, name, returned, field, Names, one_name, Syntax, leaf, call, call_field, set, list, bracket, if_expr, convert, before, between, aggregate, counted, no_more, one_more, Over, last_set, such_that, level, level_before, level_body, binds, left_of, right_of, takes, trees, heights, height_over, index_of, IsGrouped, key, spell, spell_between, spell_aggregate, spell_conversion, spell_names, spell_list, spell_over, list_of_names}
-use Rattle.mos_expr.specs.Machine.{State, Settled, and_then, folds, room, settled, placed, at_frame, after_key, mode_behind, index_read, at_round, at_curly, at_square, at_comma, at_bar, close, infix_at, state_of}
-use Rattle.mos_expr.specs.Reader.{step, read, want, want_key, aggregate_key, want_first, first_key, want_open, open_index, want_in, want_name, after_name, dotted, dotted_call, after, named, called, at_end}
+use Rattle.mos_expr.specs.Grammar.{Leaf, number, text, truth, name, returned, field, Names, one_name, Syntax, leaf, call, call_field, set, list, bracket, if_expr, convert, before, between, aggregate, counted, Over, last_set, such_that, level, level_before, level_body, binds, left_of, right_of, takes, trees, heights, height_over, index_of, IsGrouped, key, spell, spell_between, spell_aggregate, spell_conversion, spell_names, spell_list, spell_over, list_of_names}
+use Rattle.mos_expr.specs.Machine.{State, Settled, and_then, folds, room, settled, placed, at_frame, after_key, mode_behind, index_read, at_round, list_closed, at_bracket, at_comma, at_bar, close, infix_at, state_of}
+use Rattle.mos_expr.specs.Reader.{step, read, want, want_key, aggregate_key, want_first, close_empty, first_key, want_open, open_index, want_in, want_name, after_name, dotted, dotted_call, after, named, called, at_end}
 use Rattle.mos_expr.specs.Operands as o
 use Rattle.mos_expr.specs.declared.operand.Operand.{Operand}
 use Rattle.mos_expr.specs.declared.operand.Parts.{Parts}
@@ -20,6 +20,8 @@ use Rattle.mos_expr.specs.declared.operand.Groups.{Groups}
 use Rattle.mos_expr.specs.declared.operand.WholeIndex.{WholeIndex}
 use Rattle.mos_expr.specs.declared.frame.IndexKind.{IndexKind}
 use Rattle.mos_expr.specs.declared.frame.IndexKind.TheVariants as i
+use Rattle.mos_expr.specs.declared.frame.ListKind.{ListKind}
+use Rattle.mos_expr.specs.declared.frame.ListKind.TheVariants as lk
 use Rattle.mos_expr.specs.declared.frame.Frame.{Frame}
 use Rattle.mos_expr.specs.declared.frame.Frame.TheVariants as f
 use Rattle.mos_expr.specs.declared.frame.Mode.{Mode}
@@ -27,7 +29,7 @@ use Rattle.mos_expr.specs.declared.frame.Mode.TheVariants as m
 use Rattle.mos_expr.proofs.Values.{on_bool, whole, bracketed-whole, convert-whole, if_expr-whole, before-whole, between-whole, aggregate-whole, counted-whole, call-whole, call_field-whole, set-whole, list-whole}
 use Rattle.mos_expr.proofs.Complete.{three-parts}
 use Rattle.mos_expr.proofs.Ending.{parts_done, parts_words, no_parts_done, set_done, set_before_condition, condition_done, set_words, condition_words}
-use Rattle.mos_expr.proofs.Holds.{Whole, PartsBefore, SetsBefore, SpelledIndex, WholeParts, no_parts_before, part_before, no_names_before, name_before, no_sets_before, set_before, begin_index, Holds, HoldsFirst, Stands, Good, GoodOperand}
+use Rattle.mos_expr.proofs.Holds.{Whole, SetsBefore, SpelledIndex, WholeParts, no_parts_before, part_before, no_names_before, name_before, no_sets_before, set_before, begin_list, begin_index, Holds, HoldsFirst, Stands, Good, GoodOperand}
 
 -- all words stand as they did, with what is left written otherwise
 moved : (fs : List Frame) (x y all : List Word) → x ≡ y → Holds fs x all → Holds fs y all
@@ -160,12 +162,26 @@ rounds_set kind groups sets ns fs s rest all l g h =
     index_reads kind (o.whole_index_of (o.groups_with groups (list_of_names ns) (whole s))) fs rest all (set_done groups sets ns s l g)
     (moved fs _ _ all (ap (begin_index kind) (ap sets.words (set_words ns s (w.Key t.CloseRound ∷ rest)) ∙ sym (sets.spelled (last_set ns s) (w.Key t.CloseRound ∷ rest)))) h)
 
+-- expressions behind their bracket
+lists : (k : TokenKind) (form : ListKind) (ps : Parts) (d : WholeParts ps) (fs : List Frame) (rest all : List Word) → Holds fs (begin_list form (spell_list d.written ++ w.Key k ∷ rest)) all → Good (state_of (list_closed k form ps) fs) rest all
+lists t.CloseRound (lk.Call n) ps d fs rest all h = (d, h)
+lists t.CloseCurly lk.Set ps d fs rest all h =
+    after_stands (set d.written) (o.set_of ps) fs rest all d.grouped (ap o.set_of d.is ∙ set-whole (heights d.written) (trees d.written)) (λ op. refl)
+    (moved fs _ _ all (ap (λ z. w.Key t.OpenCurly ∷ z) (sym (append_assoc (spell_list d.written) (key t.CloseCurly) rest))) h)
+lists t.CloseSquare lk.List ps d fs rest all h =
+    after_stands (list d.written) (o.list_of ps) fs rest all d.grouped (ap o.list_of d.is ∙ list-whole (heights d.written) (trees d.written)) (λ op. refl)
+    (moved fs _ _ all (ap (λ z. w.Key t.OpenSquare ∷ z) (sym (append_assoc (spell_list d.written) (key t.CloseSquare) rest))) h)
+lists k kind ps d fs rest all h = tt
+
+brackets : (k : TokenKind) (q : Frame) (fs : List Frame) (s : Syntax) (rest all : List Word) → IsGrouped s → Holds (q ∷ fs) (spell s ++ w.Key k ∷ rest) all → Good (at_bracket k q (whole s) fs) rest all
+brackets k (f.Listed form ps) fs s rest all g h =
+    lists k form (o.parts_with ps (whole s)) (parts_done ps h.0 s g) fs rest all (moved fs _ _ all (ap (begin_list form) (parts_words ps h.0 s (w.Key k ∷ rest))) h.1)
+brackets k q fs s rest all g h = tt
+
 rounds : (q : Frame) (fs : List Frame) (s : Syntax) (rest all : List Word) → IsGrouped s → Holds (q ∷ fs) (spell s ++ w.Key t.CloseRound ∷ rest) all → Good (at_round q (whole s) fs) rest all
 rounds f.Bracket fs s rest all g h =
     after_stands (bracket s) (o.bracketed (whole s)) fs rest all g (bracketed-whole s) (λ op. refl)
     (moved fs _ _ all (ap (λ z. w.Key t.OpenRound ∷ z) (sym (append_assoc (spell s) (key t.CloseRound) rest))) h)
-rounds (f.Call n ps) fs s rest all g h =
-    (parts_done ps h.0 s g, moved fs _ _ all (ap (λ z. w.Name n ∷ w.Key t.OpenRound ∷ z) (parts_words ps h.0 s (w.Key t.CloseRound ∷ rest))) h.1)
 rounds (f.IfSecond a c) fs s rest all g h =
     after_stands (if_expr h.0.syntax h.1.syntax s) (o.if_expr_of a c (whole s)) fs rest all (h.0.grouped, h.1.grouped, g)
     (ap (λ x. o.if_expr_of x c (whole s)) h.0.is ∙ ap (λ x. o.if_expr_of (whole h.0.syntax) x (whole s)) h.1.is ∙ if_expr-whole h.0.syntax h.1.syntax s) (λ op. refl)
@@ -180,31 +196,10 @@ rounds (f.IndexSet kind groups names) fs s rest all g h =
 rounds (f.IndexCondition kind groups) fs s rest all g h =
     index_reads kind (o.conditioned_index_of groups (whole s)) fs rest all (condition_done groups h.0 s g)
     (moved fs _ _ all (ap (begin_index kind) (ap h.0.sets.words (condition_words h.0.names h.0.syntax s (w.Key t.CloseRound ∷ rest)) ∙ sym (h.0.sets.spelled (such_that h.0.names h.0.syntax s) (w.Key t.CloseRound ∷ rest)))) h.1)
-rounds q fs s rest all g h = tt
-
--- parts in their brackets
-bracket_words : (k : TokenKind) (ps : Parts) (p : PartsBefore ps) (s : Syntax) (rest : List Word) → p.words (spell s ++ w.Key k ∷ rest) ≡ (spell_list (p.with_more (one_more s no_more)) ++ key k) ++ rest
-bracket_words k ps p s rest = parts_words ps p s (w.Key k ∷ rest) ∙ sym (append_assoc (spell_list (p.with_more (one_more s no_more))) (key k) rest)
-
-curlies : (q : Frame) (fs : List Frame) (s : Syntax) (rest all : List Word) → IsGrouped s → Holds (q ∷ fs) (spell s ++ w.Key t.CloseCurly ∷ rest) all → Good (state_of (at_curly q (whole s)) fs) rest all
-curlies (f.Set ps) fs s rest all g h =
-    let d : WholeParts (o.parts_with ps (whole s)) = parts_done ps h.0 s g in
-    after_stands (set d.written) (o.set_of (o.parts_with ps (whole s))) fs rest all d.grouped (ap o.set_of d.is ∙ set-whole (heights d.written) (trees d.written)) (λ op. refl)
-    (moved fs _ _ all (ap (λ z. w.Key t.OpenCurly ∷ z) (bracket_words t.CloseCurly ps h.0 s rest)) h.1)
-curlies q fs s rest all g h = tt
-
-squares : (q : Frame) (fs : List Frame) (s : Syntax) (rest all : List Word) → IsGrouped s → Holds (q ∷ fs) (spell s ++ w.Key t.CloseSquare ∷ rest) all → Good (state_of (at_square q (whole s)) fs) rest all
-squares (f.List ps) fs s rest all g h =
-    let d : WholeParts (o.parts_with ps (whole s)) = parts_done ps h.0 s g in
-    after_stands (list d.written) (o.list_of (o.parts_with ps (whole s))) fs rest all d.grouped (ap o.list_of d.is ∙ list-whole (heights d.written) (trees d.written)) (λ op. refl)
-    (moved fs _ _ all (ap (λ z. w.Key t.OpenSquare ∷ z) (bracket_words t.CloseSquare ps h.0 s rest)) h.1)
-squares q fs s rest all g h = tt
+rounds q fs s rest all g h = brackets t.CloseRound q fs s rest all g h
 
 commas : (q : Frame) (fs : List Frame) (s : Syntax) (rest all : List Word) → IsGrouped s → Holds (q ∷ fs) (spell s ++ w.Key t.Comma ∷ rest) all → Good (at_comma q (whole s) fs) rest all
-commas (f.Call n ps) fs s rest all g h = (part_before ps h.0 s g, h.1)
-commas (f.Set ps) fs s rest all g h = (part_before ps h.0 s g, h.1)
-commas (f.List ps) fs s rest all g h = (part_before ps h.0 s g, h.1)
-commas (f.BareList ps) fs s rest all g h = (part_before ps h.0 s g, h.1)
+commas (f.Listed form ps) fs s rest all g h = (part_before ps h.0 s g, h.1)
 commas f.IfExpr fs s rest all g h = (whole_of s (whole s) g refl, h)
 commas (f.IfFirst a) fs s rest all g h = (h.0, whole_of s (whole s) g refl, h.1)
 commas (f.IndexSet kind groups names) fs s rest all g h =
@@ -223,8 +218,8 @@ bars q fs s rest all g h = tt
 at_frames : (k : TokenKind) (fs : List Frame) (s : Syntax) (rest all : List Word) → IsGrouped s → Holds fs (spell s ++ w.Key k ∷ rest) all → Good (at_frame k (whole s) fs) rest all
 at_frames k [] s rest all g h = tt
 at_frames t.CloseRound (q ∷ fs) s rest all g h = rounds q fs s rest all g h
-at_frames t.CloseCurly (q ∷ fs) s rest all g h = curlies q fs s rest all g h
-at_frames t.CloseSquare (q ∷ fs) s rest all g h = squares q fs s rest all g h
+at_frames t.CloseCurly (q ∷ fs) s rest all g h = brackets t.CloseCurly q fs s rest all g h
+at_frames t.CloseSquare (q ∷ fs) s rest all g h = brackets t.CloseSquare q fs s rest all g h
 at_frames t.Comma (q ∷ fs) s rest all g h = commas q fs s rest all g h
 at_frames t.Bar (q ∷ fs) s rest all g h = bars q fs s rest all g h
 at_frames k (q ∷ fs) s rest all g h = tt
@@ -262,9 +257,7 @@ keys k fs s rest all g q h = closes k fs s rest all g h
 
 afters : (x : Operand) (word : Word) (fs : List Frame) (rest all : List Word) → Stands (m.After x) fs (word ∷ rest) all → Good (after x word fs) rest all
 afters x (w.Key k) fs rest all h = subst (λ y. Good (after_key k y fs) rest all) (sym h.0.is) (keys k fs h.0.syntax rest all h.0.grouped h.1 h.2)
-afters x (w.Name n) fs rest all h = tt
-afters x (w.Number n) fs rest all h = tt
-afters x (w.Text n) fs rest all h = tt
+afters x word fs rest all h = tt
 
 leaf_stands : (x : Leaf) (fs : List Frame) (rest all : List Word) → Holds fs (spell (leaf x) ++ rest) all → Stands (m.After (whole (leaf x))) fs rest all
 leaf_stands x fs rest all h = after_stands (leaf x) (whole (leaf x)) fs rest all tt refl (λ op. refl) h
@@ -273,9 +266,7 @@ nameds : (n : List ℕ) (word : Word) (fs : List Frame) (rest all : List Word) �
 nameds n (w.Key t.OpenRound) fs rest all h = (refl, h)
 nameds n (w.Key t.Dot) fs rest all h = h
 nameds n (w.Key k) fs rest all h = afters (o.leaf_of (e.Name n)) (w.Key k) fs rest all (leaf_stands (name n) fs (w.Key k ∷ rest) all h)
-nameds n (w.Name x) fs rest all h = tt
-nameds n (w.Number x) fs rest all h = tt
-nameds n (w.Text x) fs rest all h = tt
+nameds n word fs rest all h = tt
 
 call_stands : (n : List ℕ) (ps : Parts) (fs : List Frame) (rest all : List Word) → Stands (m.Called n ps) fs rest all → Stands (m.After (o.call_of n ps)) fs rest all
 call_stands n ps fs rest all h =
@@ -285,23 +276,17 @@ call_stands n ps fs rest all h =
 calleds : (n : List ℕ) (ps : Parts) (word : Word) (fs : List Frame) (rest all : List Word) → Stands (m.Called n ps) fs (word ∷ rest) all → Good (called n ps word fs) rest all
 calleds n ps (w.Key t.Dot) fs rest all h = h
 calleds n ps (w.Key k) fs rest all h = afters (o.call_of n ps) (w.Key k) fs rest all (call_stands n ps fs (w.Key k ∷ rest) all h)
-calleds n ps (w.Name x) fs rest all h = tt
-calleds n ps (w.Number x) fs rest all h = tt
-calleds n ps (w.Text x) fs rest all h = tt
+calleds n ps word fs rest all h = tt
 
 dotteds : (n : List ℕ) (word : Word) (fs : List Frame) (rest all : List Word) → Stands (m.Dotted n) fs (word ∷ rest) all → Good (dotted n word fs) rest all
 dotteds n (w.Name x) fs rest all h = leaf_stands (field n x) fs rest all h
-dotteds n (w.Key k) fs rest all h = tt
-dotteds n (w.Number x) fs rest all h = tt
-dotteds n (w.Text x) fs rest all h = tt
+dotteds n word fs rest all h = tt
 
 dotted_calls : (n : List ℕ) (ps : Parts) (word : Word) (fs : List Frame) (rest all : List Word) → Stands (m.DottedCall n ps) fs (word ∷ rest) all → Good (dotted_call n ps word fs) rest all
 dotted_calls n ps (w.Name x) fs rest all h =
     after_stands (call_field n h.0.written x) (o.call_field_of n ps x) fs rest all h.0.grouped (ap (λ q. o.call_field_of n q x) h.0.is ∙ call_field-whole n (heights h.0.written) (trees h.0.written) x) (λ op. refl)
     (moved fs _ _ all (ap (λ z. w.Name n ∷ w.Key t.OpenRound ∷ z) (sym (append_assoc (spell_list h.0.written) (w.Key t.CloseRound ∷ w.Key t.Dot ∷ w.Name x ∷ []) rest))) h.1)
-dotted_calls n ps (w.Key k) fs rest all h = tt
-dotted_calls n ps (w.Number x) fs rest all h = tt
-dotted_calls n ps (w.Text x) fs rest all h = tt
+dotted_calls n ps word fs rest all h = tt
 
 -- ---- a word where an operand is wanted
 
@@ -340,22 +325,19 @@ wants (w.Name n) fs rest all h = h
 wants (w.Key k) fs rest all h = want_keys k fs rest all h
 
 first_holds : (fs : List Frame) (rest all : List Word) → HoldsFirst fs rest all → Holds fs rest all
-first_holds (f.Call n ps ∷ fs) rest all h = subst (λ q. Holds (f.Call n q ∷ fs) rest all) (sym h.0) (no_parts_before, h.1)
-first_holds (f.Set ps ∷ fs) rest all h = subst (λ q. Holds (f.Set q ∷ fs) rest all) (sym h.0) (no_parts_before, h.1)
-first_holds (f.List ps ∷ fs) rest all h = subst (λ q. Holds (f.List q ∷ fs) rest all) (sym h.0) (no_parts_before, h.1)
+first_holds (f.Listed form ps ∷ fs) rest all h = subst (λ q. Holds (f.Listed form q ∷ fs) rest all) (sym h.0) (no_parts_before, h.1)
 first_holds [] rest all h = absurd h
 first_holds (q ∷ fs) rest all h = absurd h
 
+empties : (k : TokenKind) (fs : List Frame) (rest all : List Word) → HoldsFirst fs (w.Key k ∷ rest) all → Good (close_empty k fs) rest all
+empties k [] rest all h = tt
+empties k (f.Listed form ps ∷ fs) rest all h = subst (λ q. Good (state_of (list_closed k form q) fs) rest all) (sym h.0) (lists k form o.no_parts no_parts_done fs rest all h.1)
+empties k (q ∷ fs) rest all h = tt
+
 first_keys : (k : TokenKind) (fs : List Frame) (rest all : List Word) → HoldsFirst fs (w.Key k ∷ rest) all → Good (first_key k fs) rest all
-first_keys t.CloseRound [] rest all h = tt
-first_keys t.CloseRound (f.Call n ps ∷ fs) rest all h = subst (λ q. Stands (m.Called n q) fs rest all) (sym h.0) (no_parts_done, h.1)
-first_keys t.CloseRound (q ∷ fs) rest all h = tt
-first_keys t.CloseCurly [] rest all h = tt
-first_keys t.CloseCurly (f.Set ps ∷ fs) rest all h = subst (λ q. Stands (m.After (o.set_of q)) fs rest all) (sym h.0) (after_stands (set no_more) (o.set_of o.no_parts) fs rest all tt refl (λ op. refl) h.1)
-first_keys t.CloseCurly (q ∷ fs) rest all h = tt
-first_keys t.CloseSquare [] rest all h = tt
-first_keys t.CloseSquare (f.List ps ∷ fs) rest all h = subst (λ q. Stands (m.After (o.list_of q)) fs rest all) (sym h.0) (after_stands (list no_more) (o.list_of o.no_parts) fs rest all tt refl (λ op. refl) h.1)
-first_keys t.CloseSquare (q ∷ fs) rest all h = tt
+first_keys t.CloseRound fs rest all h = empties t.CloseRound fs rest all h
+first_keys t.CloseCurly fs rest all h = empties t.CloseCurly fs rest all h
+first_keys t.CloseSquare fs rest all h = empties t.CloseSquare fs rest all h
 first_keys k fs rest all h = want_keys k fs rest all (first_holds fs (w.Key k ∷ rest) all h)
 
 want_firsts : (word : Word) (fs : List Frame) (rest all : List Word) → HoldsFirst fs (word ∷ rest) all → Good (want_first word fs) rest all
@@ -368,39 +350,25 @@ want_firsts (w.Name n) fs rest all h = wants (w.Name n) fs rest all (first_holds
 
 want_opens : (word : Word) (fs : List Frame) (rest all : List Word) → Stands m.WantOpen fs (word ∷ rest) all → Good (want_open word fs) rest all
 want_opens (w.Key t.OpenRound) fs rest all h = h rest refl
-want_opens (w.Key k) fs rest all h = tt
-want_opens (w.Number n) fs rest all h = tt
-want_opens (w.Text x) fs rest all h = tt
-want_opens (w.Name n) fs rest all h = tt
+want_opens word fs rest all h = tt
 
 open_indexes : (kind : IndexKind) (word : Word) (fs : List Frame) (rest all : List Word) → Stands (m.WantIndex kind) fs (word ∷ rest) all → Good (open_index kind word fs) rest all
 open_indexes kind (w.Key t.OpenRound) fs rest all h = (no_sets_before, no_names_before, h rest refl)
-open_indexes kind (w.Key k) fs rest all h = tt
-open_indexes kind (w.Number n) fs rest all h = tt
-open_indexes kind (w.Text x) fs rest all h = tt
-open_indexes kind (w.Name n) fs rest all h = tt
+open_indexes kind word fs rest all h = tt
 
 want_ins : (word : Word) (fs : List Frame) (rest all : List Word) → Stands m.WantIn fs (word ∷ rest) all → Good (want_in word fs) rest all
 want_ins (w.Key t.In) fs rest all h = h rest refl
-want_ins (w.Key k) fs rest all h = tt
-want_ins (w.Number n) fs rest all h = tt
-want_ins (w.Text x) fs rest all h = tt
-want_ins (w.Name n) fs rest all h = tt
+want_ins word fs rest all h = tt
 
 want_names : (kind : IndexKind) (groups : Groups) (names : List (List ℕ)) (word : Word) (fs : List Frame) (rest all : List Word) → Stands (m.WantName kind groups names) fs (word ∷ rest) all → Good (want_name kind groups names word fs) rest all
 want_names kind groups names (w.Name n) fs rest all h = (h.0, names, h.1, n, refl, h.2)
-want_names kind groups names (w.Key k) fs rest all h = tt
-want_names kind groups names (w.Number n) fs rest all h = tt
-want_names kind groups names (w.Text x) fs rest all h = tt
+want_names kind groups names word fs rest all h = tt
 
 after_names : (kind : IndexKind) (groups : Groups) (names : List (List ℕ)) (word : Word) (fs : List Frame) (rest all : List Word) → Stands (m.AfterName kind groups names) fs (word ∷ rest) all → Good (after_name kind groups names word fs) rest all
 after_names kind groups names (w.Key t.Comma) fs rest all h = subst (λ l. Stands (m.WantName kind groups l) fs rest all) (sym h.4) (h.0, name_before h.1 h.2 h.3, h.5)
 after_names kind groups names (w.Key t.In) fs rest all h =
     (h.0, h.2.with_more (one_name h.3), h.4 ∙ sym (h.2.made (one_name h.3)), moved fs _ _ all (ap (λ z. begin_index kind (h.0.words z)) (sym (h.2.spelled (one_name h.3) (w.Key t.In ∷ rest)))) h.5)
-after_names kind groups names (w.Key k) fs rest all h = tt
-after_names kind groups names (w.Number n) fs rest all h = tt
-after_names kind groups names (w.Text x) fs rest all h = tt
-after_names kind groups names (w.Name n) fs rest all h = tt
+after_names kind groups names word fs rest all h = tt
 
 -- ---- all words
 

@@ -1,7 +1,7 @@
 -- What the reader does behind an operand, step by step.
 
 use Rattle.std.proofs.Common.{◌≡◌, ℕ, ◌≤◌, Bool, true, false, nat_le, ◌&&◌, ◌||◌, List, [], ◌∷◌, ◌++◌, Option, Some, None, refl, sym, ◌∙◌, ap, subst, arith}
-use Rattle.std.proofs.lemmas.Bool.{le-leb}
+use Rattle.std.proofs.lemmas.Bool.{le-leb, or_parts}
 use Rattle.mos_tree.specs.declared.expr.UnaryOperator.{UnaryOperator}
 use Rattle.mos_tree.specs.declared.expr.UnaryOperator.TheVariants as u
 use Rattle.mos_tree.specs.declared.expr.BinaryOperator.{BinaryOperator}
@@ -12,7 +12,7 @@ use Rattle.mos_scan.specs.declared.token.TokenKind.{TokenKind}
 use Rattle.mos_scan.specs.declared.token.TokenKind.TheVariants as t
 use Rattle.mos_scan.specs.declared.reading.Word.{Word}
 use Rattle.mos_scan.specs.declared.reading.Word.TheVariants as w
-use Rattle.mos_expr.specs.Grammar.{Syntax, leaf, call, call_field, set, list, bracket, if_expr, convert, before, between, aggregate, counted, Over, level, level_before, level_body, binds, left_of, right_of, takes, height_over, spell_between, index_of}
+use Rattle.mos_expr.specs.Grammar.{Syntax, before, between, aggregate, Over, level, level_before, level_body, binds, left_of, right_of, takes, height_over, spell_between, index_of}
 use Rattle.mos_expr.specs.Machine.{State, Settled, and_then, folds, room, fold, folded, stays, settled, placed, by_operator, at_frame, mode_behind, operator_of, after_key}
 use Rattle.mos_expr.specs.Reader.{step, read}
 use Rattle.mos_expr.specs.Operands as o
@@ -22,14 +22,6 @@ use Rattle.mos_expr.specs.declared.frame.Frame.{Frame}
 use Rattle.mos_expr.specs.declared.frame.Frame.TheVariants as f
 use Rattle.mos_expr.specs.declared.frame.Mode.TheVariants as m
 use Rattle.mos_expr.proofs.Values.{whole, index_at, before-whole, between-whole, aggregate-whole}
-
-pub or_left : (x y : Bool) → (x || y) ≡ false → x ≡ false
-or_left true y h = h
-or_left false y h = refl
-
-pub or_right : (x y : Bool) → (x || y) ≡ false → y ≡ false
-or_right true y h = cc
-or_right false y h = h
 
 -- ---- what may follow
 
@@ -51,9 +43,7 @@ Follows s (_ ∷ ws) = ⊥
 pub follows-part : (s part : Syntax) (rest : List Word) → ((op : BinaryOperator) → takes s op ≡ false → takes part op ≡ false) → Follows s rest → Follows part rest
 follows-part s part [] p h = tt
 follows-part s part (w.Key k ∷ ws) p h = (h.0, λ op e. p op (h.1 op e))
-follows-part s part (w.Name n ∷ ws) p h = h
-follows-part s part (w.Number n ∷ ws) p h = h
-follows-part s part (w.Text x ∷ ws) p h = h
+follows-part s part (word ∷ ws) p h = h
 
 -- the operator in hand is the one asked for
 same : (a : Syntax) (op : BinaryOperator) → takes a op ≡ false → (q : BinaryOperator) → Some op ≡ Some q → takes a q ≡ false
@@ -74,16 +64,7 @@ level-9 (before u.Not s) = omega arith
 level-9 (before u.Minus s) = omega arith
 level-9 (before u.Plus s) = omega arith
 level-9 (between op x y) = binds-9 op
-level-9 (leaf x) = omega arith
-level-9 (call n xs) = omega arith
-level-9 (call_field n xs f) = omega arith
-level-9 (set xs) = omega arith
-level-9 (list xs) = omega arith
-level-9 (bracket s) = omega arith
-level-9 (if_expr x y z) = omega arith
-level-9 (convert c s) = omega arith
-level-9 (aggregate g i s) = omega arith
-level-9 (counted i) = omega arith
+level-9 s = omega arith
 
 pub left-binds : (op : BinaryOperator) → left_of op ≤ binds op
 left-binds b.Or = omega arith
@@ -115,24 +96,20 @@ NotWithin g l [] = Unit {0}
 NotWithin g l (w.Key k ∷ ws) = (op : BinaryOperator) → operator_of k ≡ Some op → (nat_le (binds op) (room g) && nat_le l (left_of op)) ≡ false
 NotWithin g l (_ ∷ ws) = Unit {0}
 
-abbrev next_words : List Word → State → Settled
+abbrev pub next_words : List Word → State → Settled
 next_words ws z = and_then z (λ next. read next.0 next.1 ws)
 
 pub pops : (g : Frame) (x y : Operand) (fs : List Frame) (rest : List Word) → folds g ≡ true → fold g x ≡ Some y → NotWithin g x.level rest → read (m.After x) (g ∷ fs) rest ≡ read (m.After y) fs rest
 unfolding step after_key
 pops g x y fs [] f e n = settles g x y fs f e
 pops g x y fs (w.Key k ∷ ws) f e n = ap (next_words ws) (ends_at (operator_of k) k g x y fs f e n)
-pops g x y fs (w.Name v ∷ ws) f e n = refl
-pops g x y fs (w.Number v ∷ ws) f e n = refl
-pops g x y fs (w.Text v ∷ ws) f e n = refl
+pops g x y fs (word ∷ ws) f e n = refl
 
 -- an expression that takes what its right part takes, or what stays within the frame round that part
 not_within : (g : Frame) (s part : Syntax) (rest : List Word) → ((op : BinaryOperator) → takes s op ≡ ((nat_le (binds op) (room g) && nat_le (level part) (left_of op)) || takes part op)) → Follows s rest → NotWithin g (level part) rest
 not_within g s part [] t h = tt
-not_within g s part (w.Key k ∷ ws) t h = λ op e. or_left (nat_le (binds op) (room g) && nat_le (level part) (left_of op)) (takes part op) (sym (t op) ∙ h.1 op e)
-not_within g s part (w.Name v ∷ ws) t h = tt
-not_within g s part (w.Number v ∷ ws) t h = tt
-not_within g s part (w.Text v ∷ ws) t h = tt
+not_within g s part (w.Key k ∷ ws) t h = λ op e. (or_parts (nat_le (binds op) (room g) && nat_le (level part) (left_of op)) (takes part op) (sym (t op) ∙ h.1 op e)).0
+not_within g s part (word ∷ ws) t h = tt
 
 fold-tight : (g : Frame) (s : Syntax) (y : Operand) → level s ≤ room g → folded g (whole s) ≡ Some y → fold g (whole s) ≡ Some y
 fold-tight g s y l e = let t : nat_le (level s) (room g) ≡ true = le-leb (level s) (room g) l in rw (t, e) refl
@@ -187,9 +164,7 @@ name_at n k fs h = refl
 pub name-ends : (n : List ℕ) (s : Syntax) (fs : List Frame) (rest : List Word) → Follows s rest → read (m.Named n) fs rest ≡ read (m.After (o.leaf_of (e.Name n))) fs rest
 name-ends n s fs [] h = refl
 name-ends n s fs (w.Key k ∷ ws) h = ap (next_words ws) (name_at n k fs h.0)
-name-ends n s fs (w.Name v ∷ ws) h = absurd h
-name-ends n s fs (w.Number v ∷ ws) h = absurd h
-name-ends n s fs (w.Text v ∷ ws) h = absurd h
+name-ends n s fs (word ∷ ws) h = absurd h
 
 call_at : (n : List ℕ) (ps : Parts) (k : TokenKind) (fs : List Frame) → goes_on k ≡ false → step (m.Called n ps) (w.Key k) fs ≡ step (m.After (o.call_of n ps)) (w.Key k) fs
 unfolding step
@@ -199,6 +174,4 @@ call_at n ps k fs h = refl
 pub call-ends : (n : List ℕ) (ps : Parts) (s : Syntax) (fs : List Frame) (rest : List Word) → Follows s rest → read (m.Called n ps) fs rest ≡ read (m.After (o.call_of n ps)) fs rest
 call-ends n ps s fs [] h = refl
 call-ends n ps s fs (w.Key k ∷ ws) h = ap (next_words ws) (call_at n ps k fs h.0)
-call-ends n ps s fs (w.Name v ∷ ws) h = absurd h
-call-ends n ps s fs (w.Number v ∷ ws) h = absurd h
-call-ends n ps s fs (w.Text v ∷ ws) h = absurd h
+call-ends n ps s fs (word ∷ ws) h = absurd h

@@ -77,25 +77,23 @@ one_at f h x = by_height h
     (λ less. ap (o.map1 f) (low h x less) ∙ sym (low h (f x) less))
     (λ more. ap (o.map1 f) (high h x more) ∙ sym (high h (f x) more))
 
-two_low : {A B C : Type 0} (f : A → B → C) (a b : ℕ) (x : A) (y : B) → a ≤ 500 → o.map1 (f x) (tree_at b y) ≡ tree_at (max a b) (f x y)
-two_low f a b x y small = by_height b
-    (λ less. ap (o.map1 (f x)) (low b y less) ∙ sym (low (max a b) (f x y) (omega arith)))
-    (λ more. ap (o.map1 (f x)) (high b y more) ∙ sym (high (max a b) (f x y) (omega arith)))
+both_low : {A B : Type 0} (a b : ℕ) (x : A) (y : B) → a ≤ 500 → o.both (Some x) (tree_at b y) ≡ tree_at (max a b) (x, y)
+both_low a b x y small = by_height b
+    (λ less. ap (o.both (Some x)) (low b y less) ∙ sym (low (max a b) (x, y) (omega arith)))
+    (λ more. ap (o.both (Some x)) (high b y more) ∙ sym (high (max a b) (x, y) (omega arith)))
+
+both_at : {A B : Type 0} (a b : ℕ) (x : A) (y : B) → o.both (tree_at a x) (tree_at b y) ≡ tree_at (max a b) (x, y)
+both_at a b x y = by_height a
+    (λ less. ap (λ z. o.both z (tree_at b y)) (low a x less) ∙ both_low a b x y less)
+    (λ more. ap (λ z. o.both z (tree_at b y)) (high a x more) ∙ sym (high (max a b) (x, y) (omega arith)))
 
 pub two_at : {A B C : Type 0} (f : A → B → C) (a b : ℕ) (x : A) (y : B) → o.map2 f (tree_at a x) (tree_at b y) ≡ tree_at (max a b) (f x y)
-two_at f a b x y = by_height a
-    (λ less. ap (λ z. o.map2 f z (tree_at b y)) (low a x less) ∙ two_low f a b x y less)
-    (λ more. ap (λ z. o.map2 f z (tree_at b y)) (high a x more) ∙ sym (high (max a b) (f x y) (omega arith)))
-
-same_at : {A : Type 0} (a b : ℕ) (x : A) → a ≤ 500 → tree_at b x ≡ tree_at (max a b) x
-same_at a b x small = by_height b
-    (λ less. low b x less ∙ sym (low (max a b) x (omega arith)))
-    (λ more. high b x more ∙ sym (high (max a b) x (omega arith)))
+two_at f a b x y = ap (o.map1 (λ p. f p.0 p.1)) (both_at a b x y) ∙ one_at (λ p. f p.0 p.1) (max a b) (x, y)
 
 pub three_at : {A B C D : Type 0} (f : A → B → C → D) (a b c : ℕ) (x : A) (y : B) (z : C) → o.map3 f (tree_at a x) (tree_at b y) (tree_at c z) ≡ tree_at (max a (max b c)) (f x y z)
-three_at f a b c x y z = by_height a
-    (λ less. ap (λ w. o.map3 f w (tree_at b y) (tree_at c z)) (low a x less) ∙ two_at (f x) b c y z ∙ same_at a (max b c) (f x y z) less)
-    (λ more. ap (λ w. o.map3 f w (tree_at b y) (tree_at c z)) (high a x more) ∙ sym (high (max a (max b c)) (f x y z) (omega arith)))
+three_at f a b c x y z =
+    ap (o.map1 (λ p. f p.0 p.1.0 p.1.1)) (ap (o.both (tree_at a x)) (both_at b c y z) ∙ both_at a (max b c) x (y, z))
+    ∙ one_at (λ p. f p.0 p.1.0 p.1.1) (max a (max b c)) (x, (y, z))
 
 -- a node over a part of this height
 pub kept_at : (h : ℕ) (x : Expr) → o.kept (o.higher (capped h)) (tree_at h x) ≡ tree_at (h + 1) x

@@ -21,10 +21,11 @@ use Rattle.mos_expr.specs.declared.operand.Parts.{Parts}
 use Rattle.mos_expr.specs.declared.operand.Groups.{Groups}
 use Rattle.mos_expr.specs.declared.operand.WholeIndex.{WholeIndex}
 use Rattle.mos_expr.specs.declared.frame.IndexKind.TheVariants as i
+use Rattle.mos_expr.specs.declared.frame.ListKind.TheVariants as lk
 use Rattle.mos_expr.specs.declared.frame.Frame.TheVariants as f
 use Rattle.mos_expr.specs.declared.frame.Mode.TheVariants as m
 use Rattle.mos_expr.proofs.Values.{on_bool, whole, parts_at, index_at, tree_at, low, high, by_height}
-use Rattle.mos_expr.proofs.Complete.{reads, Begins, begins, reads_list, reads_over, IndexRead, WholeListRead, bare_list_frame, in_bare_list, closes-end}
+use Rattle.mos_expr.proofs.Complete.{reads, Begins, begins, reads_list, reads_over, IndexRead, WholeListRead, closes-end}
 use Rattle.mos_expr.proofs.Holds.{Whole, SetsBefore, LastSet, WholeParts, SpelledIndex, GoodOperand, no_parts_before, no_sets_before, no_names_before}
 use Rattle.mos_expr.proofs.Ending.{parts_done, parts_words, set_done, set_words, condition_done, condition_words}
 use Rattle.mos_expr.proofs.Sound.{reads_good}
@@ -89,11 +90,6 @@ module _ {S T : Type 0} (Grouped : S → Type 0) (words_of : S → List Word) (t
       let p : r ≡ err_of T x.Deep = same ∙ ap made_or_deep (high (height_of s) (tree_of s) more) in
       subst (Says (Spelled Grouped words_of tree_of height_of words)) (sym p) (says_deep words s g e more (λ t h k. sym p ∙ only t h k)))
 
--- want of memory says nothing
-pub says_want : {T : Type 0} (Is : T → ℕ → Type 0) → Says Is (err_of T x.NoMemory)
-unfolding Says
-says_want Is = tt
-
 -- ---- an expression
 
 operand_good : (words : List Word) → (st : Settled) → GoodOperand st [] words → (y : Operand) → and_then st (λ z. alone z.0 z.1) ≡ Some y → (a : Whole y) × (words ≡ spell a.syntax)
@@ -128,11 +124,14 @@ ends_listed st = and_then st (λ z. and_then (only_frame z.1) (λ g. last_of_lis
 parts_good : (words : List Word) (st : Settled) → GoodOperand st [] words → (ps : Parts) → ends_listed st ≡ Some ps → (a : WholeParts ps) × (words ≡ spell_list a.written)
 parts_good words None h ps e = cc
 parts_good words (Some (v, [])) h ps e = cc
-parts_good words (Some (v, f.BareList q ∷ [])) h ps e =
+parts_good words (Some (v, f.Listed lk.Bare q ∷ [])) h ps e =
     let p : o.parts_with q v ≡ ps = cc in
     let d : WholeParts (o.parts_with q (whole h.0.syntax)) = parts_done q h.1.0 h.0.syntax h.0.grouped in
     subst (λ z. (a : WholeParts z) × (words ≡ spell_list a.written)) (sym (ap (o.parts_with q) h.0.is) ∙ p)
     (d, h.1.1 ∙ parts_words q h.1.0 h.0.syntax [] ∙ append-nil (spell_list d.written))
+parts_good words (Some (v, f.Listed (lk.Call n) q ∷ [])) h ps e = cc
+parts_good words (Some (v, f.Listed lk.Set q ∷ [])) h ps e = cc
+parts_good words (Some (v, f.Listed lk.List q ∷ [])) h ps e = cc
 parts_good words (Some (v, q ∷ [])) h ps e = cc
 parts_good words (Some (v, q ∷ r ∷ fs)) h ps e = cc
 
@@ -140,7 +139,7 @@ parts_are_whole : (words : List Word) (ps : Parts) → parts_of words ≡ Some p
 parts_are_whole [] ps e =
     let p : o.no_parts ≡ ps = cc in
     subst (λ z. (a : WholeParts z) × ([] ≡ spell_list a.written)) p (record { written = no_more; grouped = tt; is = refl }, refl)
-parts_are_whole (word ∷ words) ps e = parts_good (word ∷ words) (read m.Want (f.BareList o.no_parts ∷ []) (word ∷ words)) (reads_good (word ∷ words) m.Want (f.BareList o.no_parts ∷ []) (word ∷ words) (no_parts_before, refl)) ps e
+parts_are_whole (word ∷ words) ps e = parts_good (word ∷ words) (read m.Want (f.Listed lk.Bare o.no_parts ∷ []) (word ∷ words)) (reads_good (word ∷ words) m.Want (f.Listed lk.Bare o.no_parts ∷ []) (word ∷ words) (no_parts_before, refl)) ps e
 
 parts_some : (words : List Word) (word : Word) (rest : List Word) → words ≡ word ∷ rest → parts_of words ≡ some_parts_of words
 parts_some words word rest e = ap parts_of e ∙ sym (ap some_parts_of e)
@@ -149,9 +148,9 @@ parts_read : (words : List Word) (ss : Written) → AreSpelled words ss → part
 parts_read words no_more k = ap parts_of k.exact
 parts_read words (one_more s ss) k =
     let b : Begins s = begins s in
-    let r : WholeListRead bare_list_frame (one_more s ss) [] [] = reads_list bare_list_frame in_bare_list s ss [] [] k.grouped closes-end in
+    let r : WholeListRead m.Want lk.Bare (one_more s ss) [] (spell s ++ (spell_rest ss ++ [])) [] = reads_list lk.Bare s ss [] [] k.grouped closes-end in
     parts_some words b.word (b.words ++ spell_rest ss) (k.exact ∙ ap (λ z. z ++ spell_rest ss) b.spelled)
-    ∙ ap ends_listed (ap (read m.Want (f.BareList o.no_parts ∷ [])) (k.exact ∙ sym (append-nil (spell_list (one_more s ss)))) ∙ r.reads_to)
+    ∙ ap ends_listed (ap (read m.Want (f.Listed lk.Bare o.no_parts ∷ [])) (k.exact ∙ ap (λ z. spell s ++ z) (sym (append-nil (spell_rest ss)))) ∙ r.reads_to)
     ∙ ap (λ z. Some z) r.all
 
 pub says_expressions : (words : List Word) (q : Option Parts) (r : Result (List Expr) ExprFault) → parts_of words ≡ q → r ≡ outcome_of_parts q → Says (AreExpressions words) r

@@ -1,7 +1,7 @@
 -- Expressions as they are written: which ones there are, how they are grouped, how they are spelled, how high they are,
 -- and what tree each one has.
 
-use Rattle.std.specs.Prelude.{◌≡◌, ℕ, ℤ, ◌+◌, ◌≤◌, max, Bool, true, false, ◌&&◌, ◌||◌, nat_le, List, [], ◌∷◌, ◌++◌, Option, Some, None}
+use Rattle.std.specs.Prelude.{◌≡◌, ℕ, ℤ, ◌+◌, ◌-◌, ◌≤◌, max, Bool, true, false, ◌&&◌, ◌||◌, if◌then◌else◌, ◌==◌, nat_le, List, [], ◌∷◌, ◌++◌, Option, Some, None}
 use Rattle.mos_tree.specs.declared.expr.Expr.{Expr}
 use Rattle.mos_tree.specs.declared.expr.Expr.TheVariants as e
 use Rattle.mos_tree.specs.declared.expr.Group.{Group}
@@ -64,7 +64,7 @@ mutual
 
 -- ---- levels: the smaller binds tighter
 
--- the level of an operator
+-- the level of an operator; all others are relations
 abbrev pub binds : BinaryOperator → ℕ
 binds b.Times = 3
 binds b.Div = 3
@@ -74,58 +74,21 @@ binds b.Plus = 4
 binds b.Minus = 4
 binds b.Union = 4
 binds b.Range = 5
-binds b.Equal = 6
-binds b.NotEqual = 6
-binds b.Less = 6
-binds b.AtMost = 6
-binds b.Greater = 6
-binds b.AtLeast = 6
-binds b.In = 6
-binds b.NotIn = 6
 binds b.And = 8
 binds b.Or = 9
+binds _ = 6
 
--- the loosest left operand: of its own level where operators group to the left, tighter where there is at most one
+-- the levels at which at most one operator stands: ranges and relations
+abbrev pub is_single : ℕ → Bool
+is_single n = n == 5 || n == 6
+
+-- the loosest left operand: of its own level, since operators group to the left, or tighter where there is at most one
 abbrev pub left_of : BinaryOperator → ℕ
-left_of b.Times = 3
-left_of b.Div = 3
-left_of b.Mod = 3
-left_of b.Inter = 3
-left_of b.Plus = 4
-left_of b.Minus = 4
-left_of b.Union = 4
-left_of b.Range = 4
-left_of b.Equal = 5
-left_of b.NotEqual = 5
-left_of b.Less = 5
-left_of b.AtMost = 5
-left_of b.Greater = 5
-left_of b.AtLeast = 5
-left_of b.In = 5
-left_of b.NotIn = 5
-left_of b.And = 8
-left_of b.Or = 9
+left_of op = if is_single (binds op) then binds op - 1 else binds op
 
 -- the loosest right operand
 abbrev pub right_of : BinaryOperator → ℕ
-right_of b.Times = 2
-right_of b.Div = 2
-right_of b.Mod = 2
-right_of b.Inter = 2
-right_of b.Plus = 3
-right_of b.Minus = 3
-right_of b.Union = 3
-right_of b.Range = 4
-right_of b.Equal = 5
-right_of b.NotEqual = 5
-right_of b.Less = 5
-right_of b.AtMost = 5
-right_of b.Greater = 5
-right_of b.AtLeast = 5
-right_of b.In = 5
-right_of b.NotIn = 5
-right_of b.And = 7
-right_of b.Or = 8
+right_of op = binds op - 1
 
 -- the level of a prefix operator, and of the loosest operand that it takes
 abbrev pub level_before : UnaryOperator → ℕ
@@ -135,44 +98,23 @@ level_before u.Not = 7
 
 -- the loosest body of an aggregate
 abbrev pub level_body : AggregateOperator → ℕ
-level_body g.Sum = 3
-level_body g.Prod = 3
-level_body g.Min = 3
-level_body g.Max = 3
-level_body g.Union = 3
 level_body g.And = 6
 level_body g.Or = 6
+level_body _ = 3
 
 -- the level of an expression; all that is not an operator with its operands binds tightest
 abbrev pub level : Syntax → ℕ
 level (before op s) = level_before op
 level (between op s x) = binds op
-level (leaf x) = 1
-level (call n xs) = 1
-level (call_field n xs f) = 1
-level (set xs) = 1
-level (list xs) = 1
-level (bracket s) = 1
-level (if_expr x y z) = 1
-level (convert c s) = 1
-level (aggregate g i s) = 1
-level (counted i) = 1
+level _ = 1
 
 -- whether what stands at the right end would take the operator that comes next: an operand or a body takes all that it can
 abbrev mutual
   pub takes : Syntax → BinaryOperator → Bool
-  takes (leaf x) op = false
-  takes (call n xs) op = false
-  takes (call_field n xs f) op = false
-  takes (set xs) op = false
-  takes (list xs) op = false
-  takes (bracket s) op = false
-  takes (if_expr s x y) op = false
-  takes (convert c s) op = false
   takes (before p s) op = (nat_le (binds op) (level_before p) && nat_le (level s) (left_of op)) || takes s op
   takes (between o a s) op = (nat_le (binds op) (right_of o) && nat_le (level s) (left_of op)) || takes s op
   takes (aggregate g i s) op = (nat_le (binds op) (level_body g) && nat_le (level s) (left_of op)) || takes s op
-  takes (counted i) op = false
+  takes _ op = false
 
 -- each operand is tight enough, and none leaves an operator that it would take
 abbrev mutual

@@ -9,10 +9,13 @@ use Rattle.mos_scan.specs.declared.token.TokenKind.TheVariants as t
 use Rattle.mos_expr.specs.Grammar.{binds, left_of, right_of, level_before, level_body}
 use Rattle.mos_expr.specs.Operands as o
 use Rattle.mos_expr.specs.declared.operand.Operand.{Operand}
+use Rattle.mos_expr.specs.declared.operand.Parts.{Parts}
 use Rattle.mos_expr.specs.declared.operand.Groups.{Groups}
 use Rattle.mos_expr.specs.declared.operand.WholeIndex.{WholeIndex}
 use Rattle.mos_expr.specs.declared.frame.IndexKind.{IndexKind}
 use Rattle.mos_expr.specs.declared.frame.IndexKind.TheVariants as i
+use Rattle.mos_expr.specs.declared.frame.ListKind.{ListKind}
+use Rattle.mos_expr.specs.declared.frame.ListKind.TheVariants as lk
 use Rattle.mos_expr.specs.declared.frame.Frame.{Frame}
 use Rattle.mos_expr.specs.declared.frame.Frame.TheVariants as f
 use Rattle.mos_expr.specs.declared.frame.Mode.{Mode}
@@ -125,48 +128,53 @@ index_read (i.Aggregate op) ready fs = want_with (f.Body op ready) fs
 index_read i.Count ready fs = Some (m.After (o.counted_of ready), fs)
 index_read i.Loop ready fs = None
 
--- a set of an index is of level 5
-abbrev pub if_set : {A : Type 0} → Operand → Option A → Option A
-if_set x next = if nat_le x.level 5 then next else None
-
 -- the last set of an index, at the closing bracket
 abbrev pub set_at_round : IndexKind → Groups → List (List ℕ) → Operand → List Frame → State
-set_at_round kind groups names x fs = if_set x (index_read kind (o.whole_index_of (o.groups_with groups names x)) fs)
+set_at_round kind groups names x fs = and_then (o.set_read groups names x) (λ gs. index_read kind (o.whole_index_of gs) fs)
 
 -- the last set of an index, at the bar before its condition
 abbrev pub set_at_bar : IndexKind → Groups → List (List ℕ) → Operand → List Frame → State
-set_at_bar kind groups names x fs = if_set x (want_with (f.IndexCondition kind (o.groups_with groups names x)) fs)
+set_at_bar kind groups names x fs = and_then (o.set_read groups names x) (λ gs. want_with (f.IndexCondition kind gs) fs)
 
 -- a set of an index, at the comma before more names
 abbrev pub set_at_comma : IndexKind → Groups → List (List ℕ) → Operand → List Frame → State
-set_at_comma kind groups names x fs = if_set x (Some (m.WantName kind (o.groups_with groups names x) [], fs))
+set_at_comma kind groups names x fs = and_then (o.set_read groups names x) (λ gs. Some (m.WantName kind gs [], fs))
+
+-- the bracket closes such expressions
+abbrev pub closes : TokenKind → ListKind → Bool
+closes t.CloseRound (lk.Call n) = true
+closes t.CloseCurly lk.Set = true
+closes t.CloseSquare lk.List = true
+closes _ _ = false
+
+-- what expressions are, behind their bracket
+abbrev pub closed_list : ListKind → Parts → Option Mode
+closed_list (lk.Call n) ps = Some (m.Called n ps)
+closed_list lk.Set ps = Some (m.After (o.set_of ps))
+closed_list lk.List ps = Some (m.After (o.list_of ps))
+closed_list lk.Bare ps = None
+
+-- the bracket behind all of the expressions
+abbrev pub list_closed : TokenKind → ListKind → Parts → Option Mode
+list_closed k list ps = if closes k list then closed_list list ps else None
+
+-- a closing bracket behind the last of some expressions
+abbrev pub at_bracket : TokenKind → Frame → Operand → List Frame → State
+at_bracket k (f.Listed list ps) x fs = state_of (list_closed k list (o.parts_with ps x)) fs
+at_bracket k _ x fs = None
 
 -- at a closing round bracket
 abbrev pub at_round : Frame → Operand → List Frame → State
 at_round f.Bracket x fs = Some (m.After (o.bracketed x), fs)
-at_round (f.Call n ps) x fs = Some (m.Called n (o.parts_with ps x), fs)
 at_round (f.IfSecond p q) x fs = Some (m.After (o.if_expr_of p q x), fs)
 at_round (f.Convert to) x fs = Some (m.After (o.convert_of to x), fs)
 at_round (f.IndexSet kind groups names) x fs = set_at_round kind groups names x fs
 at_round (f.IndexCondition kind groups) x fs = index_read kind (o.conditioned_index_of groups x) fs
-at_round _ x fs = None
-
--- at a closing curly bracket
-abbrev pub at_curly : Frame → Operand → Option Mode
-at_curly (f.Set ps) x = Some (m.After (o.set_of (o.parts_with ps x)))
-at_curly _ x = None
-
--- at a closing square bracket
-abbrev pub at_square : Frame → Operand → Option Mode
-at_square (f.List ps) x = Some (m.After (o.list_of (o.parts_with ps x)))
-at_square _ x = None
+at_round g x fs = at_bracket t.CloseRound g x fs
 
 -- at a comma
 abbrev pub at_comma : Frame → Operand → List Frame → State
-at_comma (f.Call n ps) x fs = want_with (f.Call n (o.parts_with ps x)) fs
-at_comma (f.Set ps) x fs = want_with (f.Set (o.parts_with ps x)) fs
-at_comma (f.List ps) x fs = want_with (f.List (o.parts_with ps x)) fs
-at_comma (f.BareList ps) x fs = want_with (f.BareList (o.parts_with ps x)) fs
+at_comma (f.Listed list ps) x fs = want_with (f.Listed list (o.parts_with ps x)) fs
 at_comma f.IfExpr x fs = want_with (f.IfFirst x) fs
 at_comma (f.IfFirst p) x fs = want_with (f.IfSecond p x) fs
 at_comma (f.IndexSet kind groups names) x fs = set_at_comma kind groups names x fs
@@ -181,8 +189,8 @@ at_bar _ x fs = None
 abbrev pub at_frame : TokenKind → Operand → List Frame → State
 at_frame k x [] = None
 at_frame t.CloseRound x (g ∷ fs) = at_round g x fs
-at_frame t.CloseCurly x (g ∷ fs) = state_of (at_curly g x) fs
-at_frame t.CloseSquare x (g ∷ fs) = state_of (at_square g x) fs
+at_frame t.CloseCurly x (g ∷ fs) = at_bracket t.CloseCurly g x fs
+at_frame t.CloseSquare x (g ∷ fs) = at_bracket t.CloseSquare g x fs
 at_frame t.Comma x (g ∷ fs) = at_comma g x fs
 at_frame t.Bar x (g ∷ fs) = at_bar g x fs
 at_frame _ x (g ∷ fs) = None

@@ -21,15 +21,18 @@ abbrev pub map1 : {A B : Type 0} → (A → B) → Option A → Option B
 map1 f None = None
 map1 f (Some x) = Some (f x)
 
--- the same of two parts
-abbrev pub map2 : {A B C : Type 0} → (A → B → C) → Option A → Option B → Option C
-map2 f None y = None
-map2 f (Some x) y = map1 (f x) y
+-- two parts, where both are there
+abbrev pub both : {A B : Type 0} → Option A → Option B → Option (A × B)
+both None y = None
+both (Some x) y = map1 (λ y. (x, y)) y
 
--- the same of three parts
+-- what is made of two parts
+abbrev pub map2 : {A B C : Type 0} → (A → B → C) → Option A → Option B → Option C
+map2 f x y = map1 (λ p. f p.0 p.1) (both x y)
+
+-- what is made of three parts
 abbrev pub map3 : {A B C D : Type 0} → (A → B → C → D) → Option A → Option B → Option C → Option D
-map3 f None y z = None
-map3 f (Some x) y z = map2 (f x) y z
+map3 f x y z = map1 (λ p. f p.0 p.1.0 p.1.1) (both x (both y z))
 
 -- a height, up to 501
 abbrev pub higher : ℕ → ℕ
@@ -158,6 +161,10 @@ grouped names groups x = groups ++ record { names = names; set = x } ∷ []
 -- names with their set are one node
 abbrev pub groups_with : Groups → List (List ℕ) → Operand → Groups
 groups_with groups names x = record { height = max groups.height (higher x.height); items = map2 (grouped names) groups.items (kept (higher x.height) x.expr) }
+
+-- the sets of an index with one more, unless it is looser than a set may be
+abbrev pub set_read : Groups → List (List ℕ) → Operand → Option Groups
+set_read groups names x = if nat_le x.level 5 then Some (groups_with groups names x) else None
 
 -- an index without a condition
 abbrev pub index_of : Option (List (Group Expr)) → Option (Index Expr)

@@ -12,7 +12,7 @@ use Rattle.mos_scan.specs.declared.token.TokenKind.TheVariants as t
 use Rattle.mos_scan.specs.declared.reading.Word.{Word}
 use Rattle.mos_scan.specs.declared.reading.Word.TheVariants as w
 use Rattle.mos_expr.specs.Operands as o
-use Rattle.mos_expr.specs.Machine.{State, Settled, and_then, want_with, settled, after_key, if_set}
+use Rattle.mos_expr.specs.Machine.{State, state_of, Settled, and_then, want_with, settled, after_key, list_closed}
 use Rattle.mos_expr.specs.declared.fault.ExprFault.{ExprFault}
 use Rattle.mos_expr.specs.declared.fault.ExprFault.TheVariants as x
 use Rattle.mos_expr.specs.declared.operand.Operand.{Operand}
@@ -21,6 +21,7 @@ use Rattle.mos_expr.specs.declared.operand.Groups.{Groups}
 use Rattle.mos_expr.specs.declared.operand.WholeIndex.{WholeIndex}
 use Rattle.mos_expr.specs.declared.frame.IndexKind.{IndexKind}
 use Rattle.mos_expr.specs.declared.frame.IndexKind.TheVariants as i
+use Rattle.mos_expr.specs.declared.frame.ListKind.TheVariants as lk
 use Rattle.mos_expr.specs.declared.frame.Frame.{Frame}
 use Rattle.mos_expr.specs.declared.frame.Frame.TheVariants as f
 use Rattle.mos_expr.specs.declared.frame.Mode.{Mode}
@@ -55,8 +56,8 @@ want_key t.True fs = leaf_at (e.Truth true) fs
 want_key t.False fs = leaf_at (e.Truth false) fs
 want_key t.Returned fs = leaf_at e.Returned fs
 want_key t.OpenRound fs = want_with f.Bracket fs
-want_key t.OpenCurly fs = Some (m.WantFirst, f.Set o.no_parts ∷ fs)
-want_key t.OpenSquare fs = Some (m.WantFirst, f.List o.no_parts ∷ fs)
+want_key t.OpenCurly fs = Some (m.WantFirst, f.Listed lk.Set o.no_parts ∷ fs)
+want_key t.OpenSquare fs = Some (m.WantFirst, f.Listed lk.List o.no_parts ∷ fs)
 want_key t.If fs = Some (m.WantOpen, f.IfExpr ∷ fs)
 want_key t.Integer fs = Some (m.WantOpen, f.Convert c.Integer ∷ fs)
 want_key t.StringWord fs = Some (m.WantOpen, f.Convert c.Text ∷ fs)
@@ -73,27 +74,10 @@ want (w.Name n) fs = Some (m.Named n, fs)
 want (w.Key k) fs = want_key k fs
 
 -- a bracket that closes what has no parts
-abbrev pub round_empty : Frame → List Frame → State
-round_empty (f.Call n ps) fs = Some (m.Called n ps, fs)
-round_empty _ fs = None
-
--- a set without members
-abbrev pub curly_empty : Frame → List Frame → State
-curly_empty (f.Set ps) fs = Some (m.After (o.set_of ps), fs)
-curly_empty _ fs = None
-
--- a list without items
-abbrev pub square_empty : Frame → List Frame → State
-square_empty (f.List ps) fs = Some (m.After (o.list_of ps), fs)
-square_empty _ fs = None
-
--- any bracket that closes what has no parts
 abbrev pub close_empty : TokenKind → List Frame → State
 close_empty k [] = None
-close_empty t.CloseRound (g ∷ fs) = round_empty g fs
-close_empty t.CloseCurly (g ∷ fs) = curly_empty g fs
-close_empty t.CloseSquare (g ∷ fs) = square_empty g fs
-close_empty _ (g ∷ fs) = None
+close_empty k (f.Listed list ps ∷ fs) = state_of (list_closed k list ps) fs
+close_empty k (_ ∷ fs) = None
 
 -- a token behind an opening bracket
 abbrev pub first_key : TokenKind → List Frame → State
@@ -154,7 +138,7 @@ after x _ fs = None
 
 -- a word behind a name: a bracket, a dot, or what may follow an operand
 abbrev pub named : List ℕ → Word → List Frame → State
-named n (w.Key t.OpenRound) fs = Some (m.WantFirst, f.Call n o.no_parts ∷ fs)
+named n (w.Key t.OpenRound) fs = Some (m.WantFirst, f.Listed (lk.Call n) o.no_parts ∷ fs)
 named n (w.Key t.Dot) fs = Some (m.Dotted n, fs)
 named n word fs = after (o.leaf_of (e.Name n)) word fs
 
@@ -219,7 +203,7 @@ only_frame (g ∷ fs) = only_of g fs
 
 -- the last of expressions with commas between them
 abbrev pub last_of_list : Operand → Frame → Option Parts
-last_of_list x (f.BareList ps) = Some (o.parts_with ps x)
+last_of_list x (f.Listed lk.Bare ps) = Some (o.parts_with ps x)
 last_of_list x _ = None
 
 -- the expressions that an operand ends
@@ -228,7 +212,7 @@ list_at_end x fs = and_then (only_frame fs) (λ g. last_of_list x g)
 
 -- the frame of expressions with no bracket round them
 abbrev pub open_list : List Frame
-open_list = f.BareList o.no_parts ∷ []
+open_list = f.Listed lk.Bare o.no_parts ∷ []
 
 -- the expressions that some words are
 abbrev pub some_parts_of : List Word → Option Parts
@@ -239,24 +223,10 @@ abbrev pub parts_of : List Word → Option Parts
 parts_of [] = Some o.no_parts
 parts_of (word ∷ words) = some_parts_of (word ∷ words)
 
--- the last set of the index of a loop: one that is tight enough
-abbrev pub set_of_loop : Groups → List (List ℕ) → Operand → Option WholeIndex
-set_of_loop groups names x = if_set x (Some (o.whole_index_of (o.groups_with groups names x)))
-
--- the last set of the index of a loop
-abbrev pub loop_set : IndexKind → Groups → List (List ℕ) → Operand → Option WholeIndex
-loop_set i.Loop groups names x = set_of_loop groups names x
-loop_set _ groups names x = None
-
--- the condition of the index of a loop
-abbrev pub loop_condition : IndexKind → Groups → Operand → Option WholeIndex
-loop_condition i.Loop groups x = Some (o.conditioned_index_of groups x)
-loop_condition _ groups x = None
-
--- what an operand ends in the frame of an index
+-- the index of a loop, of which an operand is the last set or the condition
 abbrev pub last_of_index : Operand → Frame → Option WholeIndex
-last_of_index x (f.IndexSet kind groups names) = loop_set kind groups names x
-last_of_index x (f.IndexCondition kind groups) = loop_condition kind groups x
+last_of_index x (f.IndexSet i.Loop groups names) = o.map1 o.whole_index_of (o.set_read groups names x)
+last_of_index x (f.IndexCondition i.Loop groups) = Some (o.conditioned_index_of groups x)
 last_of_index x _ = None
 
 -- the index that an operand ends

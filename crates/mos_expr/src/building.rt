@@ -1,5 +1,6 @@
 //! The steps that take memory: a value that is not placed is let go here, and nowhere else.
 ghost use Rattle.std.specs.Prelude.{◌≡◌, [], ◌∷◌, ◌++◌, IfOk};
+ghost use Rattle.mos_expr.specs.Operands.{both as both_spec};
 
 use mos_text::{NoMemory, SourceText, let_go};
 use sqlite_items::{Boxed, Items};
@@ -20,6 +21,25 @@ pub(crate) fn boxed<T: Drop, B: Drop>(
             let_go(beside);
             Err(NoMemory)
         }
+    }
+}
+
+/// Both parts, where both are there.
+pub(crate) fn both<A: Drop, B: Drop>(a: Option<A>, b: Option<B>) -> Option<(A, B)>
+    ensures { result ≡ both_spec a b }
+{
+    match a {
+        None => {
+            let_go(b);
+            None
+        }
+        Some(a) => match b {
+            None => {
+                let_go(a);
+                None
+            }
+            Some(b) => Some((a, b)),
+        },
     }
 }
 

@@ -13,15 +13,21 @@ pub(crate) enum IndexKind {
     Loop,
 }
 
+/// What expressions with commas between them belong to.
+#[derive(Drop)]
+pub(crate) enum ListKind {
+    Call(SourceText),
+    Set,
+    List,
+    /// They stand alone, with no bracket round them.
+    Bare,
+}
+
 /// What is open round the operand that is read.
 #[derive(Drop)]
 pub(crate) enum Frame {
     Bracket,
-    Call(SourceText, Parts),
-    Set(Parts),
-    List(Parts),
-    /// Expressions with no bracket round them.
-    BareList(Parts),
+    Listed(ListKind, Parts),
     /// `if`, with no, one or two of its parts.
     IfExpr,
     IfFirst(Operand),

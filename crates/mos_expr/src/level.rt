@@ -4,9 +4,6 @@ ghost use Rattle.mos_expr.specs.Grammar as grammar;
 
 use mos_tree::{AggregateOperator, BinaryOperator, UnaryOperator};
 
-/// The loosest operand of a relation, so that at most one stands at a level.
-const OF_A_RELATION: u32 = 5;
-
 /// The level of a prefix operator, and of the loosest operand that it takes.
 pub(crate) fn level_before(op: UnaryOperator) -> u32
     ensures { result ≡ grammar.level_before op }
@@ -32,34 +29,22 @@ pub(crate) fn binds(op: BinaryOperator) -> u32
     }
 }
 
-/// The loosest left operand.
+/// The loosest left operand: of its own level, or tighter where at most one stands at a level.
 pub(crate) fn left_of(op: BinaryOperator) -> u32
     ensures { result ≡ grammar.left_of op }
 {
-    match op {
-        BinaryOperator::Times | BinaryOperator::Div | BinaryOperator::Mod | BinaryOperator::Inter =>
-            3,
-        BinaryOperator::Plus | BinaryOperator::Minus | BinaryOperator::Union => 4,
-        BinaryOperator::Range => 4,
-        BinaryOperator::And => 8,
-        BinaryOperator::Or => 9,
-        _ => OF_A_RELATION,
+    let level = binds(op);
+    if level == 5 || level == 6 {
+        return level.saturating_sub(1);
     }
+    level
 }
 
 /// The loosest right operand.
 pub(crate) fn right_of(op: BinaryOperator) -> u32
     ensures { result ≡ grammar.right_of op }
 {
-    match op {
-        BinaryOperator::Times | BinaryOperator::Div | BinaryOperator::Mod | BinaryOperator::Inter =>
-            2,
-        BinaryOperator::Plus | BinaryOperator::Minus | BinaryOperator::Union => 3,
-        BinaryOperator::Range => 4,
-        BinaryOperator::And => 7,
-        BinaryOperator::Or => 8,
-        _ => OF_A_RELATION,
-    }
+    binds(op).saturating_sub(1)
 }
 
 /// The loosest body of an aggregate.

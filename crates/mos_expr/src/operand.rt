@@ -2,7 +2,7 @@
 ghost use Rattle.std.specs.Prelude.{◌≡◌, IfOk, Some};
 ghost use Rattle.mos_expr.specs.Operands as spec;
 
-use crate::building::boxed;
+use crate::building::{both, boxed};
 use crate::level::{binds, level_before};
 use mos_text::{NoMemory, let_go};
 use mos_tree::{AggregateOperator, BinaryOperator, Conversion, Expr, Group, Index, UnaryOperator};
@@ -157,48 +157,16 @@ fn binary_over(
 fn binary(
     alloc: Global,
     op: BinaryOperator,
-    left: Expr,
-    right: Expr,
+    parts: Option<(Expr, Expr)>,
 ) -> Result<Option<Expr>, NoMemory>
-    ensures { IfOk result (λ made. made ≡ Some (spec.binary op left right)) }
+    ensures { IfOk result (λ made. made ≡ spec.map1 (λ p. spec.binary op p.0 p.1) parts) }
 {
-    match boxed(alloc, left, right) {
-        Ok((left, right)) => binary_over(alloc, op, left, right),
-        Err(refused) => Err(refused),
-    }
-}
-
-fn binary_of(
-    alloc: Global,
-    op: BinaryOperator,
-    left: Expr,
-    right: Option<Expr>,
-) -> Result<Option<Expr>, NoMemory>
-    ensures { IfOk result (λ made. made ≡ spec.map1 (spec.binary op left) right) }
-{
-    match right {
-        None => {
-            let_go(left);
-            Ok(None)
-        }
-        Some(right) => binary(alloc, op, left, right),
-    }
-}
-
-fn both(
-    alloc: Global,
-    op: BinaryOperator,
-    left: Option<Expr>,
-    right: Option<Expr>,
-) -> Result<Option<Expr>, NoMemory>
-    ensures { IfOk result (λ made. made ≡ spec.map2 (spec.binary op) left right) }
-{
-    match left {
-        None => {
-            let_go(right);
-            Ok(None)
-        }
-        Some(left) => binary_of(alloc, op, left, right),
+    match parts {
+        None => Ok(None),
+        Some((left, right)) => match boxed(alloc, left, right) {
+            Ok((left, right)) => binary_over(alloc, op, left, right),
+            Err(refused) => Err(refused),
+        },
     }
 }
 
@@ -212,7 +180,7 @@ pub(crate) fn between_of(
     ensures { IfOk result (λ made. made ≡ spec.between_of op a b) }
 {
     let height = a.height.max(b.height);
-    match both(alloc, op, a.expr, b.expr) {
+    match binary(alloc, op, both(a.expr, b.expr)) {
         Ok(made) => Ok(node_at(binds(op), height, made)),
         Err(refused) => Err(refused),
     }
@@ -236,61 +204,15 @@ fn if_second(alloc: Global, a: Boxed<Expr>, b: Expr, c: Expr) -> Result<Option<E
     }
 }
 
-fn if_first(alloc: Global, a: Expr, b: Expr, c: Expr) -> Result<Option<Expr>, NoMemory>
-    ensures { IfOk result (λ made. made ≡ Some (spec.if_expr a b c)) }
+fn if_expr(alloc: Global, parts: Option<(Expr, (Expr, Expr))>) -> Result<Option<Expr>, NoMemory>
+    ensures { IfOk result (λ made. made ≡ spec.map1 (λ p. spec.if_expr p.0 p.1.0 p.1.1) parts) }
 {
-    match boxed(alloc, a, (b, c)) {
-        Ok((a, (b, c))) => if_second(alloc, a, b, c),
-        Err(refused) => Err(refused),
-    }
-}
-
-fn if_third(alloc: Global, a: Expr, b: Expr, c: Option<Expr>) -> Result<Option<Expr>, NoMemory>
-    ensures { IfOk result (λ made. made ≡ spec.map1 (spec.if_expr a b) c) }
-{
-    match c {
-        None => {
-            let_go(a);
-            let_go(b);
-            Ok(None)
-        }
-        Some(c) => if_first(alloc, a, b, c),
-    }
-}
-
-fn if_behind(
-    alloc: Global,
-    a: Expr,
-    b: Option<Expr>,
-    c: Option<Expr>,
-) -> Result<Option<Expr>, NoMemory>
-    ensures { IfOk result (λ made. made ≡ spec.map2 (spec.if_expr a) b c) }
-{
-    match b {
-        None => {
-            let_go(a);
-            let_go(c);
-            Ok(None)
-        }
-        Some(b) => if_third(alloc, a, b, c),
-    }
-}
-
-fn if_expr(
-    alloc: Global,
-    a: Option<Expr>,
-    b: Option<Expr>,
-    c: Option<Expr>,
-) -> Result<Option<Expr>, NoMemory>
-    ensures { IfOk result (λ made. made ≡ spec.map3 spec.if_expr a b c) }
-{
-    match a {
-        None => {
-            let_go(b);
-            let_go(c);
-            Ok(None)
-        }
-        Some(a) => if_behind(alloc, a, b, c),
+    match parts {
+        None => Ok(None),
+        Some((a, (b, c))) => match boxed(alloc, a, (b, c)) {
+            Ok((a, (b, c))) => if_second(alloc, a, b, c),
+            Err(refused) => Err(refused),
+        },
     }
 }
 
@@ -304,7 +226,7 @@ pub(crate) fn if_expr_of(
     ensures { IfOk result (λ made. made ≡ spec.if_expr_of a b c) }
 {
     let height = a.height.max(b.height.max(c.height));
-    match if_expr(alloc, a.expr, b.expr, c.expr) {
+    match if_expr(alloc, both(a.expr, both(b.expr, c.expr))) {
         Ok(made) => Ok(node(height, made)),
         Err(refused) => Err(refused),
     }
@@ -313,48 +235,16 @@ pub(crate) fn if_expr_of(
 fn aggregate(
     alloc: Global,
     op: AggregateOperator,
-    index: Index<Expr>,
-    body: Expr,
+    parts: Option<(Index<Expr>, Expr)>,
 ) -> Result<Option<Expr>, NoMemory>
-    ensures { IfOk result (λ made. made ≡ Some (spec.aggregate op index body)) }
+    ensures { IfOk result (λ made. made ≡ spec.map1 (λ p. spec.aggregate op p.0 p.1) parts) }
 {
-    match boxed(alloc, body, index) {
-        Ok((body, index)) => Ok(Some(Expr::Aggregate(op, index, body))),
-        Err(refused) => Err(refused),
-    }
-}
-
-fn aggregate_over(
-    alloc: Global,
-    op: AggregateOperator,
-    index: Index<Expr>,
-    body: Option<Expr>,
-) -> Result<Option<Expr>, NoMemory>
-    ensures { IfOk result (λ made. made ≡ spec.map1 (spec.aggregate op index) body) }
-{
-    match body {
-        None => {
-            let_go(index);
-            Ok(None)
-        }
-        Some(body) => aggregate(alloc, op, index, body),
-    }
-}
-
-fn aggregate_from(
-    alloc: Global,
-    op: AggregateOperator,
-    index: Option<Index<Expr>>,
-    body: Option<Expr>,
-) -> Result<Option<Expr>, NoMemory>
-    ensures { IfOk result (λ made. made ≡ spec.map2 (spec.aggregate op) index body) }
-{
-    match index {
-        None => {
-            let_go(body);
-            Ok(None)
-        }
-        Some(index) => aggregate_over(alloc, op, index, body),
+    match parts {
+        None => Ok(None),
+        Some((index, body)) => match boxed(alloc, body, index) {
+            Ok((body, index)) => Ok(Some(Expr::Aggregate(op, index, body))),
+            Err(refused) => Err(refused),
+        },
     }
 }
 
@@ -368,7 +258,7 @@ pub(crate) fn aggregate_of(
     ensures { IfOk result (λ made. made ≡ spec.aggregate_of op index x) }
 {
     let height = index.height.max(x.height);
-    match aggregate_from(alloc, op, index.index, x.expr) {
+    match aggregate(alloc, op, both(index.index, x.expr)) {
         Ok(made) => Ok(node(height, made)),
         Err(refused) => Err(refused),
     }

@@ -2,7 +2,7 @@
 ghost use Rattle.std.specs.Prelude.{◌≡◌, IfOk, Some};
 ghost use Rattle.mos_expr.specs.Operands as spec;
 
-use crate::building::{boxed, with_item};
+use crate::building::{both, boxed, with_item};
 use crate::operand::{Groups, Operand, Parts, WholeIndex, higher, keep, node};
 use mos_text::{NoMemory, SourceText, let_go};
 use mos_tree::{Expr, Group, Index};
@@ -19,39 +19,15 @@ pub(crate) fn no_parts(alloc: Global) -> Parts
     }
 }
 
-fn item_added(items: Items<Expr>, expr: Expr) -> Result<Option<Items<Expr>>, NoMemory>
-    ensures { IfOk result (λ made. made ≡ Some (spec.pushed items expr)) }
+fn pushed(parts: Option<(Items<Expr>, Expr)>) -> Result<Option<Items<Expr>>, NoMemory>
+    ensures { IfOk result (λ made. made ≡ spec.map1 (λ p. spec.pushed p.0 p.1) parts) }
 {
-    match with_item(items, expr) {
-        Ok(all) => Ok(Some(all)),
-        Err(refused) => Err(refused),
-    }
-}
-
-fn item_with(items: Items<Expr>, expr: Option<Expr>) -> Result<Option<Items<Expr>>, NoMemory>
-    ensures { IfOk result (λ made. made ≡ spec.map1 (spec.pushed items) expr) }
-{
-    match expr {
-        None => {
-            let_go(items);
-            Ok(None)
-        }
-        Some(expr) => item_added(items, expr),
-    }
-}
-
-fn items_with(
-    items: Option<Items<Expr>>,
-    expr: Option<Expr>,
-) -> Result<Option<Items<Expr>>, NoMemory>
-    ensures { IfOk result (λ made. made ≡ spec.map2 spec.pushed items expr) }
-{
-    match items {
-        None => {
-            let_go(expr);
-            Ok(None)
-        }
-        Some(items) => item_with(items, expr),
+    match parts {
+        None => Ok(None),
+        Some((items, expr)) => match with_item(items, expr) {
+            Ok(all) => Ok(Some(all)),
+            Err(refused) => Err(refused),
+        },
     }
 }
 
@@ -60,7 +36,7 @@ pub(crate) fn parts_with(parts: Parts, x: Operand) -> Result<Parts, NoMemory>
     ensures { IfOk result (λ made. made ≡ spec.parts_with parts x) }
 {
     let height = parts.height.max(x.height);
-    match items_with(parts.items, x.expr) {
+    match pushed(both(parts.items, x.expr)) {
         Ok(items) => Ok(Parts { height, items }),
         Err(refused) => Err(refused),
     }
@@ -160,52 +136,49 @@ fn group_added(
     }
 }
 
-fn group_with(
-    items: Items<Group<Expr>>,
+fn grouped(
     names: Items<SourceText>,
-    set: Option<Expr>,
+    parts: Option<(Items<Group<Expr>>, Expr)>,
 ) -> Result<Option<Items<Group<Expr>>>, NoMemory>
-    ensures { IfOk result (λ made. made ≡ spec.map1 (spec.grouped names items) set) }
+    ensures { IfOk result (λ made. made ≡ spec.map1 (λ p. spec.grouped names p.0 p.1) parts) }
 {
-    match set {
+    match parts {
         None => {
-            let_go(items);
             let_go(names);
             Ok(None)
         }
-        Some(set) => group_added(items, names, set),
-    }
-}
-
-fn items_with_group(
-    items: Option<Items<Group<Expr>>>,
-    names: Items<SourceText>,
-    set: Option<Expr>,
-) -> Result<Option<Items<Group<Expr>>>, NoMemory>
-    ensures { IfOk result (λ made. made ≡ spec.map2 (spec.grouped names) items set) }
-{
-    match items {
-        None => {
-            let_go(names);
-            let_go(set);
-            Ok(None)
-        }
-        Some(items) => group_with(items, names, set),
+        Some((items, set)) => group_added(items, names, set),
     }
 }
 
 /// The sets with one more, which its names make a node.
-pub(crate) fn groups_with(
-    groups: Groups,
-    names: Items<SourceText>,
-    x: Operand,
-) -> Result<Groups, NoMemory>
+fn groups_with(groups: Groups, names: Items<SourceText>, x: Operand) -> Result<Groups, NoMemory>
     ensures { IfOk result (λ made. made ≡ spec.groups_with groups names x) }
 {
     let high = higher(x.height);
     let height = groups.height.max(high);
-    match items_with_group(groups.items, names, keep(high, x.expr)) {
+    match grouped(names, both(groups.items, keep(high, x.expr))) {
         Ok(items) => Ok(Groups { height, items }),
+        Err(refused) => Err(refused),
+    }
+}
+
+/// The sets with one more, unless it is looser than a set may be.
+pub(crate) fn set_read(
+    groups: Groups,
+    names: Items<SourceText>,
+    x: Operand,
+) -> Result<Option<Groups>, NoMemory>
+    ensures { IfOk result (λ read. read ≡ spec.set_read groups names x) }
+{
+    if 5 < x.level {
+        let_go(groups);
+        let_go(names);
+        let_go(x);
+        return Ok(None);
+    }
+    match groups_with(groups, names, x) {
+        Ok(groups) => Ok(Some(groups)),
         Err(refused) => Err(refused),
     }
 }
@@ -234,49 +207,19 @@ pub(crate) fn whole_index_of(groups: Groups) -> WholeIndex
 
 fn conditioned(
     alloc: Global,
-    groups: Items<Group<Expr>>,
-    condition: Expr,
+    parts: Option<(Items<Group<Expr>>, Expr)>,
 ) -> Result<Option<Index<Expr>>, NoMemory>
-    ensures { IfOk result (λ made. made ≡ Some (spec.conditioned groups condition)) }
+    ensures { IfOk result (λ made. made ≡ spec.map1 (λ p. spec.conditioned p.0 p.1) parts) }
 {
-    match boxed(alloc, condition, groups) {
-        Ok((condition, groups)) => Ok(Some(Index {
-            groups,
-            condition: Some(condition),
-        })),
-        Err(refused) => Err(refused),
-    }
-}
-
-fn index_on(
-    alloc: Global,
-    groups: Items<Group<Expr>>,
-    condition: Option<Expr>,
-) -> Result<Option<Index<Expr>>, NoMemory>
-    ensures { IfOk result (λ made. made ≡ spec.map1 (spec.conditioned groups) condition) }
-{
-    match condition {
-        None => {
-            let_go(groups);
-            Ok(None)
-        }
-        Some(condition) => conditioned(alloc, groups, condition),
-    }
-}
-
-fn index_with(
-    alloc: Global,
-    groups: Option<Items<Group<Expr>>>,
-    condition: Option<Expr>,
-) -> Result<Option<Index<Expr>>, NoMemory>
-    ensures { IfOk result (λ made. made ≡ spec.map2 spec.conditioned groups condition) }
-{
-    match groups {
-        None => {
-            let_go(condition);
-            Ok(None)
-        }
-        Some(groups) => index_on(alloc, groups, condition),
+    match parts {
+        None => Ok(None),
+        Some((groups, condition)) => match boxed(alloc, condition, groups) {
+            Ok((condition, groups)) => Ok(Some(Index {
+                groups,
+                condition: Some(condition),
+            })),
+            Err(refused) => Err(refused),
+        },
     }
 }
 
@@ -289,7 +232,7 @@ pub(crate) fn conditioned_index_of(
     ensures { IfOk result (λ made. made ≡ spec.conditioned_index_of groups x) }
 {
     let height = groups.height.max(x.height);
-    match index_with(alloc, groups.items, x.expr) {
+    match conditioned(alloc, both(groups.items, x.expr)) {
         Ok(index) => Ok(WholeIndex { height, index }),
         Err(refused) => Err(refused),
     }

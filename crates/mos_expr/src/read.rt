@@ -1,19 +1,18 @@
 //! What all words come to.
-ghost use Rattle.std.specs.Prelude.{◌≡◌, [], Some, IfOk};
+ghost use Rattle.std.specs.Prelude.{◌≡◌, [], IfOk};
 ghost use Rattle.mos_expr.specs.Machine as spec;
-ghost use Rattle.mos_expr.specs.Operands as operands;
 ghost use Rattle.mos_expr.specs.Reader as reads;
 
-use crate::frame::{Frame, IndexKind, Mode};
+use crate::frame::{Frame, IndexKind, ListKind, Mode};
 use crate::machine::{refuse, settle};
-use crate::operand::{Groups, Operand, Parts, WholeIndex, leaf_of};
+use crate::operand::{Operand, Parts, WholeIndex, leaf_of};
 use crate::parts::{
-    call_of, conditioned_index_of, groups_with, no_groups, no_parts, parts_with, whole_index_of,
+    call_of, conditioned_index_of, no_groups, no_parts, parts_with, set_read, whole_index_of,
 };
 use crate::reader::step;
 use crate::stack::{pop, push};
 use mos_scan::Word;
-use mos_text::{NoMemory, SourceText, let_go};
+use mos_text::{NoMemory, let_go};
 use mos_tree::Expr;
 use sqlite_items::Items;
 use std::alloc::Global;
@@ -126,7 +125,7 @@ fn last_of_list(x: Operand, frame: Frame) -> Result<Option<Parts>, NoMemory>
     ensures { IfOk result (λ parts. reads.last_of_list x frame ≡ parts) }
 {
     match frame {
-        Frame::BareList(parts) => Ok(Some(parts_with(parts, x)?)),
+        Frame::Listed(ListKind::Bare, parts) => Ok(Some(parts_with(parts, x)?)),
         other => {
             refuse(other, x);
             Ok(None)
@@ -164,7 +163,7 @@ fn some_parts_of(alloc: Global, words: &[Word]) -> Result<Option<Parts>, NoMemor
     ensures { IfOk result (λ parts. reads.some_parts_of words.now ≡ parts) }
 {
     let mut stack = Vec::new(alloc);
-    let parts = match push(&mut stack, Frame::BareList(no_parts(alloc))) {
+    let parts = match push(&mut stack, Frame::Listed(ListKind::Bare, no_parts(alloc))) {
         Ok(()) => parts_in(alloc, &mut stack, words),
         Err(refused) => Err(refused),
     };
@@ -182,81 +181,18 @@ pub(crate) fn parts_of(alloc: Global, words: &[Word]) -> Result<Option<Parts>, N
     }
 }
 
-fn set_of_loop(
-    groups: Groups,
-    names: Items<SourceText>,
-    x: Operand,
-) -> Result<Option<WholeIndex>, NoMemory>
-    ensures { IfOk result (λ whole. reads.set_of_loop groups names x ≡ whole) }
-{
-    if 5 < x.level {
-        let_go(groups);
-        let_go(names);
-        let_go(x);
-        return Ok(None);
-    }
-    match groups_with(groups, names, x) {
-        Ok(groups) => Ok(Some(whole_index_of(groups))),
-        Err(refused) => Err(refused),
-    }
-}
-
-fn loop_set(
-    kind: IndexKind,
-    groups: Groups,
-    names: Items<SourceText>,
-    x: Operand,
-) -> Result<Option<WholeIndex>, NoMemory>
-    ensures { IfOk result (λ whole. reads.loop_set kind groups names x ≡ whole) }
-{
-    match kind {
-        IndexKind::Loop => set_of_loop(groups, names, x),
-        _ => {
-            let_go(groups);
-            let_go(names);
-            let_go(x);
-            Ok(None)
-        }
-    }
-}
-
-fn condition_of_loop(
-    alloc: Global,
-    groups: Groups,
-    x: Operand,
-) -> Result<Option<WholeIndex>, NoMemory>
-    ensures { IfOk result (λ whole. Some (operands.conditioned_index_of groups x) ≡ whole) }
-{
-    match conditioned_index_of(alloc, groups, x) {
-        Ok(whole) => Ok(Some(whole)),
-        Err(refused) => Err(refused),
-    }
-}
-
-fn loop_condition(
-    alloc: Global,
-    kind: IndexKind,
-    groups: Groups,
-    x: Operand,
-) -> Result<Option<WholeIndex>, NoMemory>
-    ensures { IfOk result (λ whole. reads.loop_condition kind groups x ≡ whole) }
-{
-    match kind {
-        IndexKind::Loop => condition_of_loop(alloc, groups, x),
-        _ => {
-            let_go(groups);
-            let_go(x);
-            Ok(None)
-        }
-    }
-}
-
+/// The index of a loop, of which this is the last set or the condition.
 fn last_of_index(alloc: Global, x: Operand, frame: Frame) -> Result<Option<WholeIndex>, NoMemory>
     ensures { IfOk result (λ whole. reads.last_of_index x frame ≡ whole) }
 {
     match frame {
-        Frame::IndexSet(kind, groups, names) => loop_set(kind, groups, names, x),
-        Frame::IndexCondition(kind, groups) => loop_condition(alloc, kind, groups, x),
+        Frame::IndexSet(IndexKind::Loop, groups, names) => match set_read(groups, names, x)? {
+            Some(groups) => Ok(Some(whole_index_of(groups))),
+            None => Ok(None),
+        },
+        Frame::IndexCondition(IndexKind::Loop, groups) => {
+            Ok(Some(conditioned_index_of(alloc, groups, x)?))
+        }
         other => {
             refuse(other, x);
             Ok(None)

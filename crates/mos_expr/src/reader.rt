@@ -4,12 +4,12 @@ ghost use Rattle.mos_expr.specs.Machine as spec;
 ghost use Rattle.mos_expr.specs.Reader as reads;
 
 use crate::building::with_name;
-use crate::frame::{Frame, IndexKind, Mode};
+use crate::frame::{Frame, IndexKind, ListKind, Mode};
 use crate::machine::{operator_of, place, refuse, settle};
 use crate::operand::{Groups, Operand, Parts, leaf_of};
-use crate::parts::{call_field_of, call_of, list_of, no_groups, no_parts, set_of};
+use crate::parts::{call_field_of, call_of, no_groups, no_parts};
 use crate::stack::{opened, pop};
-use crate::taking::{at_bar, at_comma, at_curly, at_round, at_square};
+use crate::taking::{at_bar, at_bracket, at_comma, at_round, list_closed};
 use mos_scan::{TokenKind, Word};
 use mos_text::{NoMemory, SourceText, let_go};
 use mos_tree::{AggregateOperator, BinaryOperator, Conversion, Expr, UnaryOperator};
@@ -31,8 +31,7 @@ fn at_frame(
     };
     match kind {
         TokenKind::CloseRound => at_round(alloc, stack, frame, x),
-        TokenKind::CloseCurly => at_curly(frame, x),
-        TokenKind::CloseSquare => at_square(frame, x),
+        TokenKind::CloseCurly | TokenKind::CloseSquare => at_bracket(kind, frame, x),
         TokenKind::Comma => at_comma(alloc, stack, frame, x),
         TokenKind::Bar => at_bar(stack, frame, x),
         _ => {
@@ -128,7 +127,11 @@ fn named(
 {
     match word {
         Word::Key(TokenKind::OpenRound) => {
-            opened(stack, Frame::Call(name, no_parts(alloc)), Mode::WantFirst)
+            opened(
+                stack,
+                Frame::Listed(ListKind::Call(name), no_parts(alloc)),
+                Mode::WantFirst,
+            )
         }
         Word::Key(TokenKind::Dot) => Ok(Some(Mode::Dotted(name))),
         _ => after(alloc, stack, leaf_of(Expr::Name(name)), word),
@@ -237,8 +240,16 @@ fn want_key(
         TokenKind::False => Ok(Some(Mode::After(leaf_of(Expr::Truth(false))))),
         TokenKind::Returned => Ok(Some(Mode::After(leaf_of(Expr::Returned)))),
         TokenKind::OpenRound => opened(stack, Frame::Bracket, Mode::Want),
-        TokenKind::OpenCurly => opened(stack, Frame::Set(no_parts(alloc)), Mode::WantFirst),
-        TokenKind::OpenSquare => opened(stack, Frame::List(no_parts(alloc)), Mode::WantFirst),
+        TokenKind::OpenCurly => opened(
+            stack,
+            Frame::Listed(ListKind::Set, no_parts(alloc)),
+            Mode::WantFirst,
+        ),
+        TokenKind::OpenSquare => opened(
+            stack,
+            Frame::Listed(ListKind::List, no_parts(alloc)),
+            Mode::WantFirst,
+        ),
         TokenKind::If => opened(stack, Frame::IfExpr, Mode::WantOpen),
         TokenKind::Integer => opened(stack, Frame::Convert(Conversion::Integer), Mode::WantOpen),
         TokenKind::StringWord => opened(stack, Frame::Convert(Conversion::Text), Mode::WantOpen),
@@ -261,42 +272,6 @@ fn want(alloc: Global, stack: &mut Vec<Frame>, word: &Word) -> Result<Option<Mod
     }
 }
 
-fn round_empty(frame: Frame) -> Option<Mode>
-    ensures { spec.IsStepAnywhere (reads.round_empty frame) result }
-{
-    match frame {
-        Frame::Call(name, parts) => Some(Mode::Called(name, parts)),
-        other => {
-            let_go(other);
-            None
-        }
-    }
-}
-
-fn curly_empty(frame: Frame) -> Option<Mode>
-    ensures { spec.IsStepAnywhere (reads.curly_empty frame) result }
-{
-    match frame {
-        Frame::Set(parts) => Some(Mode::After(set_of(parts))),
-        other => {
-            let_go(other);
-            None
-        }
-    }
-}
-
-fn square_empty(frame: Frame) -> Option<Mode>
-    ensures { spec.IsStepAnywhere (reads.square_empty frame) result }
-{
-    match frame {
-        Frame::List(parts) => Some(Mode::After(list_of(parts))),
-        other => {
-            let_go(other);
-            None
-        }
-    }
-}
-
 /// A bracket that closes what has no parts.
 fn close_empty(stack: &mut Vec<Frame>, kind: TokenKind) -> Option<Mode>
     ensures { spec.IsStep (reads.close_empty kind) stack.old.items stack.new.items result }
@@ -304,12 +279,10 @@ fn close_empty(stack: &mut Vec<Frame>, kind: TokenKind) -> Option<Mode>
     let Some(frame) = pop(stack) else {
         return None;
     };
-    match kind {
-        TokenKind::CloseRound => round_empty(frame),
-        TokenKind::CloseCurly => curly_empty(frame),
-        TokenKind::CloseSquare => square_empty(frame),
-        _ => {
-            let_go(frame);
+    match frame {
+        Frame::Listed(list, parts) => list_closed(kind, list, parts),
+        other => {
+            let_go(other);
             None
         }
     }

@@ -4,13 +4,14 @@ ghost use Rattle.mos_expr.specs.Machine as spec;
 ghost use Rattle.mos_expr.specs.Operands as operands;
 ghost use Rattle.mos_expr.specs.declared.frame.Frame.TheVariants as f;
 
-use crate::frame::{Frame, IndexKind, Mode};
+use crate::frame::{Frame, IndexKind, ListKind, Mode};
 use crate::machine::refuse;
 use crate::operand::{Groups, Operand, Parts, WholeIndex, bracketed, convert_of, if_expr_of};
 use crate::parts::{
-    conditioned_index_of, counted_of, groups_with, list_of, parts_with, set_of, whole_index_of,
+    conditioned_index_of, counted_of, list_of, parts_with, set_of, set_read, whole_index_of,
 };
 use crate::stack::opened;
+use mos_scan::TokenKind;
 use mos_text::{NoMemory, SourceText, let_go};
 use sqlite_items::Items;
 use std::alloc::Global;
@@ -33,13 +34,6 @@ fn index_read(
     }
 }
 
-/// Lets go of what is no set of an index.
-fn refuse_set(groups: Groups, names: Items<SourceText>, x: Operand) {
-    let_go(groups);
-    let_go(names);
-    let_go(x);
-}
-
 /// The names that come behind a whole set of an index.
 fn set_at_comma(
     alloc: Global,
@@ -51,61 +45,27 @@ fn set_at_comma(
 ) -> Result<Option<Mode>, NoMemory>
     ensures { IfOk result (spec.IsStep (spec.set_at_comma kind groups names x) stack.now stack.now) }
 {
-    if 5 < x.level {
-        refuse_set(groups, names, x);
-        return Ok(None);
-    }
-    match groups_with(groups, names, x) {
-        Ok(groups) => Ok(Some(Mode::WantName(kind, groups, Items::new(alloc)))),
-        Err(refused) => Err(refused),
+    match set_read(groups, names, x)? {
+        Some(groups) => Ok(Some(Mode::WantName(kind, groups, Items::new(alloc)))),
+        None => Ok(None),
     }
 }
 
-fn call_at_comma(
+/// Expressions go on behind a comma.
+fn list_at_comma(
     stack: &mut Vec<Frame>,
-    name: SourceText,
+    list: ListKind,
     parts: Parts,
     x: Operand,
 ) -> Result<Option<Mode>, NoMemory>
-    ensures { IfOk result (spec.IsStep (spec.want_with (f.Call name (operands.parts_with parts x))) stack.old.items stack.new.items) }
+    ensures { IfOk result (spec.IsStep (spec.want_with (f.Listed list (operands.parts_with parts x))) stack.old.items stack.new.items) }
 {
     match parts_with(parts, x) {
-        Ok(parts) => opened(stack, Frame::Call(name, parts), Mode::Want),
+        Ok(parts) => opened(stack, Frame::Listed(list, parts), Mode::Want),
         Err(refused) => {
-            let_go(name);
+            let_go(list);
             Err(refused)
         }
-    }
-}
-
-fn set_goes_on(stack: &mut Vec<Frame>, parts: Parts, x: Operand) -> Result<Option<Mode>, NoMemory>
-    ensures { IfOk result (spec.IsStep (spec.want_with (f.Set (operands.parts_with parts x))) stack.old.items stack.new.items) }
-{
-    match parts_with(parts, x) {
-        Ok(parts) => opened(stack, Frame::Set(parts), Mode::Want),
-        Err(refused) => Err(refused),
-    }
-}
-
-fn list_goes_on(stack: &mut Vec<Frame>, parts: Parts, x: Operand) -> Result<Option<Mode>, NoMemory>
-    ensures { IfOk result (spec.IsStep (spec.want_with (f.List (operands.parts_with parts x))) stack.old.items stack.new.items) }
-{
-    match parts_with(parts, x) {
-        Ok(parts) => opened(stack, Frame::List(parts), Mode::Want),
-        Err(refused) => Err(refused),
-    }
-}
-
-fn bare_list_goes_on(
-    stack: &mut Vec<Frame>,
-    parts: Parts,
-    x: Operand,
-) -> Result<Option<Mode>, NoMemory>
-    ensures { IfOk result (spec.IsStep (spec.want_with (f.BareList (operands.parts_with parts x))) stack.old.items stack.new.items) }
-{
-    match parts_with(parts, x) {
-        Ok(parts) => opened(stack, Frame::BareList(parts), Mode::Want),
-        Err(refused) => Err(refused),
     }
 }
 
@@ -119,10 +79,7 @@ pub(crate) fn at_comma(
     ensures { IfOk result (spec.IsStep (spec.at_comma frame x) stack.old.items stack.new.items) }
 {
     match frame {
-        Frame::Call(name, parts) => call_at_comma(stack, name, parts, x),
-        Frame::Set(parts) => set_goes_on(stack, parts, x),
-        Frame::List(parts) => list_goes_on(stack, parts, x),
-        Frame::BareList(parts) => bare_list_goes_on(stack, parts, x),
+        Frame::Listed(list, parts) => list_at_comma(stack, list, parts, x),
         Frame::IfExpr => opened(stack, Frame::IfFirst(x), Mode::Want),
         Frame::IfFirst(first) => opened(stack, Frame::IfSecond(first, x), Mode::Want),
         Frame::IndexSet(kind, groups, names) => set_at_comma(
@@ -150,24 +107,81 @@ fn set_at_round(
 ) -> Result<Option<Mode>, NoMemory>
     ensures { IfOk result (spec.IsStep (spec.set_at_round kind groups names x) stack.old.items stack.new.items) }
 {
-    if 5 < x.level {
-        refuse_set(groups, names, x);
-        return Ok(None);
-    }
-    match groups_with(groups, names, x) {
-        Ok(groups) => index_read(stack, kind, whole_index_of(groups)),
-        Err(refused) => Err(refused),
+    match set_read(groups, names, x)? {
+        Some(groups) => index_read(stack, kind, whole_index_of(groups)),
+        None => Ok(None),
     }
 }
 
-fn call_at_round(name: SourceText, parts: Parts, x: Operand) -> Result<Option<Mode>, NoMemory>
-    ensures { IfOk result (spec.IsStepAnywhere (spec.at_round (f.Call name parts) x)) }
+/// Whether the bracket closes such expressions.
+fn closes(kind: TokenKind, list: &ListKind) -> bool
+    ensures { result ≡ spec.closes kind list.now }
+{
+    match kind {
+        TokenKind::CloseRound => matches!(list, ListKind::Call(_)),
+        TokenKind::CloseCurly => matches!(list, ListKind::Set),
+        TokenKind::CloseSquare => matches!(list, ListKind::List),
+        _ => false,
+    }
+}
+
+/// What the expressions are, behind their bracket.
+fn closed_list(list: ListKind, parts: Parts) -> Option<Mode>
+    ensures { result ≡ spec.closed_list list parts }
+{
+    match list {
+        ListKind::Call(name) => Some(Mode::Called(name, parts)),
+        ListKind::Set => Some(Mode::After(set_of(parts))),
+        ListKind::List => Some(Mode::After(list_of(parts))),
+        ListKind::Bare => {
+            let_go(parts);
+            None
+        }
+    }
+}
+
+/// The bracket behind all of the expressions.
+pub(crate) fn list_closed(kind: TokenKind, list: ListKind, parts: Parts) -> Option<Mode>
+    ensures { result ≡ spec.list_closed kind list parts }
+{
+    if closes(kind, &list) {
+        return closed_list(list, parts);
+    }
+    let_go(list);
+    let_go(parts);
+    None
+}
+
+fn list_at_bracket(
+    kind: TokenKind,
+    list: ListKind,
+    parts: Parts,
+    x: Operand,
+) -> Result<Option<Mode>, NoMemory>
+    ensures { IfOk result (λ next. next ≡ spec.list_closed kind list (operands.parts_with parts x)) }
 {
     match parts_with(parts, x) {
-        Ok(parts) => Ok(Some(Mode::Called(name, parts))),
+        Ok(parts) => Ok(list_closed(kind, list, parts)),
         Err(refused) => {
-            let_go(name);
+            let_go(list);
             Err(refused)
+        }
+    }
+}
+
+/// A closing bracket behind the last of some expressions.
+pub(crate) fn at_bracket(
+    kind: TokenKind,
+    frame: Frame,
+    x: Operand,
+) -> Result<Option<Mode>, NoMemory>
+    ensures { IfOk result (spec.IsStepAnywhere (spec.at_bracket kind frame x)) }
+{
+    match frame {
+        Frame::Listed(list, parts) => list_at_bracket(kind, list, parts, x),
+        other => {
+            refuse(other, x);
+            Ok(None)
         }
     }
 }
@@ -198,41 +212,11 @@ pub(crate) fn at_round(
 {
     match frame {
         Frame::Bracket => Ok(Some(Mode::After(bracketed(x)))),
-        Frame::Call(name, parts) => call_at_round(name, parts, x),
         Frame::IfSecond(a, b) => Ok(Some(Mode::After(if_expr_of(alloc, a, b, x)?))),
         Frame::Convert(to) => Ok(Some(Mode::After(convert_of(alloc, to, x)?))),
         Frame::IndexSet(kind, groups, names) => set_at_round(stack, kind, groups, names, x),
         Frame::IndexCondition(kind, groups) => condition_at_round(alloc, stack, kind, groups, x),
-        other => {
-            refuse(other, x);
-            Ok(None)
-        }
-    }
-}
-
-/// The innermost frame takes the operand at a closing curly bracket.
-pub(crate) fn at_curly(frame: Frame, x: Operand) -> Result<Option<Mode>, NoMemory>
-    ensures { IfOk result (λ next. next ≡ spec.at_curly frame x) }
-{
-    match frame {
-        Frame::Set(parts) => Ok(Some(Mode::After(set_of(parts_with(parts, x)?)))),
-        other => {
-            refuse(other, x);
-            Ok(None)
-        }
-    }
-}
-
-/// The innermost frame takes the operand at a closing square bracket.
-pub(crate) fn at_square(frame: Frame, x: Operand) -> Result<Option<Mode>, NoMemory>
-    ensures { IfOk result (λ next. next ≡ spec.at_square frame x) }
-{
-    match frame {
-        Frame::List(parts) => Ok(Some(Mode::After(list_of(parts_with(parts, x)?)))),
-        other => {
-            refuse(other, x);
-            Ok(None)
-        }
+        other => at_bracket(TokenKind::CloseRound, other, x),
     }
 }
 
@@ -246,13 +230,9 @@ fn set_at_bar(
 ) -> Result<Option<Mode>, NoMemory>
     ensures { IfOk result (spec.IsStep (spec.set_at_bar kind groups names x) stack.old.items stack.new.items) }
 {
-    if 5 < x.level {
-        refuse_set(groups, names, x);
-        return Ok(None);
-    }
-    match groups_with(groups, names, x) {
-        Ok(groups) => opened(stack, Frame::IndexCondition(kind, groups), Mode::Want),
-        Err(refused) => Err(refused),
+    match set_read(groups, names, x)? {
+        Some(groups) => opened(stack, Frame::IndexCondition(kind, groups), Mode::Want),
+        None => Ok(None),
     }
 }
 

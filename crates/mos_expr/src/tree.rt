@@ -42,6 +42,7 @@ fn index_of(whole: Option<WholeIndex>) -> Result<Index<Expr>, ExprFault>
 }
 
 /// The one tree of the words, which are all of one expression.
+#[tactic(auto, unfolding(crate::specs::Said::Says))]
 pub fn expression_of_words(alloc: Global, words: &[Word]) -> Result<Expr, ExprFault>
     ensures { Says (IsExpression words.now) result }
 {
@@ -52,6 +53,7 @@ pub fn expression_of_words(alloc: Global, words: &[Word]) -> Result<Expr, ExprFa
 }
 
 /// The trees of expressions with commas between them; none where there are no words.
+#[tactic(auto, unfolding(crate::specs::Said::Says))]
 pub fn expressions_of_words(alloc: Global, words: &[Word]) -> Result<Items<Expr>, ExprFault>
     ensures { Says (AreExpressions words.now) result }
 {
@@ -73,6 +75,7 @@ pub fn some_expressions_of_words(alloc: Global, words: &[Word]) -> Result<Items<
 
 /// What a loop goes over: names with their sets, perhaps a condition, without the brackets round
 /// them.
+#[tactic(auto, unfolding(crate::specs::Said::Says))]
 pub fn index_of_words(alloc: Global, words: &[Word]) -> Result<Index<Expr>, ExprFault>
     ensures { Says (IsIndex words.now) result }
 {
@@ -84,6 +87,7 @@ pub fn index_of_words(alloc: Global, words: &[Word]) -> Result<Index<Expr>, Expr
 
 /// The one tree of tokens of a source, which are all of one expression; the tokens are neighbours
 /// in the list that `scan` gives for the source, and newlines among them are passed over.
+#[tactic(auto, unfolding(crate::specs::Said::Says))]
 pub fn expression(alloc: Global, source: &[u8], tokens: &[Token]) -> Result<Expr, ExprFault>
     requires { length source.now ≤ source_limit }
     ensures { Says (IsExpression (words_of source.now tokens.now)) result }

@@ -6,7 +6,7 @@ use Rattle.mos_tree.specs.declared.statement.Assignment.{Assignment}
 use Rattle.mos_scan.specs.declared.token.TokenKind.TheVariants as t
 use Rattle.mos_scan.specs.declared.reading.Word.{Word}
 use Rattle.mos_scan.specs.declared.reading.Word.TheVariants as w
-use Rattle.mos_expr.specs.Grammar.{Syntax, Written, no_more, AreSpelled, IsGrouped, AreGrouped, spell, spell_list, height, heights, tree, trees}
+use Rattle.mos_expr.specs.Grammar.{Syntax, Written, IsGrouped, AreGrouped, spell, spell_list, height, heights, tree, trees}
 use Rattle.mos_typing.specs.Typing.{in_brackets}
 use Rattle.mos_typing.specs.Words.{is_plain, ArePlain, ListIsPlain}
 use Rattle.mos_tree.specs.declared.form.Form.{Form}
@@ -15,15 +15,16 @@ use Rattle.mos_form.specs.declared.head.Next.TheVariants as next
 use Rattle.mos_form.specs.Cuts.{operator_of}
 use Rattle.mos_form.specs.Cells.{cell, cell_target, AreParts, parts_height, parts_trees, with_parts, TellsCell}
 use Rattle.mos_form.specs.Phrases.{to_name, to_cell, to_field, to_cell_field, to_result, Phrase, assign, call, alternative, target_words, operator_word, TargetIs, IsPhrase, answer}
-use Rattle.mos_form.specs.Telling.{Tells, told, untold, by_height, IsAlternative, IsOther, TellsPiece, TellsOne, TellsAll, AreSome, IsCall, TellsCall, TellsCellSet, IsListed, TellsList, AreTyped, TellsTyped, assigned, called, filled}
+use Rattle.mos_form.specs.Telling.{untold, by_height, IsAlternative, IsOther, TellsPiece, TellsAll, IsCall, TellsCall, TellsCellSet, assigned, called, Writes}
 use Rattle.mos_form.specs.Telling as telling
 use Rattle.mos_form.proofs.Telling.{embed_ok}
 use Rattle.mos_form.proofs.Opening.{next_is}
 use Rattle.mos_form.proofs.Parting.{snoc_same, regroup, plain_join, plain_head, one_cut, operator_known, operator_none, operator_parts}
 use Rattle.mos_form.proofs.Keyed.{tail_same, no_piece}
+use Rattle.mos_expr.specs.Said.{AreSomeGrouped}
 use Rattle.mos_form.proofs.Named.{says, behind_same, first_same, operator_one}
 
-abbrev close : List Word
+abbrev pub close : List Word
 close = w.Key t.CloseRound ∷ []
 
 -- ---- a call
@@ -39,7 +40,7 @@ call_back n behind _ k e = absurd e
 
 pub call_piece : {E : Type 0} (n : List ℕ) (behind inside : List Word) → behind ≡ inside ++ close → (r : Result Form E) → IfOk r (TellsAll (called n) inside) → IfOk r (TellsCall n behind)
 call_piece n behind inside e r k =
-    embed_ok (AreSpelled inside) (λ xs. by_height (heights xs) (called n (trees xs))) (λ p. IsPhrase (w.Name n ∷ w.Key t.OpenRound ∷ behind) p × IsCall p) answer (call n)
+    embed_ok (Writes AreGrouped spell_list inside) (λ xs. by_height (heights xs) (called n (trees xs))) (λ p. IsPhrase (w.Name n ∷ w.Key t.OpenRound ∷ behind) p × IsCall p) answer (call n)
     (λ xs m. (record { well = m.grouped; exact = ap (λ z. w.Name n ∷ w.Key t.OpenRound ∷ z) (e ∙ ap (λ z. z ++ close) m.exact) }, tt))
     (λ p m. let q = call_back n behind p m.0 m.1 in
     (q.0, record { grouped = q.1; exact = append_cancel_right inside (spell_list q.0) close (sym e ∙ q.2) }, q.3))
@@ -51,7 +52,7 @@ no_call n behind none = untold (λ p m. let q = call_back n behind p m.0 m.1 in 
 -- ---- a cell that is assigned to
 
 -- what stands behind the bracket of a target
-abbrev cell_words : Written → Option (List ℕ) → List Word
+abbrev pub cell_words : Written → Option (List ℕ) → List Word
 cell_words xs None = spell_list xs ++ close
 cell_words xs (Some g) = (spell_list xs ++ close) ++ w.Key t.Dot ∷ w.Name g ∷ []
 
@@ -59,13 +60,13 @@ cell_spelled : (n : List ℕ) (xs : Written) (g : Option (List ℕ)) → target_
 cell_spelled n xs None = refl
 cell_spelled n xs (Some g) = refl
 
-cell_well : (n : List ℕ) (xs : Written) (g : Option (List ℕ)) → AreGrouped xs → (xs ≡ no_more → ⊥) → TargetIs (cell_target n xs g)
-cell_well n xs None k m = (k, m)
-cell_well n xs (Some g) k m = (k, m)
+cell_well : (n : List ℕ) (xs : Written) (g : Option (List ℕ)) → AreSomeGrouped xs → TargetIs (cell_target n xs g)
+cell_well n xs None k = k
+cell_well n xs (Some g) k = k
 
 -- an assignment to a cell
 abbrev IsCellSet : List ℕ → List Word → Phrase → Type 0
-IsCellSet n behind p = (xs : Written) × (g : Option (List ℕ)) × (op : Assignment) × (s : Syntax) × AreGrouped xs × (xs ≡ no_more → ⊥) × IsGrouped s
+IsCellSet n behind p = (xs : Written) × (g : Option (List ℕ)) × (op : Assignment) × (s : Syntax) × AreSomeGrouped xs × IsGrouped s
     × (behind ≡ cell_words xs g ++ operator_word op ∷ spell s) × (p ≡ assign (cell_target n xs g) op s)
 
 -- a call, or an assignment to a cell
@@ -81,8 +82,7 @@ open_back n behind (assign (to_cell m xs) op s) k e =
       None,
       op,
       s,
-      k.well.0.0,
-      k.well.0.1,
+      k.well.0,
       k.well.1,
       behind_same (w.Name n) (w.Key t.OpenRound) (w.Name m) (w.Key t.OpenRound) behind (cell_words xs None ++ operator_word op ∷ spell s) k.exact,
       ap (λ z. assign (to_cell z xs) op s) (first_same n m (w.Key t.OpenRound ∷ behind) (w.Key t.OpenRound ∷ (cell_words xs None ++ operator_word op ∷ spell s)) k.exact),
@@ -93,8 +93,7 @@ open_back n behind (assign (to_cell_field m xs g) op s) k e =
       Some g,
       op,
       s,
-      k.well.0.0,
-      k.well.0.1,
+      k.well.0,
       k.well.1,
       behind_same (w.Name n) (w.Key t.OpenRound) (w.Name m) (w.Key t.OpenRound) behind (cell_words xs (Some g) ++ operator_word op ∷ spell s) k.exact,
       ap (λ z. assign (to_cell_field z xs g) op s) (first_same n m (w.Key t.OpenRound ∷ behind) (w.Key t.OpenRound ∷ (cell_words xs (Some g) ++ operator_word op ∷ spell s)) k.exact),
@@ -104,7 +103,7 @@ open_back n behind _ k e = absurd cc
 opened : (n : List ℕ) (behind : List Word) (p : Phrase) → IsOther (w.Name n ∷ w.Key t.OpenRound ∷ behind) p → IsOpen n behind p
 opened n behind p m = open_back n behind p m.0 (says n (w.Key t.OpenRound) behind p m)
 
-plain_cell : ListIsPlain → (xs : Written) (g : Option (List ℕ)) → ArePlain (cell_words xs g)
+pub plain_cell : ListIsPlain → (xs : Written) (g : Option (List ℕ)) → ArePlain (cell_words xs g)
 plain_cell plain xs None = plain_join (spell_list xs) close (plain xs) refl
 plain_cell plain xs (Some g) = plain_join (spell_list xs ++ close) (w.Key t.Dot ∷ w.Name g ∷ []) (plain_join (spell_list xs) close (plain xs) refl) refl
 
@@ -129,7 +128,7 @@ call_only n behind plain r k =
 
     at : (p : Phrase) → IsOpen n behind p → IsCall p
     at p (calls y) = y
-    at p (sets y) = absurd (not_all (cell_words y.0 y.1) (spell y.3) (operator_word y.2) (operator_parts y.2) (subst ArePlain y.7 plain))
+    at p (sets y) = absurd (not_all (cell_words y.0 y.1) (spell y.3) (operator_word y.2) (operator_parts y.2) (subst ArePlain y.6 plain))
 
 -- the words behind the bracket are cut
 cut_call : ListIsPlain → (n : List ℕ) (behind before value : List Word) (y : Word) → is_plain y ≡ false → behind ≡ before ++ y ∷ value → (p : Phrase) → IsPhrase (w.Name n ∷ w.Key t.OpenRound ∷ behind) p → IsCall p → ⊥
@@ -140,7 +139,7 @@ cut_call plain n behind before value y not_plain e p k c =
 cut_cell : ListIsPlain → (n : List ℕ) (behind before value : List Word) (y : Word) → ArePlain before → is_plain y ≡ false → behind ≡ before ++ y ∷ value → (p : Phrase) → (z : IsCellSet n behind p)
     → (before ≡ cell_words z.0 z.1) × (y ≡ operator_word z.2) × (value ≡ spell z.3)
 cut_cell plain n behind before value y front not_plain e p z =
-    one_cut before (cell_words z.0 z.1) y (operator_word z.2) value (spell z.3) front (plain_cell plain z.0 z.1) not_plain (operator_parts z.2) (sym e ∙ z.7)
+    one_cut before (cell_words z.0 z.1) y (operator_word z.2) value (spell z.3) front (plain_cell plain z.0 z.1) not_plain (operator_parts z.2) (sym e ∙ z.6)
 
 pub cell_only : {E : Type 0} → ListIsPlain → (n : List ℕ) (behind target value : List Word) (y : Word) (op : Assignment) → ArePlain target → is_plain y ≡ false → behind ≡ target ++ y ∷ value → Some op ≡ operator_of y
     → (r : Result Form E) → IfOk r (TellsCellSet n target op value) → IfOk r (TellsPiece (w.Name n ∷ w.Key t.OpenRound ∷ behind))
@@ -161,7 +160,7 @@ cell_only plain n behind target value y op front not_plain e is r k =
     at p m (calls c) = absurd (cut_call plain n behind target value y not_plain e p m.0 c)
     at p m (sets z) =
         let q = cut_cell plain n behind target value y front not_plain e p z in
-        subst (λ q. telling.TargetIs (w.Name n ∷ w.Key t.OpenRound ∷ target) q) (sym z.8)
+        subst (λ q. telling.TargetIs (w.Name n ∷ w.Key t.OpenRound ∷ target) q) (sym z.7)
         (cell_spelled n z.0 z.1 ∙ ap (λ z. w.Name n ∷ w.Key t.OpenRound ∷ z) (sym q.0))
 
 pub nothing_open : ListIsPlain → (n : List ℕ) (behind target value : List Word) (y : Word) → ArePlain target → is_plain y ≡ false → behind ≡ target ++ y ∷ value → None ≡ operator_of y → TellsPiece (w.Name n ∷ w.Key t.OpenRound ∷ behind) f.Unknown
@@ -177,7 +176,7 @@ abbrev IsSet : List ℕ → List Word → Assignment → List Word → Phrase �
 IsSet n target op value p = IsPhrase (w.Name n ∷ w.Key t.OpenRound ∷ (target ++ operator_word op ∷ value)) p × telling.TargetIs (w.Name n ∷ w.Key t.OpenRound ∷ target) p
 
 abbrev IsCell : List ℕ → List Word → Assignment → List Word → Phrase → Type 0
-IsCell n target op value p = (xs : Written) × (g : Option (List ℕ)) × (s : Syntax) × AreGrouped xs × (xs ≡ no_more → ⊥) × IsGrouped s
+IsCell n target op value p = (xs : Written) × (g : Option (List ℕ)) × (s : Syntax) × AreSomeGrouped xs × IsGrouped s
     × (target ≡ cell_words xs g) × (value ≡ spell s) × (p ≡ assign (cell_target n xs g) op s)
 
 value_words : (target value : List Word) (a b : List Word) (n : List ℕ) (op q : Assignment) (s : Syntax) → a ≡ w.Name n ∷ w.Key t.OpenRound ∷ target
@@ -192,8 +191,7 @@ cell_of n target value op (assign (to_cell m xs) q s) k =
       xs,
       None,
       s,
-      k.0.well.0.0,
-      k.0.well.0.1,
+      k.0.well.0,
       k.0.well.1,
       sym (behind_same (w.Name m) (w.Key t.OpenRound) (w.Name n) (w.Key t.OpenRound) (cell_words xs None) target k.1),
       tail_same (operator_word op) (operator_word q) value (spell s) v,
@@ -205,8 +203,7 @@ cell_of n target value op (assign (to_cell_field m xs g) q s) k =
       xs,
       Some g,
       s,
-      k.0.well.0.0,
-      k.0.well.0.1,
+      k.0.well.0,
       k.0.well.1,
       sym (behind_same (w.Name m) (w.Key t.OpenRound) (w.Name n) (w.Key t.OpenRound) (cell_words xs (Some g)) target k.1),
       tail_same (operator_word op) (operator_word q) value (spell s) v,
@@ -222,11 +219,11 @@ cell_height : (n : List ℕ) (xs : Written) (g : Option (List ℕ)) (op : Assign
 cell_height n xs None op s = refl
 cell_height n xs (Some g) op s = refl
 
-cell_there : (n : List ℕ) (target value : List Word) (xs : Written) (g : Option (List ℕ)) (op : Assignment) (s : Syntax) → AreGrouped xs → (xs ≡ no_more → ⊥) → IsGrouped s
+cell_there : (n : List ℕ) (target value : List Word) (xs : Written) (g : Option (List ℕ)) (op : Assignment) (s : Syntax) → AreSomeGrouped xs → IsGrouped s
     → target ≡ cell_words xs g → value ≡ spell s → IsSet n target op value (assign (cell_target n xs g) op s)
-cell_there n target value xs g op s a b d e v = (
+cell_there n target value xs g op s a d e v = (
   record {
-    well = (cell_well n xs g a b, d);
+    well = (cell_well n xs g a, d);
     exact = ap (λ z. w.Name n ∷ w.Key t.OpenRound ∷ (z ++ operator_word op ∷ value)) e ∙ ap (λ z. w.Name n ∷ w.Key t.OpenRound ∷ (cell_words xs g ++ operator_word op ∷ z)) v
         ∙ ap (λ z. z ++ operator_word op ∷ spell s) (sym (cell_spelled n xs g));
   },
@@ -234,7 +231,7 @@ cell_there n target value xs g op s a b d e v = (
 )
 
 -- the words between the brackets of a target
-abbrev around : List Word → Option (List ℕ) → List Word
+abbrev pub around : List Word → Option (List ℕ) → List Word
 around inside None = inside ++ close
 around inside (Some g) = (inside ++ close) ++ w.Key t.Dot ∷ w.Name g ∷ []
 
@@ -261,10 +258,10 @@ pub set_piece : {E : Type 0} (n m : List ℕ) (target inside value : List Word) 
     → IfOk r (TellsCell m g op inside value) → IfOk r (TellsCellSet n target op value)
 set_piece n m target inside value g op same e r k =
     embed_ok (AreParts inside value) (λ p. by_height (parts_height p) (with_parts n g op (parts_trees p))) (IsSet n target op value) answer (λ p. assign (cell_target n p.0 g) op p.1)
-    (λ p a. cell_there n target value p.0 g op p.1 a.0.0.grouped a.0.1 a.1.grouped (e ∙ around_cell inside g p.0 a.0.0.exact) a.1.exact)
+    (λ p a. cell_there n target value p.0 g op p.1 a.0.grouped a.1.grouped (e ∙ around_cell inside g p.0 a.0.exact) a.1.exact)
     (λ p a. let c = cell_of n target value op p a in
-    let q = around_same inside g c.1 c.0 (sym e ∙ c.6) in
-    ((c.0, c.2), ((record { grouped = c.3; exact = q.0 }, c.4), record { grouped = c.5; exact = c.7 }), c.8 ∙ ap (λ z. assign (cell_target n c.0 z) op c.2) q.1))
+    let q = around_same inside g c.1 c.0 (sym e ∙ c.5) in
+    ((c.0, c.2), (record { grouped = c.3; exact = q.0 }, record { grouped = c.4; exact = c.6 }), c.7 ∙ ap (λ z. assign (cell_target n c.0 z) op c.2) q.1))
     (λ p. cell_height n p.0 g op p.1) r (subst (λ z. IfOk r (TellsCell z g op inside value)) same k)
 
 pub no_set : (n : List ℕ) (target value : List Word) (op : Assignment) → ((inside : List Word) → target ≡ inside ++ close → ⊥)
@@ -272,5 +269,5 @@ pub no_set : (n : List ℕ) (target value : List Word) (op : Assignment) → ((i
 no_set n target value op no_cell no_field = untold (λ p a. at p (cell_of n target value op p a))
   where
     at : (p : Phrase) → IsCell n target op value p → ⊥
-    at p (xs, None, s, a, b, d, e, v, z) = no_cell (spell_list xs) e
-    at p (xs, Some g, s, a, b, d, e, v, z) = no_field (spell_list xs) g (e ∙ append_assoc (spell_list xs) close (w.Key t.Dot ∷ w.Name g ∷ []))
+    at p (xs, None, s, a, d, e, v, z) = no_cell (spell_list xs) e
+    at p (xs, Some g, s, a, d, e, v, z) = no_field (spell_list xs) g (e ∙ append_assoc (spell_list xs) close (w.Key t.Dot ∷ w.Name g ∷ []))

@@ -10,17 +10,18 @@ use Rattle.mos_scan.specs.declared.reading.Word.TheVariants as w
 use Rattle.mos_expr.specs.Grammar.{Names, one_name, and_name, list_of_names}
 use Rattle.mos_tree.specs.declared.form.Form.{Form}
 use Rattle.mos_tree.specs.declared.form.Form.TheVariants as f
+use Rattle.mos_tree.specs.declared.source.ModelName.TheVariants as called
 use Rattle.mos_tree.specs.declared.form.Keyword.{Keyword}
 use Rattle.mos_tree.specs.declared.form.Keyword.TheVariants as keyword
 use Rattle.mos_form.specs.declared.head.Head.TheVariants as h
-use Rattle.mos_form.specs.declared.lists.TextMode.TheVariants as x
-use Rattle.mos_form.specs.declared.lists.LabelMode.TheVariants as l
+use Rattle.mos_typing.specs.Shapes.{AreNoPair}
 use Rattle.mos_form.specs.Fixed as fixed
 use Rattle.mos_tree.specs.Forms.{piece_kind_of}
 use Rattle.mos_form.specs.Heads.{head_of}
-use Rattle.mos_form.specs.Lists.{read_texts, read_labels, uses, uses_of}
+use Rattle.mos_form.specs.Lists.{texts_of, read_labels, uses, uses_of}
+use Rattle.mos_typing.specs.Reader.{onto}
 use Rattle.mos_form.specs.Lists as lists
-use Rattle.mos_form.specs.Phrases.{to_result, Labels, last_label, and_label, Phrase, word, break_word, next_word, model_text, model_name, uses_modules, options_name, definition, typed, record_of, procedure, function, forward_procedure, forward_function, assign, fill, call, bare, if_then, elif_then, case_of, alternative, forall_in, while_so, until_so, initializations, labels, token_of, text_words, label_words, labels_of, words_of, form_of, tallest, answer}
+use Rattle.mos_form.specs.Phrases.{to_result, Labels, last_label, and_label, Phrase, word, break_word, next_word, model, uses_modules, options_name, assign, labels, token_of, text_words, label_words, labels_of, words_of, form_of, tallest, answer}
 use Rattle.mos_form.specs.Telling.{Tells, untold, IsOther, TellsPiece}
 use Rattle.mos_form.proofs.Telling.{on_bool, tell_as}
 use Rattle.mos_form.proofs.Opening.{head_is, key_head}
@@ -30,32 +31,7 @@ use Rattle.mos_form.proofs.Keyed.{tail_same}
 
 form_known : (p : Phrase) → form_of p ≡ f.Unknown → ⊥
 form_known (word a) e = cc
-form_known break_word e = cc
-form_known next_word e = cc
-form_known (model_text a) e = cc
-form_known (model_name a) e = cc
-form_known (uses_modules a) e = cc
-form_known (options_name a) e = cc
-form_known (definition a b) e = cc
-form_known (typed a b) e = cc
-form_known (record_of a) e = cc
-form_known (procedure a b) e = cc
-form_known (function a b c) e = cc
-form_known (forward_procedure a b) e = cc
-form_known (forward_function a b c) e = cc
-form_known (assign a b c) e = cc
-form_known (fill a b) e = cc
-form_known (call a b) e = cc
-form_known (bare a) e = cc
-form_known (if_then a) e = cc
-form_known (elif_then a) e = cc
-form_known (case_of a) e = cc
-form_known (alternative a) e = cc
-form_known (forall_in a) e = cc
-form_known (while_so a) e = cc
-form_known (until_so a) e = cc
-form_known (initializations a b) e = cc
-form_known (labels a) e = cc
+form_known _ e = cc
 
 pub known : (p : Phrase) → answer p ≡ f.Unknown → ⊥
 known p e = on_bool (nat_le (tallest p) 500)
@@ -79,14 +55,14 @@ ok_form (Err z) form P e k = tt
 -- ---- `model`, `options`
 
 model_answer : (rest : List Word) (p : Phrase) → w.Key t.Model ∷ rest ≡ words_of p → head_is p ≡ Some h.Model → answer p ≡ fixed.model rest
-model_answer rest (model_text n) e k = ap fixed.model (sym (tail_same (w.Key t.Model) (w.Key t.Model) rest (w.Text n ∷ []) e))
-model_answer rest (model_name n) e k = ap fixed.model (sym (tail_same (w.Key t.Model) (w.Key t.Model) rest (w.Name n ∷ []) e))
+model_answer rest (model (called.Quoted n)) e k = ap fixed.model (sym (tail_same (w.Key t.Model) (w.Key t.Model) rest (w.Text n ∷ []) e))
+model_answer rest (model (called.Named n)) e k = ap fixed.model (sym (tail_same (w.Key t.Model) (w.Key t.Model) rest (w.Name n ∷ []) e))
 model_answer rest (assign to_result op s) e k = absurd cc
 model_answer rest _ e k = absurd cc
 
 model_exists : (rest : List Word) → Exists (IsOther (w.Key t.Model ∷ rest)) (fixed.model rest)
-model_exists (w.Text n ∷ []) = exists (model_text n) (record { well = tt; exact = refl }, λ z. z) refl
-model_exists (w.Name n ∷ []) = exists (model_name n) (record { well = tt; exact = refl }, λ z. z) refl
+model_exists (w.Text n ∷ []) = exists (model (called.Quoted n)) (record { well = tt; exact = refl }, λ z. z) refl
+model_exists (w.Name n ∷ []) = exists (model (called.Named n)) (record { well = tt; exact = refl }, λ z. z) refl
 model_exists _ = lacks refl
 
 pub model_piece : (rest : List Word) → TellsPiece (w.Key t.Model ∷ rest) (fixed.model rest)
@@ -108,20 +84,7 @@ options_piece rest = fixed_form (IsOther (w.Key t.Options ∷ rest)) (fixed.opti
 
 keyword_single : (x : Keyword) → f.Keyword x ≡ fixed.single (token_of x) []
 keyword_single keyword.EndModel = refl
-keyword_single keyword.Parameters = refl
-keyword_single keyword.EndParameters = refl
-keyword_single keyword.Declarations = refl
-keyword_single keyword.EndDeclarations = refl
-keyword_single keyword.EndRecord = refl
-keyword_single keyword.EndProcedure = refl
-keyword_single keyword.EndFunction = refl
-keyword_single keyword.Else = refl
-keyword_single keyword.EndIf = refl
-keyword_single keyword.EndCase = refl
-keyword_single keyword.Repeat = refl
-keyword_single keyword.Do = refl
-keyword_single keyword.EndDo = refl
-keyword_single keyword.EndInitializations = refl
+keyword_single _ = refl
 
 single_answer : (kind : TokenKind) (rest : List Word) (p : Phrase) → w.Key kind ∷ rest ≡ words_of p → head_is p ≡ Some h.Single → answer p ≡ fixed.single kind rest
 single_answer kind rest (word x) e k =
@@ -169,41 +132,47 @@ single_piece kind rest e = fixed_form (IsOther (w.Key kind ∷ rest)) (fixed.sin
 abbrev some_texts : List (List ℕ) → Option (List (List ℕ))
 some_texts found = Some found
 
-texts_read : (ns : Names) (found : List (List ℕ)) → read_texts x.Want found (text_words ns) ≡ some_texts (found ++ list_of_names ns)
-texts_read (one_name n) found = refl
-texts_read (and_name n ns) found = texts_read ns (found ++ n ∷ []) ∙ ap some_texts (append_assoc found (n ∷ []) (list_of_names ns))
+texts_read : (ns : Names) → texts_of (text_words ns) ≡ some_texts (list_of_names ns)
+texts_read (one_name n) = refl
+texts_read (and_name n ns) = ap (onto (n ∷ [])) (texts_read ns)
 
-abbrev AreTexts : List Word → List (List ℕ) → List (List ℕ) → Type 0
-AreTexts words found all = (ns : Names) × (words ≡ text_words ns) × (all ≡ found ++ list_of_names ns)
+abbrev AreTexts : List Word → List (List ℕ) → Type 0
+AreTexts words all = (ns : Names) × (words ≡ text_words ns) × (all ≡ list_of_names ns)
 
-texts_known : (words : List Word) (found all : List (List ℕ)) → read_texts x.Want found words ≡ some_texts all → AreTexts words found all
-texts_known (w.Text n ∷ []) found all e = (one_name n, refl, cc)
-texts_known (w.Text n ∷ w.Key t.Comma ∷ rest) found all e =
-    let q = texts_known rest (found ++ n ∷ []) all e in
-    (and_name n q.0, ap (λ z. w.Text n ∷ w.Key t.Comma ∷ z) q.1, q.2 ∙ append_assoc found (n ∷ []) (list_of_names q.0))
-texts_known _ found all e = absurd cc
+more_texts : (n : List ℕ) (rest : List Word) (found : Option (List (List ℕ))) (all : List (List ℕ)) → ((more : List (List ℕ)) → found ≡ some_texts more → AreTexts rest more) → onto (n ∷ []) found ≡ some_texts all
+    → AreTexts (w.Text n ∷ w.Key t.Comma ∷ rest) all
+more_texts n rest None all known e = absurd cc
+more_texts n rest (Some more) all known e =
+    let q = known more refl in
+    let whole : n ∷ more ≡ all = cc in
+    (and_name n q.0, ap (λ z. w.Text n ∷ w.Key t.Comma ∷ z) q.1, sym whole ∙ ap (λ z. n ∷ z) q.2)
+
+texts_known : (words : List Word) (all : List (List ℕ)) → texts_of words ≡ some_texts all → AreTexts words all
+texts_known (w.Text n ∷ []) all e = (one_name n, refl, cc)
+texts_known (w.Text n ∷ w.Key t.Comma ∷ rest) all e = more_texts n rest (texts_of rest) all (texts_known rest) e
+texts_known _ all e = absurd cc
 
 uses_answer : (rest : List Word) (p : Phrase) → w.Key t.Uses ∷ rest ≡ words_of p → head_is p ≡ Some h.Uses → answer p ≡ uses rest
 uses_answer rest (uses_modules ns) e k =
-    sym (ap uses (tail_same (w.Key t.Uses) (w.Key t.Uses) rest (text_words ns) e) ∙ ap uses_of (texts_read ns []))
+    sym (ap uses (tail_same (w.Key t.Uses) (w.Key t.Uses) rest (text_words ns) e) ∙ ap uses_of (texts_read ns))
 uses_answer rest (assign to_result op s) e k = absurd cc
 uses_answer rest _ e k = absurd cc
 
-uses_found : (rest : List Word) (read : Option (List (List ℕ))) → read_texts x.Want [] rest ≡ read → Exists (IsOther (w.Key t.Uses ∷ rest)) (uses_of read)
+uses_found : (rest : List Word) (read : Option (List (List ℕ))) → texts_of rest ≡ read → Exists (IsOther (w.Key t.Uses ∷ rest)) (uses_of read)
 uses_found rest None e = lacks refl
 uses_found rest (Some all) e =
-    let q = texts_known rest [] all e in
+    let q = texts_known rest all e in
     exists (uses_modules q.0) (record { well = tt; exact = ap (λ z. w.Key t.Uses ∷ z) q.1 }, λ z. z) (ap f.Uses (sym q.2))
 
 pub uses_piece : (rest : List Word) → TellsPiece (w.Key t.Uses ∷ rest) (uses rest)
-uses_piece rest = fixed_form (IsOther (w.Key t.Uses ∷ rest)) (uses rest) (λ p m. uses_answer rest p m.0.exact (key_head t.Uses rest p m.1 m.0.exact)) (uses_found rest (read_texts x.Want [] rest) refl)
+uses_piece rest = fixed_form (IsOther (w.Key t.Uses ∷ rest)) (uses rest) (λ p m. uses_answer rest p m.0.exact (key_head t.Uses rest p m.1 m.0.exact)) (uses_found rest (texts_of rest) refl)
 
 -- ---- labels
 
 abbrev some_labels : List Label → Option (List Label)
 some_labels found = Some found
 
-pub labels_read : (xs : Labels) (found : List Label) → read_labels l.Want found (label_words xs) ≡ some_labels (found ++ labels_of xs)
+pub labels_read : (xs : Labels) (found : List Label) → read_labels found (label_words xs) ≡ some_labels (found ++ labels_of xs)
 labels_read (last_label n None) found = refl
 labels_read (last_label n (Some y)) found = refl
 labels_read (and_label n None xs) found = labels_read xs (lists.add found n None) ∙ ap some_labels (append_assoc found (record { name = n; shown = None } ∷ []) (labels_of xs))
@@ -212,7 +181,7 @@ labels_read (and_label n (Some y) xs) found = labels_read xs (lists.add found n 
 abbrev pub AreLabels : List Word → List Label → List Label → Type 0
 AreLabels words found all = (xs : Labels) × (words ≡ label_words xs) × (all ≡ found ++ labels_of xs)
 
-pub labels_known : (words : List Word) (found all : List Label) → read_labels l.Want found words ≡ some_labels all → AreLabels words found all
+pub labels_known : (words : List Word) (found all : List Label) → read_labels found words ≡ some_labels all → AreLabels words found all
 labels_known (w.Name n ∷ []) found all e = (last_label n None, refl, cc)
 labels_known (w.Name n ∷ w.Key t.As ∷ w.Text y ∷ []) found all e = (last_label n (Some y), refl, cc)
 labels_known (w.Name n ∷ w.Key t.Comma ∷ rest) found all e =
@@ -222,6 +191,18 @@ labels_known (w.Name n ∷ w.Key t.As ∷ w.Text y ∷ w.Key t.Comma ∷ rest) f
     let q = labels_known rest (lists.add found n (Some y)) all e in
     (and_label n (Some y) q.0, ap (λ z. w.Name n ∷ w.Key t.As ∷ w.Text y ∷ w.Key t.Comma ∷ z) q.1, q.2 ∙ append_assoc found (record { name = n; shown = Some y } ∷ []) (labels_of q.0))
 labels_known _ found all e = absurd cc
+
+-- one label, and what stands behind it
+pub label_shown : (found : List Label) (n shown : List ℕ) (behind : List Word) → read_labels found (w.Name n ∷ lists.as_text shown behind) ≡ lists.behind_label (lists.add found n (Some shown)) behind
+label_shown found n shown [] = refl
+label_shown found n shown (w.Key t.Comma ∷ rest) = refl
+label_shown found n shown _ = refl
+
+pub label_alone : (found : List Label) (n : List ℕ) (after : List Word) → AreNoPair lists.as_text after → read_labels found (w.Name n ∷ after) ≡ lists.behind_label (lists.add found n None) after
+label_alone found n [] none = refl
+label_alone found n (w.Key t.Comma ∷ rest) none = refl
+label_alone found n (w.Key t.As ∷ w.Text shown ∷ rest) none = absurd (none shown rest refl)
+label_alone found n _ none = refl
 
 pub head_model : (kind : TokenKind) → h.Model ≡ head_of kind → kind ≡ t.Model
 head_model t.Model e = refl

@@ -9,7 +9,7 @@ use Rattle.mos_tree.specs.declared.statement.Reference.TheVariants as reference
 use Rattle.mos_scan.specs.declared.token.TokenKind.TheVariants as t
 use Rattle.mos_scan.specs.declared.reading.Word.{Word}
 use Rattle.mos_scan.specs.declared.reading.Word.TheVariants as w
-use Rattle.mos_expr.specs.Grammar.{Syntax, Over, IsSpelled, IsIndexSpelled, IsGrouped, spell, spell_over, height, height_over, tree, index_of}
+use Rattle.mos_expr.specs.Grammar.{Syntax, Over, IsGrouped, spell, spell_over, height, height_over, tree, index_of, IsGroupedOver}
 use Rattle.mos_typing.specs.Typing.{key, in_brackets}
 use Rattle.mos_tree.specs.declared.form.Form.{Form}
 use Rattle.mos_tree.specs.declared.form.Form.TheVariants as f
@@ -18,9 +18,8 @@ use Rattle.mos_tree.specs.declared.form.ConditionKeyword.TheVariants as conditio
 use Rattle.mos_form.specs.declared.head.Head.TheVariants as h
 use Rattle.mos_form.specs.Heads.{head_of}
 use Rattle.mos_form.specs.Cuts.{direction_of, operator_of}
-use Rattle.mos_form.specs.Fixed.{condition_word, around}
-use Rattle.mos_form.specs.Phrases.{to_result, Phrase, assign, if_then, elif_then, case_of, forall_in, while_so, until_so, initializations, direction_word, operator_word, words_of, IsWell, IsPhrase, answer}
-use Rattle.mos_form.specs.Telling.{untold, by_height, IsAlternative, IsOther, TellsOne, TellsIndex, TellsPiece, assigned}
+use Rattle.mos_form.specs.Phrases.{to_result, Phrase, assign, guarded, forall_in, initializations, direction_word, operator_word, condition_word, around, IsPhrase, answer}
+use Rattle.mos_form.specs.Telling.{untold, by_height, IsOther, TellsOne, TellsIndex, TellsPiece, assigned, Writes}
 use Rattle.mos_form.proofs.Telling.{embed_ok}
 use Rattle.mos_form.proofs.Opening.{head_is, key_head}
 use Rattle.mos_form.proofs.Parting.{operator_known, operator_same, operator_none, zero_max}
@@ -35,110 +34,50 @@ brackets_same a b e = append_cancel_right a b (key t.CloseRound) cc
 pub no_piece : (words : List Word) → ((p : Phrase) → IsOther words p → ⊥) → TellsPiece words f.Unknown
 no_piece words none = untold none
 
--- the same words
-pub same_words : {E : Type 0} (a b : List Word) (r : Result Form E) → a ≡ b → IfOk r (TellsPiece b) → IfOk r (TellsPiece a)
-same_words a b r e k = subst (λ z. IfOk r (TellsPiece z)) (sym e) k
-
-pub same_words_form : (a b : List Word) (form : Form) → a ≡ b → TellsPiece b form → TellsPiece a form
-same_words_form a b form e k = subst (λ z. TellsPiece z form) (sym e) k
-
 -- ---- a keyword and its condition
-
-abbrev guard_phrase : ConditionKeyword → Syntax → Phrase
-guard_phrase condition.If s = if_then s
-guard_phrase condition.Elif s = elif_then s
-guard_phrase condition.Case s = case_of s
-guard_phrase condition.While s = while_so s
-guard_phrase condition.Until s = until_so s
-
-guard_words : (g : ConditionKeyword) (s : Syntax) → words_of (guard_phrase g s) ≡ w.Key (condition_word g) ∷ around g (spell s)
-guard_words condition.If s = refl
-guard_words condition.Elif s = refl
-guard_words condition.Case s = refl
-guard_words condition.While s = refl
-guard_words condition.Until s = refl
-
-guard_answer : (g : ConditionKeyword) (s : Syntax) → answer (guard_phrase g s) ≡ by_height (height s) (f.Guarded g (tree s))
-guard_answer condition.If s = refl
-guard_answer condition.Elif s = refl
-guard_answer condition.Case s = refl
-guard_answer condition.While s = refl
-guard_answer condition.Until s = refl
-
-guard_well : (g : ConditionKeyword) (s : Syntax) → IsGrouped s → IsWell (guard_phrase g s)
-guard_well condition.If s k = k
-guard_well condition.Elif s k = k
-guard_well condition.Case s k = k
-guard_well condition.While s k = k
-guard_well condition.Until s k = k
-
-guard_grouped : (g : ConditionKeyword) (s : Syntax) → IsWell (guard_phrase g s) → IsGrouped s
-guard_grouped condition.If s k = k
-guard_grouped condition.Elif s k = k
-guard_grouped condition.Case s k = k
-guard_grouped condition.While s k = k
-guard_grouped condition.Until s k = k
-
-guard_other : (g : ConditionKeyword) (s : Syntax) → IsAlternative (guard_phrase g s) → ⊥
-guard_other condition.If s k = k
-guard_other condition.Elif s k = k
-guard_other condition.Case s k = k
-guard_other condition.While s k = k
-guard_other condition.Until s k = k
 
 guard_head : (g : ConditionKeyword) → Some (head_of (condition_word g)) ≡ Some (h.Guarded g)
 guard_head condition.If = refl
-guard_head condition.Elif = refl
-guard_head condition.Case = refl
-guard_head condition.While = refl
-guard_head condition.Until = refl
+guard_head _ = refl
 
 around_same : (g : ConditionKeyword) (a b : List Word) → around g a ≡ around g b → a ≡ b
-around_same condition.If a b e = append_cancel_right a b (key t.Then) e
-around_same condition.Elif a b e = append_cancel_right a b (key t.Then) e
 around_same condition.Case a b e = append_cancel_right a b (key t.Of) e
 around_same condition.While a b e = brackets_same a b e
 around_same condition.Until a b e = e
+around_same _ a b e = append_cancel_right a b (key t.Then) e
 
-abbrev IsGuard : ConditionKeyword → Phrase → Type 0
-IsGuard g p = (s : Syntax) × (p ≡ guard_phrase g s)
-
-guard_back : (g : ConditionKeyword) (p : Phrase) → head_is p ≡ Some (h.Guarded g) → IsGuard g p
-guard_back g (if_then s) e = let q : condition.If ≡ g = cc in (s, subst (λ z. if_then s ≡ guard_phrase z s) q refl)
-guard_back g (elif_then s) e = let q : condition.Elif ≡ g = cc in (s, subst (λ z. elif_then s ≡ guard_phrase z s) q refl)
-guard_back g (case_of s) e = let q : condition.Case ≡ g = cc in (s, subst (λ z. case_of s ≡ guard_phrase z s) q refl)
-guard_back g (while_so s) e = let q : condition.While ≡ g = cc in (s, subst (λ z. while_so s ≡ guard_phrase z s) q refl)
-guard_back g (until_so s) e = let q : condition.Until ≡ g = cc in (s, subst (λ z. until_so s ≡ guard_phrase z s) q refl)
+guard_back : (g : ConditionKeyword) (p : Phrase) → head_is p ≡ Some (h.Guarded g) → (s : Syntax) × (p ≡ guarded g s)
+guard_back g (guarded k s) e = let q : k ≡ g = cc in (s, ap (λ z. guarded z s) q)
 guard_back g (assign to_result op s) e = absurd cc
 guard_back g _ e = absurd cc
 
 -- a piece with this guard has a condition
-guard_spelled : (g : ConditionKeyword) (rest : List Word) (p : Phrase) → IsOther (w.Key (condition_word g) ∷ rest) p → (s : Syntax) × IsGrouped s × (rest ≡ around g (spell s)) × (p ≡ guard_phrase g s)
+guard_spelled : (g : ConditionKeyword) (rest : List Word) (p : Phrase) → IsOther (w.Key (condition_word g) ∷ rest) p → (s : Syntax) × IsGrouped s × (rest ≡ around g (spell s)) × (p ≡ guarded g s)
 guard_spelled g rest p k =
     let q = guard_back g p (key_head (condition_word g) rest p k.1 k.0.exact ∙ guard_head g) in
     let m = subst (IsPhrase (w.Key (condition_word g) ∷ rest)) q.1 k.0 in
-    (q.0, guard_grouped g q.0 m.well, tail_same (w.Key (condition_word g)) (w.Key (condition_word g)) rest (around g (spell q.0)) (m.exact ∙ guard_words g q.0), q.1)
+    (q.0, m.well, tail_same (w.Key (condition_word g)) (w.Key (condition_word g)) rest (around g (spell q.0)) m.exact, q.1)
 
 pub condition_piece : {E : Type 0} (g : ConditionKeyword) (rest inside : List Word) → rest ≡ around g inside → (r : Result Form E) → IfOk r (TellsOne (λ x. f.Guarded g x) inside) → IfOk r (TellsPiece (w.Key (condition_word g) ∷ rest))
 condition_piece g rest inside e r k =
-    embed_ok (IsSpelled inside) (λ s. by_height (height s) (f.Guarded g (tree s))) (IsOther (w.Key (condition_word g) ∷ rest)) answer (guard_phrase g)
-    (λ s m. (record { well = guard_well g s m.grouped; exact = ap (λ z. w.Key (condition_word g) ∷ z) (e ∙ ap (around g) m.exact) ∙ sym (guard_words g s) }, guard_other g s))
+    embed_ok (Writes IsGrouped spell inside) (λ s. by_height (height s) (f.Guarded g (tree s))) (IsOther (w.Key (condition_word g) ∷ rest)) answer (guarded g)
+    (λ s m. (record { well = m.grouped; exact = ap (λ z. w.Key (condition_word g) ∷ z) (e ∙ ap (around g) m.exact) }, λ z. z))
     (λ p m. let q = guard_spelled g rest p m in (q.0, record { grouped = q.1; exact = around_same g inside (spell q.0) (sym e ∙ q.2) }, q.3))
-    (guard_answer g) r k
+    (λ s. refl) r k
 
 pub no_condition : (g : ConditionKeyword) (rest : List Word) → ((inside : List Word) → rest ≡ around g inside → ⊥) → TellsPiece (w.Key (condition_word g) ∷ rest) f.Unknown
 no_condition g rest none = no_piece (w.Key (condition_word g) ∷ rest) (λ p m. let q = guard_spelled g rest p m in none (spell q.0) q.2)
 
 -- ---- `forall`
 
-forall_back : (rest : List Word) (p : Phrase) → IsPhrase (w.Key t.Forall ∷ rest) p → head_is p ≡ Some h.Forall → (i : Over) × IsIndexSpelled (spell_over i) i × (rest ≡ in_brackets (spell_over i)) × (p ≡ forall_in i)
+forall_back : (rest : List Word) (p : Phrase) → IsPhrase (w.Key t.Forall ∷ rest) p → head_is p ≡ Some h.Forall → (i : Over) × Writes IsGroupedOver spell_over (spell_over i) i × (rest ≡ in_brackets (spell_over i)) × (p ≡ forall_in i)
 forall_back rest (forall_in i) k e = (i, record { grouped = k.well; exact = refl }, tail_same (w.Key t.Forall) (w.Key t.Forall) rest (in_brackets (spell_over i)) k.exact, refl)
 forall_back rest (assign to_result op s) k e = absurd cc
 forall_back rest _ k e = absurd cc
 
 pub forall_piece : {E : Type 0} (rest inside : List Word) → rest ≡ in_brackets inside → (r : Result Form E) → IfOk r (TellsIndex (λ x. f.Forall x) inside) → IfOk r (TellsPiece (w.Key t.Forall ∷ rest))
 forall_piece rest inside e r k =
-    embed_ok (IsIndexSpelled inside) (λ i. by_height (height_over i) (f.Forall (index_of i))) (IsOther (w.Key t.Forall ∷ rest)) answer forall_in
+    embed_ok (Writes IsGroupedOver spell_over inside) (λ i. by_height (height_over i) (f.Forall (index_of i))) (IsOther (w.Key t.Forall ∷ rest)) answer forall_in
     (λ i m. (record { well = m.grouped; exact = ap (λ z. w.Key t.Forall ∷ z) (e ∙ ap in_brackets m.exact) }, λ z. z))
     (λ p m. let q = forall_back rest p m.0 (key_head t.Forall rest p m.1 m.0.exact) in
     (q.0, record { grouped = q.1.grouped; exact = brackets_same inside (spell_over q.0) (sym e ∙ q.2) }, q.3))
@@ -161,7 +100,7 @@ direction_known (w.Key t.From) d e = let q : d ≡ direction.From = cc in rw q r
 direction_known (w.Key t.To) d e = let q : d ≡ direction.To = cc in rw q refl
 direction_known _ d e = absurd cc
 
-direction_read : (d : Direction) → direction_of (direction_word d) ≡ Some d
+pub direction_read : (d : Direction) → direction_of (direction_word d) ≡ Some d
 direction_read direction.From = refl
 direction_read direction.To = refl
 
@@ -171,7 +110,7 @@ direction_same x a b e q = let r : Some a ≡ Some b = e ∙ ap direction_of q �
 pub data_piece : {E : Type 0} (d : Direction) (x : Word) (rest name : List Word) → Some d ≡ direction_of x → rest ≡ x ∷ name → (r : Result Form E)
     → IfOk r (TellsOne (λ x. f.Initializations d x) name) → IfOk r (TellsPiece (w.Key t.Initializations ∷ rest))
 data_piece d x rest name is e r k =
-    embed_ok (IsSpelled name) (λ s. by_height (height s) (f.Initializations d (tree s))) (IsOther (w.Key t.Initializations ∷ rest)) answer (initializations d)
+    embed_ok (Writes IsGrouped spell name) (λ s. by_height (height s) (f.Initializations d (tree s))) (IsOther (w.Key t.Initializations ∷ rest)) answer (initializations d)
     (λ s m. (record { well = m.grouped; exact = ap (λ z. w.Key t.Initializations ∷ z) (e ∙ ap (λ z. z ∷ name) (direction_known x d is) ∙ ap (λ z. direction_word d ∷ z) m.exact) }, λ z. z))
     (λ p m. let q = data_back rest p m.0 (key_head t.Initializations rest p m.1 m.0.exact) in
     let both : x ∷ name ≡ direction_word q.0 ∷ spell q.1 = sym e ∙ q.3 in
@@ -203,7 +142,7 @@ result_answer op s = ap (λ n. by_height n (assigned reference.Returned op (tree
 pub result_piece : {E : Type 0} (op : Assignment) (x : Word) (rest value : List Word) → Some op ≡ operator_of x → rest ≡ x ∷ value → (r : Result Form E)
     → IfOk r (TellsOne (assigned reference.Returned op) value) → IfOk r (TellsPiece (w.Key t.Returned ∷ rest))
 result_piece op x rest value is e r k =
-    embed_ok (IsSpelled value) (λ s. by_height (height s) (assigned reference.Returned op (tree s))) (IsOther (w.Key t.Returned ∷ rest)) answer (assign to_result op)
+    embed_ok (Writes IsGrouped spell value) (λ s. by_height (height s) (assigned reference.Returned op (tree s))) (IsOther (w.Key t.Returned ∷ rest)) answer (assign to_result op)
     (λ s m. (record { well = (tt, m.grouped); exact = ap (λ z. w.Key t.Returned ∷ z) (e ∙ ap (λ z. z ∷ value) (operator_known x op is) ∙ ap (λ z. operator_word op ∷ z) m.exact) }, λ z. z))
     (λ p m. let q = result_back rest p m.0 (key_head t.Returned rest p m.1 m.0.exact) in
     let both : x ∷ value ≡ operator_word q.0 ∷ spell q.1 = sym e ∙ q.3 in

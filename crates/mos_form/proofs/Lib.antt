@@ -3,9 +3,11 @@ pub mod Exactly
 pub mod Keyed
 pub mod Listing
 pub mod Named
+pub mod OneForm
 pub mod Opening
 pub mod Parting
 pub mod Routines
+pub mod Same
 pub mod Sizes
 pub mod Spelled
 pub mod Telling

@@ -7,14 +7,14 @@ use Rattle.mos_scan.specs.declared.token.TokenKind.TheVariants as t
 use Rattle.mos_scan.specs.declared.reading.Word.{Word}
 use Rattle.mos_scan.specs.declared.reading.Word.TheVariants as w
 use Rattle.mos_expr.specs.Grammar.{Names, one_name, and_name, list_of_names, spell_names}
-use Rattle.mos_typing.specs.Typing.{Typing, IsTyping, typing_words, type_of, tallest_type}
+use Rattle.mos_typing.specs.Typing.{Typing, typing_words, type_of, tallest_type, TypeIsGrouped}
 use Rattle.mos_typing.specs.Words.{is_plain, ArePlain}
 use Rattle.mos_tree.specs.declared.form.Form.{Form}
 use Rattle.mos_tree.specs.declared.form.Form.TheVariants as f
 use Rattle.mos_form.specs.declared.head.Next.TheVariants as next
 use Rattle.mos_form.specs.Heads.{next_of}
 use Rattle.mos_form.specs.Phrases.{to_name, Labels, last_label, and_label, Phrase, typed, assign, alternative, labels, label_words, IsPhrase, answer}
-use Rattle.mos_form.specs.Telling.{untold, by_height, IsAlternative, IsOther, TellsPiece, IsListed, TellsList, AreTyped, TellsTyped}
+use Rattle.mos_form.specs.Telling.{untold, by_height, IsAlternative, IsOther, TellsPiece, IsListed, TellsList, AreTyped, TellsTyped, Writes}
 use Rattle.mos_form.specs.Lists as lists
 use Rattle.mos_form.proofs.Telling.{embed_ok}
 use Rattle.mos_form.proofs.Opening.{next_is, name_next}
@@ -25,14 +25,13 @@ use Rattle.mos_form.proofs.Exactly.{labels_read, labels_known}
 use Rattle.mos_form.specs.Telling.{TellsType, HasMore}
 use Rattle.mos_form.specs.Lists.{read_labels}
 use Rattle.mos_form.specs.Phrases.{LabelsAre}
-use Rattle.mos_form.specs.declared.lists.LabelMode.TheVariants as l
 use Rattle.mos_tree.specs.declared.statement.Label.{Label}
 
-plain_names : (ns : Names) → ArePlain (spell_names ns)
+pub plain_names : (ns : Names) → ArePlain (spell_names ns)
 plain_names (one_name n) = refl
 plain_names (and_name n ns) = plain_names ns
 
-names_same : (a b : Names) → spell_names a ≡ spell_names b → a ≡ b
+pub names_same : (a b : Names) → spell_names a ≡ spell_names b → a ≡ b
 names_same (one_name n) (one_name m) e = cc
 names_same (one_name n) (and_name m (one_name k)) e = absurd cc
 names_same (one_name n) (and_name m (and_name k ks)) e = absurd cc
@@ -50,11 +49,11 @@ abbrev either : Bool → Bool → Bool
 either true b = true
 either false b = b
 
-abbrev has_colon : List Word → Bool
+abbrev pub has_colon : List Word → Bool
 has_colon [] = false
 has_colon (x ∷ xs) = either (is_colon x) (has_colon xs)
 
-no_colon : (xs : Labels) → has_colon (label_words xs) ≡ false
+pub no_colon : (xs : Labels) → has_colon (label_words xs) ≡ false
 no_colon (last_label n None) = refl
 no_colon (last_label n (Some y)) = refl
 no_colon (and_label n None xs) = no_colon xs
@@ -64,7 +63,7 @@ either_true : (b : Bool) → either b true ≡ true
 either_true true = refl
 either_true false = refl
 
-a_colon : (xs ys : List Word) → has_colon (xs ++ w.Key t.Colon ∷ ys) ≡ true
+pub a_colon : (xs ys : List Word) → has_colon (xs ++ w.Key t.Colon ∷ ys) ≡ true
 a_colon [] ys = refl
 a_colon (x ∷ xs) ys = ap (either (is_colon x)) (a_colon xs ys) ∙ either_true (is_colon x)
 
@@ -100,14 +99,14 @@ labels_well words (last_label n None) more e = absurd (subst HasMore e more)
 labels_well words (last_label n (Some y)) more e = tt
 labels_well words (and_label n shown xs) more e = tt
 
-labels_found : (words : List Word) → HasMore words → (read : Option (List Label)) → read_labels l.Want [] words ≡ read → Exists (IsList words) (lists.labels_of read)
+labels_found : (words : List Word) → HasMore words → (read : Option (List Label)) → read_labels [] words ≡ read → Exists (IsList words) (lists.labels_of read)
 labels_found words more None e = lacks refl
 labels_found words more (Some all) e =
     let q = labels_known words [] all e in
     exists (labels q.0) (record { well = labels_well words q.0 more q.1; exact = q.1 }, tt) (ap f.Labels (sym q.2))
 
-labels_piece : (words : List Word) → HasMore words → ((ns : Names) (x : Typing) → words ≡ spell_names ns ++ w.Key t.Colon ∷ typing_words x → ⊥) → TellsList words (lists.labels words)
-labels_piece words more none = fixed_form (IsList words) (lists.labels words) (λ p m. labels_answer words p none m) (labels_found words more (read_labels l.Want [] words) refl)
+pub labels_piece : (words : List Word) → HasMore words → ((ns : Names) (x : Typing) → words ≡ spell_names ns ++ w.Key t.Colon ∷ typing_words x → ⊥) → TellsList words (lists.labels words)
+labels_piece words more none = fixed_form (IsList words) (lists.labels words) (λ p m. labels_answer words p none m) (labels_found words more (read_labels [] words) refl)
 
 not_all : (xs ys : List Word) (y : Word) → is_plain y ≡ false → ArePlain (xs ++ y ∷ ys) → ⊥
 not_all xs ys y e k = let q : true ≡ false = sym k ∙ list_all-append is_plain xs (y ∷ ys) ∙ rw e (both_false (list_all is_plain xs)) in cc
@@ -128,7 +127,7 @@ labels_cut words front behind y more plain not_plain e none = labels_piece words
 pub names_with : {E : Type 0} (front behind : List Word) (all : List (List ℕ)) → (ns : Names) × (front ≡ spell_names ns) × (all ≡ list_of_names ns) → (r : Result Form E)
     → IfOk r (TellsType (λ x. f.Typed all x) behind) → IfOk r (TellsTyped front behind)
 names_with front behind all found r k =
-    embed_ok (IsTyping behind) (λ x. by_height (tallest_type x) (f.Typed (list_of_names found.0) (type_of x))) (AreTyped front behind) (λ p. by_height (tallest_type p.1) (f.Typed (list_of_names p.0) (type_of p.1))) (λ x. (found.0, x))
+    embed_ok (Writes TypeIsGrouped typing_words behind) (λ x. by_height (tallest_type x) (f.Typed (list_of_names found.0) (type_of x))) (AreTyped front behind) (λ p. by_height (tallest_type p.1) (f.Typed (list_of_names p.0) (type_of p.1))) (λ x. (found.0, x))
     (λ x m. (found.1, m))
     (λ q a. (q.1, a.1, pair_same q.0 found.0 q.1 (names_same q.0 found.0 (sym a.0 ∙ found.1))))
     (λ x. refl) r (subst (λ z. IfOk r (TellsType (λ x. f.Typed z x) behind)) found.2 k)

@@ -9,7 +9,7 @@ use Rattle.mos_tree.specs.declared.statement.Reference.TheVariants as reference
 use Rattle.mos_scan.specs.declared.token.TokenKind.TheVariants as t
 use Rattle.mos_scan.specs.declared.reading.Word.{Word}
 use Rattle.mos_scan.specs.declared.reading.Word.TheVariants as w
-use Rattle.mos_expr.specs.Grammar.{one_name, and_name, Syntax, Written, IsSpelled, AreSpelled, IsGrouped, AreGrouped, spell, spell_list, height, heights, tree, trees}
+use Rattle.mos_expr.specs.Grammar.{one_name, and_name, Syntax, Written, IsGrouped, AreGrouped, spell, spell_list, height, heights, tree, trees}
 use Rattle.mos_typing.specs.Typing.{key}
 use Rattle.mos_typing.specs.Words.{is_plain, SyntaxIsPlain}
 use Rattle.mos_tree.specs.declared.form.Form.{Form}
@@ -18,9 +18,9 @@ use Rattle.mos_form.specs.declared.head.Next.TheVariants as next
 use Rattle.mos_form.specs.Heads.{next_of}
 use Rattle.mos_form.specs.Cuts.{operator_of, is_record}
 use Rattle.mos_form.specs.Phrases.{to_name, to_cell, to_field, last_label, and_label, Phrase, definition, typed, record_of, assign, fill, bare, alternative, labels, operator_word, words_of, IsWell, IsPhrase, answer}
-use Rattle.mos_form.specs.Telling.{by_height, IsAlternative, IsOther, TellsPiece, TellsOne, TellsAll, assigned, filled}
+use Rattle.mos_form.specs.Telling.{by_height, IsAlternative, IsOther, TellsPiece, TellsOne, TellsAll, assigned, filled, Writes}
 use Rattle.mos_form.proofs.Telling.{embed_ok, tell_as}
-use Rattle.mos_form.proofs.Opening.{next_is, name_next}
+use Rattle.mos_form.proofs.Opening.{next_is, name_next, operator_next}
 use Rattle.mos_form.proofs.Parting.{operator_none, zero_max}
 use Rattle.mos_form.proofs.Keyed.{tail_same, no_piece}
 
@@ -57,7 +57,7 @@ bare_piece words rest n m e r q =
 
 -- ---- `=`
 
-record_words : (behind : List Word) → is_record behind ≡ true → behind ≡ w.Key t.Record ∷ []
+pub record_words : (behind : List Word) → is_record behind ≡ true → behind ≡ w.Key t.Record ∷ []
 record_words (w.Key t.Record ∷ []) e = refl
 record_words _ e = absurd cc
 
@@ -75,7 +75,7 @@ record_piece plain n m behind is q =
     (tell_as (IsOther (w.Name n ∷ w.Key t.Equal ∷ w.Key t.Record ∷ [])) answer (f.RecordOf n) (record_of n) (record { well = tt; exact = refl }, λ z. z) refl
     (λ p k. record_answer plain n p k.0.exact (says n (w.Key t.Equal) (w.Key t.Record ∷ []) p k))))
 
-value_back : (n : List ℕ) (behind : List Word) (p : Phrase) → is_record behind ≡ false → IsPhrase (w.Name n ∷ w.Key t.Equal ∷ behind) p → next_is p ≡ Some next.Equal → (s : Syntax) × IsSpelled behind s × (p ≡ definition n s)
+value_back : (n : List ℕ) (behind : List Word) (p : Phrase) → is_record behind ≡ false → IsPhrase (w.Name n ∷ w.Key t.Equal ∷ behind) p → next_is p ≡ Some next.Equal → (s : Syntax) × Writes IsGrouped spell behind s × (p ≡ definition n s)
 value_back n behind (definition m s) is k e =
     let q = k.exact in (
       s,
@@ -91,7 +91,7 @@ value_back n behind _ is k e = absurd cc
 pub value_piece : {E : Type 0} (n : List ℕ) (behind : List Word) → is_record behind ≡ false → (r : Result Form E)
     → IfOk r (TellsOne (λ x. f.Definition n x) behind) → IfOk r (TellsPiece (w.Name n ∷ w.Key t.Equal ∷ behind))
 value_piece n behind is r k =
-    embed_ok (IsSpelled behind) (λ s. by_height (height s) (f.Definition n (tree s))) (IsOther (w.Name n ∷ w.Key t.Equal ∷ behind)) answer (definition n)
+    embed_ok (Writes IsGrouped spell behind) (λ s. by_height (height s) (f.Definition n (tree s))) (IsOther (w.Name n ∷ w.Key t.Equal ∷ behind)) answer (definition n)
     (λ s m. (record { well = m.grouped; exact = ap (λ z. w.Name n ∷ w.Key t.Equal ∷ z) m.exact }, λ z. z))
     (λ p m. value_back n behind p is m.0 (says n (w.Key t.Equal) behind p m))
     (λ s. refl) r k
@@ -117,7 +117,7 @@ fill_back n behind _ k e = absurd cc
 pub fill_piece : {E : Type 0} (n : List ℕ) (behind inside : List Word) → behind ≡ in_squares inside → (r : Result Form E)
     → IfOk r (TellsAll (filled n) inside) → IfOk r (TellsPiece (w.Name n ∷ w.Key t.Fill ∷ behind))
 fill_piece n behind inside e r k =
-    embed_ok (AreSpelled inside) (λ xs. by_height (heights xs) (filled n (trees xs))) (IsOther (w.Name n ∷ w.Key t.Fill ∷ behind)) answer (fill n)
+    embed_ok (Writes AreGrouped spell_list inside) (λ xs. by_height (heights xs) (filled n (trees xs))) (IsOther (w.Name n ∷ w.Key t.Fill ∷ behind)) answer (fill n)
     (λ xs m. (record { well = m.grouped; exact = ap (λ z. w.Name n ∷ w.Key t.Fill ∷ z) (e ∙ ap in_squares m.exact) }, λ z. z))
     (λ p m. let q = fill_back n behind p m.0 (says n (w.Key t.Fill) behind p m) in
     (q.0, record { grouped = q.1; exact = squares_same inside (spell_list q.0) (sym e ∙ q.2) }, q.3))
@@ -129,13 +129,8 @@ no_fill n behind none = no_piece (w.Name n ∷ w.Key t.Fill ∷ behind)
 
 -- ---- a variable that is assigned to
 
-operator_next : (op : Assignment) → Some (next_of (operator_word op)) ≡ Some (next.Assigns op)
-operator_next assignment.Set = refl
-operator_next assignment.Add = refl
-operator_next assignment.Take = refl
-
 variable_back : (n : List ℕ) (op : Assignment) (behind : List Word) (p : Phrase) → IsPhrase (w.Name n ∷ operator_word op ∷ behind) p → next_is p ≡ Some (next.Assigns op)
-    → (s : Syntax) × IsSpelled behind s × (p ≡ assign (to_name n) op s)
+    → (s : Syntax) × Writes IsGrouped spell behind s × (p ≡ assign (to_name n) op s)
 variable_back n op behind (assign (to_name m) q s) k e =
     let same : q ≡ op = cc in (
       s,
@@ -150,9 +145,9 @@ variable_answer n op s = ap (λ h. by_height h (assigned (reference.Name n) op (
 pub variable_piece : {E : Type 0} (n m : List ℕ) (op : Assignment) (behind : List Word) → m ≡ n → (r : Result Form E)
     → IfOk r (TellsOne (assigned (reference.Name m) op) behind) → IfOk r (TellsPiece (w.Name n ∷ operator_word op ∷ behind))
 variable_piece n m op behind q r k =
-    embed_ok (IsSpelled behind) (λ s. by_height (height s) (assigned (reference.Name n) op (tree s))) (IsOther (w.Name n ∷ operator_word op ∷ behind)) answer (assign (to_name n) op)
+    embed_ok (Writes IsGrouped spell behind) (λ s. by_height (height s) (assigned (reference.Name n) op (tree s))) (IsOther (w.Name n ∷ operator_word op ∷ behind)) answer (assign (to_name n) op)
     (λ s m. (record { well = (tt, m.grouped); exact = ap (λ z. w.Name n ∷ operator_word op ∷ z) m.exact }, λ z. z))
-    (λ p m. variable_back n op behind p m.0 (says n (operator_word op) behind p m ∙ operator_next op))
+    (λ p m. variable_back n op behind p m.0 (says n (operator_word op) behind p m ∙ ap (λ z. Some z) (operator_next op)))
     (variable_answer n op) r (subst (λ z. IfOk r (TellsOne (assigned (reference.Name z) op) behind)) q k)
 
 -- ---- a field that is assigned to
@@ -190,7 +185,7 @@ operator_one assignment.Take _ e = absurd cc
 pub field_piece : {E : Type 0} (n m g h : List ℕ) (op : Assignment) (value : List Word) → m ≡ n → h ≡ g → (r : Result Form E)
     → IfOk r (TellsOne (assigned (reference.Field m h) op) value) → IfOk r (TellsPiece (w.Name n ∷ w.Key t.Dot ∷ field_words g op value))
 field_piece n m g h op value q i r k =
-    embed_ok (IsSpelled value) (λ s. by_height (height s) (assigned (reference.Field n g) op (tree s))) (IsOther (w.Name n ∷ w.Key t.Dot ∷ field_words g op value)) answer (assign (to_field n g) op)
+    embed_ok (Writes IsGrouped spell value) (λ s. by_height (height s) (assigned (reference.Field n g) op (tree s))) (IsOther (w.Name n ∷ w.Key t.Dot ∷ field_words g op value)) answer (assign (to_field n g) op)
     (λ s m. (record { well = (tt, m.grouped); exact = ap (λ z. w.Name n ∷ w.Key t.Dot ∷ field_words g op z) m.exact }, λ z. z))
     (λ p m. let d = dot_of n (field_words g op value) p m in
     let both : field_words g op value ≡ field_words d.0 d.1 (spell d.2) = d.4 in

@@ -1,8 +1,7 @@
 -- Words that are cut in one way only.
 
-use Rattle.std.proofs.Common.{◌≡◌, ℕ, suc, ◌+◌, Bool, true, false, eqb, List, [], ◌∷◌, ◌++◌, length, take, drop, min, max, Some, None, refl, sym, ◌∙◌, ap, subst, arith}
+use Rattle.std.proofs.Common.{◌≡◌, ℕ, suc, ◌+◌, Bool, true, false, List, [], ◌∷◌, ◌++◌, length, take, drop, min, max, Some, None, refl, sym, ◌∙◌, ap, subst, arith}
 use Rattle.std.specs.List.{prefix_len}
-use Rattle.std.proofs.lemmas.Bool.{eqb-true}
 use Rattle.std.proofs.lemmas.List.{append_assoc, take-append-drop}
 use Rattle.std.proofs.lemmas.List.Folds.{list_all-append}
 use Rattle.std.proofs.lemmas.List.Sums.{prefix_len-le-length}
@@ -11,45 +10,11 @@ use Rattle.mos_tree.specs.declared.statement.Assignment.TheVariants as assignmen
 use Rattle.mos_scan.specs.declared.token.TokenKind.TheVariants as t
 use Rattle.mos_scan.specs.declared.reading.Word.{Word}
 use Rattle.mos_scan.specs.declared.reading.Word.TheVariants as w
-use Rattle.mos_expr.specs.Grammar.{Leaf, number, text, truth, name, returned, field, Syntax, leaf, call, call_field, set, list, bracket, if_expr, convert, before, between, aggregate, counted, Written, no_more, one_more, spell, spell_rest, spell_between}
+use Rattle.mos_expr.specs.Grammar.{before}
 use Rattle.mos_typing.specs.Words.{is_plain, ArePlain}
 use Rattle.mos_form.specs.Cuts.{operator_of}
 use Rattle.mos_form.specs.Phrases.{operator_word}
-use Rattle.mos_form.specs.Telling.{AreSome}
 use Rattle.mos_form.proofs.Telling.{on_bool}
-
-pub nil_from : (xs : List Word) → eqb (length xs) 0 ≡ true → xs ≡ []
-nil_from [] e = refl
-nil_from (x ∷ xs) e = absurd (omega (arith, eqb-true (length (x ∷ xs)) 0 e))
-
--- ---- an expression has a word
-
-leaf_full : (x : Leaf) (rest : List Word) → spell (leaf x) ++ rest ≡ [] → ⊥
-leaf_full (number n) rest e = cc
-leaf_full (text x) rest e = cc
-leaf_full (truth true) rest e = cc
-leaf_full (truth false) rest e = cc
-leaf_full (name n) rest e = cc
-leaf_full returned rest e = cc
-leaf_full (field n f) rest e = cc
-
-pub full : (s : Syntax) (rest : List Word) → spell s ++ rest ≡ [] → ⊥
-full (leaf x) rest e = leaf_full x rest e
-full (call n xs) rest e = cc
-full (call_field n xs f) rest e = cc
-full (set xs) rest e = cc
-full (list xs) rest e = cc
-full (bracket s) rest e = cc
-full (if_expr x y z) rest e = cc
-full (convert c s) rest e = cc
-full (before p s) rest e = cc
-full (between op x y) rest e = full x ((spell_between op ++ spell y) ++ rest) (sym (append_assoc (spell x) (spell_between op ++ spell y) rest) ∙ e)
-full (aggregate g i s) rest e = cc
-full (counted i) rest e = cc
-
-pub none_written : (words : List Word) (ss : Written) → words ≡ [] → AreSome words ss → ⊥
-none_written words no_more e h = h.1 refl
-none_written words (one_more s ss) e h = full s (spell_rest ss) (sym h.0.exact ∙ e)
 
 -- ---- at the end
 
@@ -147,16 +112,14 @@ operator_known _ op e = absurd cc
 
 pub operator_read : (op : Assignment) → operator_of (operator_word op) ≡ Some op
 operator_read assignment.Set = refl
-operator_read assignment.Add = refl
-operator_read assignment.Take = refl
+operator_read _ = refl
 
 pub operator_none : (x : Word) → None ≡ operator_of x → (op : Assignment) → x ≡ operator_word op → ⊥
 operator_none x e op q = let r : None ≡ Some op = e ∙ ap operator_of q ∙ operator_read op in cc
 
 pub operator_parts : (op : Assignment) → is_plain (operator_word op) ≡ false
 operator_parts assignment.Set = refl
-operator_parts assignment.Add = refl
-operator_parts assignment.Take = refl
+operator_parts _ = refl
 
 -- ---- what the cut gives
 

@@ -1,6 +1,6 @@
 -- Headings of routines, alone or behind `forward`.
 
-use Rattle.std.proofs.Common.{◌≡◌, ℕ, Bool, true, false, List, [], ◌∷◌, ◌++◌, Some, None, Result, IfOk, refl, sym, ◌∙◌, ap}
+use Rattle.std.proofs.Common.{◌≡◌, ℕ, Bool, true, false, List, [], ◌∷◌, ◌++◌, Option, Some, None, Result, IfOk, refl, sym, ◌∙◌, ap}
 use Rattle.mos_tree.specs.declared.declaration.BaseType.{BaseType}
 use Rattle.mos_tree.specs.declared.declaration.BaseType.TheVariants as base
 use Rattle.mos_tree.specs.declared.declaration.FormalGroup.{FormalGroup}
@@ -8,178 +8,136 @@ use Rattle.mos_scan.specs.declared.token.TokenKind.{TokenKind}
 use Rattle.mos_scan.specs.declared.token.TokenKind.TheVariants as t
 use Rattle.mos_scan.specs.declared.reading.Word.{Word}
 use Rattle.mos_scan.specs.declared.reading.Word.TheVariants as w
-use Rattle.mos_typing.specs.Typing.{Formals, AreFormals, FormalsAreGrouped, formal_words, formals_of, tallest_formals, base_words}
+use Rattle.mos_typing.specs.Typing.{Formals, FormalsAreGrouped, formal_words, formals_of, tallest_formals, base_word, base_words}
+use Rattle.mos_typing.specs.Reader.{base_of}
 use Rattle.mos_tree.specs.declared.form.Form.{Form}
 use Rattle.mos_tree.specs.declared.form.Form.TheVariants as f
-use Rattle.mos_tree.specs.declared.form.PieceKind.TheVariants as m
 use Rattle.mos_form.specs.declared.head.Head.TheVariants as h
+use Rattle.mos_form.specs.Heads.{head_of}
 use Rattle.mos_form.specs.Fixed.{heading, heading_kind, lead}
 use Rattle.mos_tree.specs.Forms.{piece_kind_of}
 use Rattle.mos_form.specs.Phrases.{to_result, Phrase, procedure, function, forward_procedure, forward_function, assign, IsPhrase, answer}
-use Rattle.mos_form.specs.Telling.{by_height, IsOther, TellsFormals, TellsPiece}
+use Rattle.mos_form.specs.Telling.{by_height, IsOther, TellsFormals, TellsPiece, Writes}
 use Rattle.mos_form.proofs.Telling.{embed_ok}
 use Rattle.mos_form.proofs.Opening.{head_is, key_head}
 use Rattle.mos_form.proofs.Parting.{snoc_same, regroup}
 use Rattle.mos_form.proofs.Keyed.{tail_same, no_piece}
 
-pub procedure_kind : (forward : Bool) (n : List ℕ) (xs : List FormalGroup) → piece_kind_of (heading forward n xs None) ≡ heading_kind forward m.Procedure
-procedure_kind true n xs = refl
-procedure_kind false n xs = refl
+pub routine_kind : (forward : Bool) (n : List ℕ) (result : Option BaseType) (xs : List FormalGroup) → piece_kind_of (heading forward n xs result) ≡ heading_kind forward result
+routine_kind true n result xs = refl
+routine_kind false n None xs = refl
+routine_kind false n (Some b) xs = refl
 
-pub function_kind : (forward : Bool) (n : List ℕ) (xs : List FormalGroup) (b : BaseType) → piece_kind_of (heading forward n xs (Some b)) ≡ heading_kind forward m.Function
-function_kind true n xs b = refl
-function_kind false n xs b = refl
+-- the word of a routine, and the words behind its name
+abbrev pub routine_token : Option BaseType → TokenKind
+routine_token None = t.Procedure
+routine_token (Some b) = t.Function
 
--- ---- procedures
+abbrev pub before_result : List Word → Option BaseType → List Word
+before_result inside None = inside
+before_result inside (Some b) = inside ++ w.Key t.Colon ∷ base_words b
 
-abbrev a_procedure : Bool → List ℕ → Formals → Phrase
-a_procedure true n xs = forward_procedure n xs
-a_procedure false n xs = procedure n xs
+abbrev pub heading_words : Formals → Option BaseType → List Word
+heading_words xs result = before_result (formal_words xs) result
 
-abbrev lead_same : Bool → TokenKind → List Word → List Word → Type 0
-lead_same forward kind a b = lead forward kind a ≡ lead forward kind b → a ≡ b
+abbrev routine : Bool → List ℕ → Formals → Option BaseType → Phrase
+routine true n xs None = forward_procedure n xs
+routine true n xs (Some b) = forward_function n xs b
+routine false n xs None = procedure n xs
+routine false n xs (Some b) = function n xs b
 
-unlead : (forward : Bool) (kind : TokenKind) (a b : List Word) → lead forward kind a ≡ lead forward kind b → a ≡ b
-unlead true kind a b e = cc
-unlead false kind a b e = cc
+record IsRoutine (forward : Bool) (kind : TokenKind) (words : List Word) (p : Phrase) : Type 0 where
+  name : List ℕ
+  formals : Formals
+  result : Option BaseType
+  grouped : FormalsAreGrouped formals
+  kind_is : kind ≡ routine_token result
+  words_are : words ≡ w.Name name ∷ heading_words formals result
+  is : p ≡ routine forward name formals result
 
-abbrev IsProcedure : Bool → List Word → Phrase → Type 0
-IsProcedure forward words p = (n : List ℕ) × (xs : Formals) × FormalsAreGrouped xs × (words ≡ w.Name n ∷ formal_words xs) × (p ≡ a_procedure forward n xs)
+ahead : (kind : TokenKind) (words : List Word) (p : Phrase) → IsPhrase (lead true kind words) p → head_is p ≡ Some h.Forward → IsRoutine true kind words p
+ahead kind words (forward_procedure n xs) k e = record { name = n; formals = xs; result = None; grouped = k.well; kind_is = let q = k.exact in cc; words_are = let q = k.exact in cc; is = refl }
+ahead kind words (forward_function n xs b) k e = record { name = n; formals = xs; result = Some b; grouped = k.well; kind_is = let q = k.exact in cc; words_are = let q = k.exact in cc; is = refl }
+ahead kind words (assign to_result op s) k e = absurd cc
+ahead kind words _ k e = absurd cc
 
-procedure_alone : (words : List Word) (p : Phrase) → IsPhrase (lead false t.Procedure words) p → head_is p ≡ Some h.Procedure → IsProcedure false words p
-procedure_alone words (procedure n xs) k e = (n, xs, k.well, unlead false t.Procedure words (w.Name n ∷ formal_words xs) k.exact, refl)
-procedure_alone words (assign to_result op s) k e = absurd cc
-procedure_alone words _ k e = absurd cc
+alone : (result : Option BaseType) (words : List Word) (p : Phrase) → IsPhrase (lead false (routine_token result) words) p → head_is p ≡ Some (head_of (routine_token result)) → IsRoutine false (routine_token result) words p
+alone None words (procedure n xs) k e = record { name = n; formals = xs; result = None; grouped = k.well; kind_is = refl; words_are = let q = k.exact in cc; is = refl }
+alone (Some b) words (function n xs c) k e = record { name = n; formals = xs; result = Some c; grouped = k.well; kind_is = refl; words_are = let q = k.exact in cc; is = refl }
+alone None words (assign to_result op s) k e = absurd cc
+alone (Some b) words (assign to_result op s) k e = absurd cc
+alone _ words _ k e = absurd cc
 
-procedure_ahead : (words : List Word) (p : Phrase) → IsPhrase (lead true t.Procedure words) p → head_is p ≡ Some h.Forward → IsProcedure true words p
-procedure_ahead words (forward_procedure n xs) k e = (n, xs, k.well, unlead true t.Procedure words (w.Name n ∷ formal_words xs) k.exact, refl)
-procedure_ahead words (forward_function n xs b) k e = let q = k.exact in absurd cc
-procedure_ahead words (assign to_result op s) k e = absurd cc
-procedure_ahead words _ k e = absurd cc
+routine_back : (forward : Bool) (result : Option BaseType) (words : List Word) (p : Phrase) → IsOther (lead forward (routine_token result) words) p → IsRoutine forward (routine_token result) words p
+routine_back true result words p m = ahead (routine_token result) words p m.0 (key_head t.Forward (w.Key (routine_token result) ∷ words) p m.1 m.0.exact)
+routine_back false result words p m = alone result words p m.0 (key_head (routine_token result) words p m.1 m.0.exact)
 
-procedure_back : (forward : Bool) (words : List Word) (p : Phrase) → IsOther (lead forward t.Procedure words) p → IsProcedure forward words p
-procedure_back true words p m = procedure_ahead words p m.0 (key_head t.Forward (w.Key t.Procedure ∷ words) p m.1 m.0.exact)
-procedure_back false words p m = procedure_alone words p m.0 (key_head t.Procedure words p m.1 m.0.exact)
+routine_there : (forward : Bool) (result : Option BaseType) (words : List Word) (n : List ℕ) (xs : Formals) → FormalsAreGrouped xs → words ≡ w.Name n ∷ heading_words xs result → IsOther (lead forward (routine_token result) words) (routine forward n xs result)
+routine_there true None words n xs k e = (record { well = k; exact = ap (lead true t.Procedure) e }, λ z. z)
+routine_there true (Some b) words n xs k e = (record { well = k; exact = ap (lead true t.Function) e }, λ z. z)
+routine_there false None words n xs k e = (record { well = k; exact = ap (lead false t.Procedure) e }, λ z. z)
+routine_there false (Some b) words n xs k e = (record { well = k; exact = ap (lead false t.Function) e }, λ z. z)
 
-procedure_there : (forward : Bool) (words : List Word) (n : List ℕ) (xs : Formals) → FormalsAreGrouped xs → words ≡ w.Name n ∷ formal_words xs → IsOther (lead forward t.Procedure words) (a_procedure forward n xs)
-procedure_there true words n xs k e = (record { well = k; exact = ap (lead true t.Procedure) e }, λ z. z)
-procedure_there false words n xs k e = (record { well = k; exact = ap (lead false t.Procedure) e }, λ z. z)
+routine_answer : (forward : Bool) (n : List ℕ) (result : Option BaseType) (xs : Formals) → answer (routine forward n xs result) ≡ by_height (tallest_formals xs) (heading forward n (formals_of xs) result)
+routine_answer true n None xs = refl
+routine_answer true n (Some b) xs = refl
+routine_answer false n None xs = refl
+routine_answer false n (Some b) xs = refl
 
-procedure_answer : (forward : Bool) (n : List ℕ) (xs : Formals) → answer (a_procedure forward n xs) ≡ by_height (tallest_formals xs) (heading forward n (formals_of xs) None)
-procedure_answer true n xs = refl
-procedure_answer false n xs = refl
+-- a type is known by its word
+word_read : (b : BaseType) → base_of (base_word b) ≡ Some b
+word_read base.Integer = refl
+word_read _ = refl
 
-pub procedure_piece : {E : Type 0} (forward : Bool) (words rest : List Word) (n : List ℕ) → words ≡ w.Name n ∷ rest → (r : Result Form E)
-    → IfOk r (TellsFormals (λ xs. heading forward n xs None) rest) → IfOk r (TellsPiece (lead forward t.Procedure words))
-procedure_piece forward words rest n e r k =
-    embed_ok (AreFormals rest) (λ xs. by_height (tallest_formals xs) (heading forward n (formals_of xs) None)) (IsOther (lead forward t.Procedure words)) answer (a_procedure forward n)
-    (λ xs m. procedure_there forward words n xs m.grouped (e ∙ ap (λ z. w.Name n ∷ z) m.exact))
-    (λ p m. let q = procedure_back forward words p m in
-    let both : w.Name n ∷ rest ≡ w.Name q.0 ∷ formal_words q.1 = sym e ∙ q.3 in
-    let name_same : q.0 ≡ n = cc in
-    (q.1, record { grouped = q.2; exact = cc }, q.4 ∙ ap (λ z. a_procedure forward z q.1) name_same))
-    (procedure_answer forward n) r k
+word_one : (a b : BaseType) → base_word a ≡ base_word b → a ≡ b
+word_one a b e = let q : Some a ≡ Some b = sym (word_read a) ∙ ap base_of e ∙ word_read b in cc
 
-pub no_procedure : (forward : Bool) (words : List Word) → ((n : List ℕ) (rest : List Word) → words ≡ w.Name n ∷ rest → ⊥) → TellsPiece (lead forward t.Procedure words) f.Unknown
-no_procedure forward words none = no_piece (lead forward t.Procedure words) (λ p m. let q = procedure_back forward words p m in none q.0 (formal_words q.1) q.3)
+cut_result : (inside formals : List Word) (x y : Word) → inside ++ w.Key t.Colon ∷ x ∷ [] ≡ formals ++ w.Key t.Colon ∷ y ∷ [] → (inside ≡ formals) × (x ≡ y)
+cut_result inside formals x y e =
+    let q = snoc_same (inside ++ w.Key t.Colon ∷ []) (formals ++ w.Key t.Colon ∷ []) x y (sym (regroup inside (w.Key t.Colon) x) ∙ e ∙ regroup formals (w.Key t.Colon) y) in
+    ((snoc_same inside formals (w.Key t.Colon) (w.Key t.Colon) q.0).0, q.1)
 
--- ---- functions
+result_one : (r s : Option BaseType) (inside formals : List Word) → routine_token r ≡ routine_token s → before_result inside r ≡ before_result formals s → (inside ≡ formals) × (r ≡ s)
+result_one None None inside formals k e = (e, refl)
+result_one (Some a) (Some b) inside formals k e = let q = cut_result inside formals (base_word a) (base_word b) e in (q.0, ap (λ z. Some z) (word_one a b q.1))
+result_one None (Some b) inside formals k e = absurd cc
+result_one (Some a) None inside formals k e = absurd cc
 
-abbrev a_function : Bool → List ℕ → Formals → BaseType → Phrase
-a_function true n xs b = forward_function n xs b
-a_function false n xs b = function n xs b
+pub routine_piece : {E : Type 0} (forward : Bool) (result : Option BaseType) (n : List ℕ) (words inside : List Word) → words ≡ w.Name n ∷ before_result inside result → (r : Result Form E)
+    → IfOk r (TellsFormals (λ xs. heading forward n xs result) inside) → IfOk r (TellsPiece (lead forward (routine_token result) words))
+routine_piece forward result n words inside e r k =
+    embed_ok (Writes FormalsAreGrouped formal_words inside) (λ xs. by_height (tallest_formals xs) (heading forward n (formals_of xs) result)) (IsOther (lead forward (routine_token result) words)) answer (λ xs. routine forward n xs result)
+    (λ xs m. routine_there forward result words n xs m.grouped (e ∙ ap (λ z. w.Name n ∷ before_result z result) m.exact))
+    (λ p m. let q = routine_back forward result words p m in
+    let whole : w.Name n ∷ before_result inside result ≡ w.Name q.name ∷ heading_words q.formals q.result = sym e ∙ q.words_are in
+    let both = result_one result q.result inside (formal_words q.formals) q.kind_is (tail_same (w.Name n) (w.Name q.name) (before_result inside result) (heading_words q.formals q.result) whole) in
+    let name_same : q.name ≡ n = cc in
+    (q.formals, record { grouped = q.grouped; exact = both.0 }, q.is ∙ ap (λ z. routine forward z q.formals q.result) name_same ∙ ap (routine forward n q.formals) (sym both.1)))
+    (routine_answer forward n result) r k
 
-abbrev result_words : Formals → BaseType → List Word
-result_words xs b = formal_words xs ++ w.Key t.Colon ∷ base_words b
+pub no_name : (forward : Bool) (result : Option BaseType) (words : List Word) → ((n : List ℕ) (rest : List Word) → words ≡ w.Name n ∷ rest → ⊥) → TellsPiece (lead forward (routine_token result) words) f.Unknown
+no_name forward result words none = no_piece (lead forward (routine_token result) words) (λ p m. let q = routine_back forward result words p m in none q.name (heading_words q.formals q.result) q.words_are)
 
-abbrev IsFunction : Bool → List Word → Phrase → Type 0
-IsFunction forward words p = (n : List ℕ) × (xs : Formals) × (b : BaseType) × FormalsAreGrouped xs × (words ≡ w.Name n ∷ result_words xs b) × (p ≡ a_function forward n xs b)
-
-function_alone : (words : List Word) (p : Phrase) → IsPhrase (lead false t.Function words) p → head_is p ≡ Some h.Function → IsFunction false words p
-function_alone words (function n xs b) k e = (n, xs, b, k.well, unlead false t.Function words (w.Name n ∷ result_words xs b) k.exact, refl)
-function_alone words (assign to_result op s) k e = absurd cc
-function_alone words _ k e = absurd cc
-
-function_ahead : (words : List Word) (p : Phrase) → IsPhrase (lead true t.Function words) p → head_is p ≡ Some h.Forward → IsFunction true words p
-function_ahead words (forward_function n xs b) k e = (n, xs, b, k.well, unlead true t.Function words (w.Name n ∷ result_words xs b) k.exact, refl)
-function_ahead words (forward_procedure n xs) k e = let q = k.exact in absurd cc
-function_ahead words (assign to_result op s) k e = absurd cc
-function_ahead words _ k e = absurd cc
-
-function_back : (forward : Bool) (words : List Word) (p : Phrase) → IsOther (lead forward t.Function words) p → IsFunction forward words p
-function_back true words p m = function_ahead words p m.0 (key_head t.Forward (w.Key t.Function ∷ words) p m.1 m.0.exact)
-function_back false words p m = function_alone words p m.0 (key_head t.Function words p m.1 m.0.exact)
-
-function_there : (forward : Bool) (words : List Word) (n : List ℕ) (xs : Formals) (b : BaseType) → FormalsAreGrouped xs → words ≡ w.Name n ∷ result_words xs b → IsOther (lead forward t.Function words) (a_function forward n xs b)
-function_there true words n xs b k e = (record { well = k; exact = ap (lead true t.Function) e }, λ z. z)
-function_there false words n xs b k e = (record { well = k; exact = ap (lead false t.Function) e }, λ z. z)
-
-function_answer : (forward : Bool) (n : List ℕ) (b : BaseType) (xs : Formals) → answer (a_function forward n xs b) ≡ by_height (tallest_formals xs) (heading forward n (formals_of xs) (Some b))
-function_answer true n b xs = refl
-function_answer false n b xs = refl
-
-one_word : (b : BaseType) → (y : Word) × (base_words b ≡ y ∷ [])
-one_word base.Integer = (w.Key t.Integer, refl)
-one_word base.Boolean = (w.Key t.Boolean, refl)
-one_word base.Text = (w.Key t.StringWord, refl)
-one_word (base.Named n) = (w.Name n, refl)
-
-base_same : (a b : BaseType) → base_words a ≡ base_words b → a ≡ b
-base_same base.Integer base.Integer e = refl
-base_same base.Boolean base.Boolean e = refl
-base_same base.Text base.Text e = refl
-base_same (base.Named n) (base.Named k) e = cc
-base_same base.Integer _ e = absurd cc
-base_same base.Boolean _ e = absurd cc
-base_same base.Text _ e = absurd cc
-base_same (base.Named n) _ e = absurd cc
-
--- a heading cut before its result
-cut_result : (formals inside : List Word) (typ : Word) (b : BaseType) → inside ++ w.Key t.Colon ∷ typ ∷ [] ≡ formals ++ w.Key t.Colon ∷ base_words b → (inside ≡ formals) × (base_words b ≡ typ ∷ [])
-cut_result formals inside typ b e =
-    let y = one_word b in
-    let q = snoc_same (inside ++ w.Key t.Colon ∷ []) (formals ++ w.Key t.Colon ∷ []) typ y.0
-    (sym (regroup inside (w.Key t.Colon) typ) ∙ e ∙ ap (λ z. formals ++ w.Key t.Colon ∷ z) y.1 ∙ regroup formals (w.Key t.Colon) y.0) in
-    ((snoc_same inside formals (w.Key t.Colon) (w.Key t.Colon) q.0).0, y.1 ∙ ap (λ z. z ∷ []) (sym q.1))
-
-pub function_piece : {E : Type 0} (forward : Bool) (n : List ℕ) (words inside : List Word) (typ : Word) (b : BaseType)
-    → words ≡ inside ++ w.Key t.Colon ∷ typ ∷ [] → base_words b ≡ typ ∷ [] → (r : Result Form E)
-    → IfOk r (TellsFormals (λ xs. heading forward n xs (Some b)) inside) → IfOk r (TellsPiece (lead forward t.Function (w.Name n ∷ words)))
-function_piece forward n words inside typ b e is r k =
-    embed_ok (AreFormals inside) (λ xs. by_height (tallest_formals xs) (heading forward n (formals_of xs) (Some b))) (IsOther (lead forward t.Function (w.Name n ∷ words))) answer (λ xs. a_function forward n xs b)
-    (λ xs m. function_there forward (w.Name n ∷ words) n xs b m.grouped (ap (λ z. w.Name n ∷ z) (e ∙ ap (λ z. inside ++ w.Key t.Colon ∷ z) (sym is) ∙ ap (λ z. z ++ w.Key t.Colon ∷ base_words b) m.exact)))
-    (λ p m. let q = function_back forward (w.Name n ∷ words) p m in
-    let rest_same : words ≡ result_words q.1 q.2 = tail_same (w.Name n) (w.Name q.0) words (result_words q.1 q.2) q.4 in
-    let both = cut_result (formal_words q.1) inside typ q.2 (sym e ∙ rest_same) in
-    let whole = q.4 in
-    let name_same : q.0 ≡ n = cc in
-    let typ_same : q.2 ≡ b = base_same q.2 b (both.1 ∙ sym is) in
-    (q.1, record { grouped = q.3; exact = both.0 }, q.5 ∙ ap (λ z. a_function forward z q.1 q.2) name_same ∙ ap (a_function forward n q.1) typ_same))
-    (function_answer forward n b) r k
+-- a function has a result
+pub no_function : (forward : Bool) (n : List ℕ) (words : List Word) → ((inside : List Word) (b : BaseType) → words ≡ inside ++ w.Key t.Colon ∷ base_words b → ⊥) → TellsPiece (lead forward t.Function (w.Name n ∷ words)) f.Unknown
+no_function forward n words none = no_piece (lead forward t.Function (w.Name n ∷ words))
+    (λ p m. let q = routine_back forward (Some base.Text) (w.Name n ∷ words) p m in
+    at q.result q.formals q.kind_is (tail_same (w.Name n) (w.Name q.name) words (heading_words q.formals q.result) q.words_are))
+  where
+    at : (result : Option BaseType) (xs : Formals) → t.Function ≡ routine_token result → words ≡ heading_words xs result → ⊥
+    at None xs k e = cc
+    at (Some b) xs k e = none (formal_words xs) b e
 
 pub no_base : (forward : Bool) (n : List ℕ) (words inside : List Word) (typ : Word) → words ≡ inside ++ w.Key t.Colon ∷ typ ∷ [] → ((b : BaseType) → base_words b ≡ typ ∷ [] → ⊥)
     → TellsPiece (lead forward t.Function (w.Name n ∷ words)) f.Unknown
-no_base forward n words inside typ e none = no_piece (lead forward t.Function (w.Name n ∷ words))
-    (λ p m. let q = function_back forward (w.Name n ∷ words) p m in
-    let rest_same : words ≡ result_words q.1 q.2 = tail_same (w.Name n) (w.Name q.0) words (result_words q.1 q.2) q.4 in
-    none q.2 (cut_result (formal_words q.1) inside typ q.2 (sym e ∙ rest_same)).1)
-
-pub no_result_type : (forward : Bool) (n : List ℕ) (words : List Word) → ((inside : List Word) (typ : Word) → words ≡ inside ++ w.Key t.Colon ∷ typ ∷ [] → ⊥)
-    → TellsPiece (lead forward t.Function (w.Name n ∷ words)) f.Unknown
-no_result_type forward n words none = no_piece (lead forward t.Function (w.Name n ∷ words))
-    (λ p m. let q = function_back forward (w.Name n ∷ words) p m in
-    let y = one_word q.2 in
-    none (formal_words q.1) y.0 (tail_same (w.Name n) (w.Name q.0) words (result_words q.1 q.2) q.4 ∙ ap (λ z. formal_words q.1 ++ w.Key t.Colon ∷ z) y.1))
-
-pub no_function : (forward : Bool) (words : List Word) → ((n : List ℕ) (rest : List Word) → words ≡ w.Name n ∷ rest → ⊥) → TellsPiece (lead forward t.Function words) f.Unknown
-no_function forward words none = no_piece (lead forward t.Function words) (λ p m. let q = function_back forward words p m in none q.0 (result_words q.1 q.2) q.4)
+no_base forward n words inside typ e none = no_function forward n words (λ front b is. none b (ap (λ z. z ∷ []) (sym (cut_result inside front typ (base_word b) (sym e ∙ is)).1)))
 
 -- ---- `forward`
 
 forward_back : (words : List Word) (p : Phrase) → IsPhrase (w.Key t.Forward ∷ words) p → head_is p ≡ Some h.Forward
     → ((rest : List Word) → words ≡ w.Key t.Procedure ∷ rest → ⊥) → ((rest : List Word) → words ≡ w.Key t.Function ∷ rest → ⊥) → ⊥
 forward_back words (forward_procedure n xs) k e no_p no_f = no_p (w.Name n ∷ formal_words xs) (tail_same (w.Key t.Forward) (w.Key t.Forward) words (w.Key t.Procedure ∷ w.Name n ∷ formal_words xs) k.exact)
-forward_back words (forward_function n xs b) k e no_p no_f = no_f (w.Name n ∷ result_words xs b) (tail_same (w.Key t.Forward) (w.Key t.Forward) words (w.Key t.Function ∷ w.Name n ∷ result_words xs b) k.exact)
+forward_back words (forward_function n xs b) k e no_p no_f = no_f (w.Name n ∷ heading_words xs (Some b)) (tail_same (w.Key t.Forward) (w.Key t.Forward) words (w.Key t.Function ∷ w.Name n ∷ heading_words xs (Some b)) k.exact)
 forward_back words (assign to_result op s) k e no_p no_f = cc
 forward_back words _ k e no_p no_f = cc
 

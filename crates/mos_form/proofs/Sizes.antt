@@ -3,6 +3,7 @@
 use Rattle.std.proofs.Common.{◌≡◌, ℕ, ◌+◌, ◌≤◌, nat_le, List, [], ◌∷◌, ◌++◌, length, Result, Ok, Err, IfOk, refl, ap, arith, length-append}
 use Rattle.mos_tree.specs.declared.form.Form.{Form}
 use Rattle.mos_tree.specs.declared.form.Form.TheVariants as f
+use Rattle.mos_tree.specs.declared.form.ConditionKeyword.TheVariants as condition
 use Rattle.mos_tree.specs.declared.form.Keyword.{Keyword}
 use Rattle.mos_tree.specs.declared.form.Keyword.TheVariants as keyword
 use Rattle.mos_tree.specs.Forms.{piece_kind_of}
@@ -12,11 +13,12 @@ use Rattle.mos_scan.specs.declared.token.TokenKind.{TokenKind}
 use Rattle.mos_scan.specs.declared.token.TokenKind.TheVariants as t
 use Rattle.mos_scan.specs.declared.reading.Word.{Word}
 use Rattle.mos_scan.specs.declared.reading.Word.TheVariants as w
-use Rattle.mos_expr.specs.Grammar.{Syntax, Written, Over, IsGrouped, AreGrouped, IsGroupedOver, spell, spell_list, spell_over, spell_names, tree, trees, index_of, height, heights, height_over, limit}
+use Rattle.mos_expr.specs.Grammar.{Syntax, Written, Over, IsGrouped, AreGrouped, IsGroupedOver, spell, spell_list, spell_over, spell_names, tree, trees, index_of, height, heights, height_over, limit, no_more, one_more}
 use Rattle.mos_expr.specs.Sizes.{ExpressionIsSmall, ExpressionsAreSmall, IndexIsSmall}
 use Rattle.mos_typing.specs.Typing.{Typing, Formals, in_brackets, base_words, typing_words, formal_words, type_of, formals_of, tallest_type, tallest_formals, TypeIsGrouped, FormalsAreGrouped}
-use Rattle.mos_typing.specs.Sizes.{TypeIsSmall, FormalsAreSmall}
-use Rattle.mos_form.specs.Phrases.{Target, to_name, to_cell, to_field, to_cell_field, to_result, Phrase, word, break_word, next_word, model_text, model_name, uses_modules, options_name, definition, typed, record_of, procedure, function, forward_procedure, forward_function, assign, fill, call, bare, if_then, elif_then, case_of, alternative, forall_in, while_so, until_so, initializations, labels, target_words, operator_word, words_of, form_of, reference_of, tallest, TargetIs, IsWell, answer, IsFormOf, is_phrase, no_phrase}
+use Rattle.mos_typing.specs.Laws.{TypeIsSmall, FormalsAreSmall}
+use Rattle.mos_form.specs.Phrases.{Target, to_cell, to_cell_field, Phrase, word, definition, typed, procedure, function, forward_procedure, forward_function, assign, fill, call, guarded, alternative, forall_in, initializations, target_words, operator_word, words_of, form_of, reference_of, tallest, TargetIs, IsWell, answer, IsFormOf, is_phrase, no_phrase}
+use Rattle.mos_expr.specs.Said.{AreSomeGrouped}
 use Rattle.mos_form.proofs.Telling.{on_bool}
 
 -- words behind one another
@@ -33,20 +35,7 @@ enclosed xs a h = let l : a + 1 ≤ length (xs ++ w.Key t.CloseRound ∷ []) = c
 
 keyword_small : (x : Keyword) → size_of_keyword x ≤ 1
 keyword_small keyword.EndModel = omega arith
-keyword_small keyword.Parameters = omega arith
-keyword_small keyword.EndParameters = omega arith
-keyword_small keyword.Declarations = omega arith
-keyword_small keyword.EndDeclarations = omega arith
-keyword_small keyword.EndRecord = omega arith
-keyword_small keyword.EndProcedure = omega arith
-keyword_small keyword.EndFunction = omega arith
-keyword_small keyword.Else = omega arith
-keyword_small keyword.EndIf = omega arith
-keyword_small keyword.EndCase = omega arith
-keyword_small keyword.Repeat = omega arith
-keyword_small keyword.Do = omega arith
-keyword_small keyword.EndDo = omega arith
-keyword_small keyword.EndInitializations = omega arith
+keyword_small _ = omega arith
 
 module _ (one : ExpressionIsSmall) (list : ExpressionsAreSmall) (index : IndexIsSmall) (a_type : TypeIsSmall) (some_formals : FormalsAreSmall) where
   one_small : (s : Syntax) → IsGrouped s → nodes (tree s) ≤ length (spell s)
@@ -64,15 +53,17 @@ module _ (one : ExpressionIsSmall) (list : ExpressionsAreSmall) (index : IndexIs
   formals_small : (xs : Formals) → FormalsAreGrouped xs → size_of_formals (formals_of xs) ≤ length (formal_words xs)
   formals_small xs g = some_formals (formal_words xs) (formals_of xs) (tallest_formals xs) (record { written = xs; grouped = g; exact = refl; is = refl; high_is = refl })
 
+  some_grouped : (ss : Written) → AreSomeGrouped ss → AreGrouped ss
+  some_grouped no_more g = absurd g
+  some_grouped (one_more s ss) g = g
+
   target_small : (x : Target) → TargetIs x → size_of_reference (reference_of x) ≤ length (target_words x)
-  target_small (to_name n) g = omega arith
-  target_small (to_cell n xs) g = let h : nodes_in (trees xs) + 2 ≤ length (in_brackets (spell_list xs)) = enclosed (spell_list xs) (nodes_in (trees xs)) (list_small xs g.0) in omega (arith, h)
-  target_small (to_field n x) g = omega arith
+  target_small (to_cell n xs) g = let h : nodes_in (trees xs) + 2 ≤ length (in_brackets (spell_list xs)) = enclosed (spell_list xs) (nodes_in (trees xs)) (list_small xs (some_grouped xs g)) in omega (arith, h)
   target_small (to_cell_field n xs x) g =
-      let h : nodes_in (trees xs) + 2 ≤ length (in_brackets (spell_list xs)) = enclosed (spell_list xs) (nodes_in (trees xs)) (list_small xs g.0) in
+      let h : nodes_in (trees xs) + 2 ≤ length (in_brackets (spell_list xs)) = enclosed (spell_list xs) (nodes_in (trees xs)) (list_small xs (some_grouped xs g)) in
       let l : (nodes_in (trees xs) + 2) + 2 ≤ length (in_brackets (spell_list xs) ++ w.Key t.Dot ∷ w.Name x ∷ []) = joined (in_brackets (spell_list xs)) (w.Key t.Dot ∷ w.Name x ∷ []) (nodes_in (trees xs) + 2) 2 h (omega arith) in
       omega (arith, l)
-  target_small to_result g = omega arith
+  target_small _ g = omega arith
 
   -- a heading with its result
   result_small : (xs : Formals) (ys : List Word) → FormalsAreGrouped xs → size_of_formals (formals_of xs) ≤ length (formal_words xs ++ ys)
@@ -80,17 +71,10 @@ module _ (one : ExpressionIsSmall) (list : ExpressionsAreSmall) (index : IndexIs
 
   form_small : (p : Phrase) → IsWell p → size_of_form (form_of p) ≤ length (words_of p)
   form_small (word x) g = omega (arith, keyword_small x)
-  form_small break_word g = omega arith
-  form_small next_word g = omega arith
-  form_small (model_text n) g = omega arith
-  form_small (model_name n) g = omega arith
-  form_small (uses_modules ns) g = omega arith
-  form_small (options_name n) g = omega arith
   form_small (definition n s) g = omega (arith, one_small s g)
   form_small (typed ns x) g =
       let l : 0 + (size_of_type (type_of x) + 1) ≤ length (spell_names ns ++ w.Key t.Colon ∷ typing_words x) = joined (spell_names ns) (w.Key t.Colon ∷ typing_words x) 0 (size_of_type (type_of x) + 1) (omega arith) (omega (arith, type_small x g)) in
       omega (arith, l)
-  form_small (record_of n) g = omega arith
   form_small (procedure n xs) g = omega (arith, formals_small xs g)
   form_small (function n xs b) g = omega (arith, result_small xs (w.Key t.Colon ∷ base_words b) g)
   form_small (forward_procedure n xs) g = omega (arith, formals_small xs g)
@@ -100,16 +84,14 @@ module _ (one : ExpressionIsSmall) (list : ExpressionsAreSmall) (index : IndexIs
       omega (arith, l)
   form_small (fill n xs) g = let l : nodes_in (trees xs) + 1 ≤ length (spell_list xs ++ w.Key t.CloseSquare ∷ []) = closed (spell_list xs) t.CloseSquare (nodes_in (trees xs)) (list_small xs g) in omega (arith, l)
   form_small (call n xs) g = let l : nodes_in (trees xs) + 2 ≤ length (in_brackets (spell_list xs)) = enclosed (spell_list xs) (nodes_in (trees xs)) (list_small xs g) in omega (arith, l)
-  form_small (bare n) g = omega arith
-  form_small (if_then s) g = let l : nodes (tree s) + 1 ≤ length (spell s ++ w.Key t.Then ∷ []) = closed (spell s) t.Then (nodes (tree s)) (one_small s g) in omega (arith, l)
-  form_small (elif_then s) g = let l : nodes (tree s) + 1 ≤ length (spell s ++ w.Key t.Then ∷ []) = closed (spell s) t.Then (nodes (tree s)) (one_small s g) in omega (arith, l)
-  form_small (case_of s) g = let l : nodes (tree s) + 1 ≤ length (spell s ++ w.Key t.Of ∷ []) = closed (spell s) t.Of (nodes (tree s)) (one_small s g) in omega (arith, l)
-  form_small (alternative xs) g = let l : nodes_in (trees xs) + 1 ≤ length (spell_list xs ++ w.Key t.Colon ∷ []) = closed (spell_list xs) t.Colon (nodes_in (trees xs)) (list_small xs g.0) in omega (arith, l)
+  form_small (guarded condition.Case s) g = let l : nodes (tree s) + 1 ≤ length (spell s ++ w.Key t.Of ∷ []) = closed (spell s) t.Of (nodes (tree s)) (one_small s g) in omega (arith, l)
+  form_small (guarded condition.While s) g = let l : nodes (tree s) + 2 ≤ length (in_brackets (spell s)) = enclosed (spell s) (nodes (tree s)) (one_small s g) in omega (arith, l)
+  form_small (guarded condition.Until s) g = omega (arith, one_small s g)
+  form_small (guarded _ s) g = let l : nodes (tree s) + 1 ≤ length (spell s ++ w.Key t.Then ∷ []) = closed (spell s) t.Then (nodes (tree s)) (one_small s g) in omega (arith, l)
+  form_small (alternative xs) g = let l : nodes_in (trees xs) + 1 ≤ length (spell_list xs ++ w.Key t.Colon ∷ []) = closed (spell_list xs) t.Colon (nodes_in (trees xs)) (list_small xs (some_grouped xs g)) in omega (arith, l)
   form_small (forall_in i) g = let l : nodes_in_index (index_of i) + 2 ≤ length (in_brackets (spell_over i)) = enclosed (spell_over i) (nodes_in_index (index_of i)) (index_small i g) in omega (arith, l)
-  form_small (while_so s) g = let l : nodes (tree s) + 2 ≤ length (in_brackets (spell s)) = enclosed (spell s) (nodes (tree s)) (one_small s g) in omega (arith, l)
-  form_small (until_so s) g = omega (arith, one_small s g)
   form_small (initializations d s) g = omega (arith, one_small s g)
-  form_small (labels xs) g = omega arith
+  form_small _ g = omega arith
 
   -- what is answered is the form, or none of its size
   answer_small : (p : Phrase) → IsWell p → size_of_form (answer p) ≤ length (words_of p)

@@ -13,22 +13,25 @@ use Rattle.mos_typing.specs.Typing.{Typing, key, typing_words}
 use Rattle.mos_typing.specs.Words.{is_plain, ArePlain, SyntaxIsPlain}
 use Rattle.mos_tree.specs.declared.form.Form.{Form}
 use Rattle.mos_tree.specs.declared.form.Form.TheVariants as f
-use Rattle.mos_form.specs.Phrases.{to_name, to_cell, to_field, to_cell_field, to_result, Labels, last_label, and_label, Phrase, word, break_word, next_word, model_text, model_name, uses_modules, options_name, definition, typed, record_of, procedure, function, forward_procedure, forward_function, assign, fill, call, bare, if_then, elif_then, case_of, alternative, forall_in, while_so, until_so, initializations, labels, token_of, text_words, label_words, target_words, operator_word, words_of, IsPhrase, answer}
-use Rattle.mos_form.specs.Telling.{Tells, told, untold, by_height, IsAlternative, IsOther, TellsPiece, AreSome}
+use Rattle.mos_form.specs.Phrases.{Labels, last_label, and_label, Phrase, word, model, uses_modules, definition, typed, procedure, function, forward_procedure, forward_function, assign, fill, call, guarded, alternative, forall_in, initializations, labels, token_of, text_words, label_words, target_words, operator_word, words_of, IsPhrase, answer}
+use Rattle.mos_form.specs.Telling.{Tells, told, untold, by_height, IsAlternative, IsOther, TellsPiece, Writes}
 use Rattle.mos_form.proofs.Telling.{embed_ok}
-use Rattle.mos_form.proofs.Parting.{plain_head}
+use Rattle.mos_form.proofs.Parting.{plain_head, plain_tail}
+use Rattle.mos_form.proofs.Opening.{begins, begun}
 use Rattle.mos_form.proofs.Keyed.{no_piece}
-use Rattle.mos_typing.specs.Typing.{Formals, no_brackets, empty_brackets, formals, of_base, a_range, a_set, a_list, an_array, formal_words, group_words, dims_words, base_words}
+use Rattle.mos_typing.specs.Typing.{Formals, no_brackets, empty_brackets, formals, of_base, a_range, a_set, a_list, an_array, formal_words, group_words, dims_words, base_word, base_words}
 use Rattle.mos_tree.specs.declared.declaration.BaseType.{BaseType}
 use Rattle.mos_tree.specs.declared.declaration.BaseType.TheVariants as base
 use Rattle.mos_tree.specs.declared.statement.Direction.{Direction}
 use Rattle.mos_tree.specs.declared.statement.Direction.TheVariants as direction
 use Rattle.mos_expr.specs.Grammar.{spell_over}
+use Rattle.mos_tree.specs.declared.source.ModelName.TheVariants as called
+use Rattle.mos_tree.specs.declared.form.ConditionKeyword.TheVariants as condition
 use Rattle.mos_tree.specs.declared.form.Keyword.{Keyword}
 use Rattle.mos_tree.specs.declared.form.Keyword.TheVariants as keyword
-use Rattle.mos_form.specs.Phrases.{direction_word, IsFormOf, is_phrase, no_phrase}
+use Rattle.mos_form.specs.Phrases.{direction_word, condition_word, IsFormOf, is_phrase, no_phrase}
+use Rattle.mos_expr.specs.Said.{AreSomeGrouped}
 use Rattle.mos_form.specs.Telling.{TellsSome}
-use Rattle.mos_form.proofs.Parting.{plain_tail}
 
 -- ---- a colon at the end
 
@@ -36,12 +39,12 @@ abbrev is_colon : Word → Bool
 is_colon (w.Key t.Colon) = true
 is_colon _ = false
 
-abbrev ends : List Word → Bool
+abbrev pub ends : List Word → Bool
 ends [] = false
 ends (x ∷ []) = is_colon x
 ends (x ∷ y ∷ rest) = ends (y ∷ rest)
 
-ends_last : (xs : List Word) (y : Word) (ys : List Word) → ends (xs ++ y ∷ ys) ≡ ends (y ∷ ys)
+pub ends_last : (xs : List Word) (y : Word) (ys : List Word) → ends (xs ++ y ∷ ys) ≡ ends (y ∷ ys)
 ends_last [] y ys = refl
 ends_last (a ∷ []) y ys = refl
 ends_last (a ∷ b ∷ xs) y ys = ends_last (b ∷ xs) y ys
@@ -59,19 +62,17 @@ ends_plain [] k = refl
 ends_plain (x ∷ []) k = plain_colon x (plain_head x [] k)
 ends_plain (x ∷ y ∷ xs) k = ends_plain (y ∷ xs) (plain_tail x (y ∷ xs) k)
 
-base_ends : (b : BaseType) (y : Word) → ends (y ∷ base_words b) ≡ false
-base_ends base.Integer y = refl
-base_ends base.Boolean y = refl
-base_ends base.Text y = refl
-base_ends (base.Named n) y = refl
+base_ends : (b : BaseType) → is_colon (base_word b) ≡ false
+base_ends base.Integer = refl
+base_ends _ = refl
 
 typing_ends : (x : Typing) → ends (w.Key t.Colon ∷ typing_words x) ≡ false
-typing_ends (of_base b) = base_ends b (w.Key t.Colon)
+typing_ends (of_base b) = base_ends b
 typing_ends a_range = refl
-typing_ends (a_set b) = base_ends b (w.Key t.Of)
-typing_ends (a_list b) = base_ends b (w.Key t.Of)
-typing_ends (an_array true ds b) = ends_last (w.Key t.OpenRound ∷ (dims_words ds ++ key t.CloseRound)) (w.Key t.Of) (base_words b) ∙ base_ends b (w.Key t.Of)
-typing_ends (an_array false ds b) = ends_last (w.Key t.OpenRound ∷ (dims_words ds ++ key t.CloseRound)) (w.Key t.Of) (base_words b) ∙ base_ends b (w.Key t.Of)
+typing_ends (a_set b) = base_ends b
+typing_ends (a_list b) = base_ends b
+typing_ends (an_array true ds b) = ends_last (w.Key t.OpenRound ∷ (dims_words ds ++ key t.CloseRound)) (w.Key t.Of) (base_words b) ∙ base_ends b
+typing_ends (an_array false ds b) = ends_last (w.Key t.OpenRound ∷ (dims_words ds ++ key t.CloseRound)) (w.Key t.Of) (base_words b) ∙ base_ends b
 
 formals_end : (n : List ℕ) (xs : Formals) → ends (w.Name n ∷ formal_words xs) ≡ false
 formals_end n no_brackets = refl
@@ -90,70 +91,51 @@ labels_end (and_label n (Some y) xs) = ends_behind (w.Key t.Comma) (label_words 
 
 keyword_end : (x : Keyword) → ends (w.Key (token_of x) ∷ []) ≡ false
 keyword_end keyword.EndModel = refl
-keyword_end keyword.Parameters = refl
-keyword_end keyword.EndParameters = refl
-keyword_end keyword.Declarations = refl
-keyword_end keyword.EndDeclarations = refl
-keyword_end keyword.EndRecord = refl
-keyword_end keyword.EndProcedure = refl
-keyword_end keyword.EndFunction = refl
-keyword_end keyword.Else = refl
-keyword_end keyword.EndIf = refl
-keyword_end keyword.EndCase = refl
-keyword_end keyword.Repeat = refl
-keyword_end keyword.Do = refl
-keyword_end keyword.EndDo = refl
-keyword_end keyword.EndInitializations = refl
+keyword_end _ = refl
 
 operator_colon : (op : Assignment) → is_colon (operator_word op) ≡ false
 operator_colon assignment.Set = refl
-operator_colon assignment.Add = refl
-operator_colon assignment.Take = refl
+operator_colon _ = refl
 
 direction_colon : (d : Direction) → is_colon (direction_word d) ≡ false
 direction_colon direction.From = refl
 direction_colon direction.To = refl
 
-others_end : SyntaxIsPlain → (p : Phrase) → (IsAlternative p → ⊥) → ends (words_of p) ≡ false
+pub others_end : SyntaxIsPlain → (p : Phrase) → (IsAlternative p → ⊥) → ends (words_of p) ≡ false
 others_end plain (word x) a = keyword_end x
-others_end plain break_word a = refl
-others_end plain next_word a = refl
-others_end plain (model_text n) a = refl
-others_end plain (model_name n) a = refl
+others_end plain (model (called.Quoted n)) a = refl
+others_end plain (model (called.Named n)) a = refl
 others_end plain (uses_modules ns) a = ends_behind (w.Key t.Uses) (text_words ns) refl (texts_end ns)
-others_end plain (options_name n) a = refl
 others_end plain (definition n s) a = ends_behind (w.Key t.Equal) (spell s) refl (ends_plain (spell s) (plain s))
 others_end plain (typed ns x) a = ends_last (spell_names ns) (w.Key t.Colon) (typing_words x) ∙ typing_ends x
-others_end plain (record_of n) a = refl
 others_end plain (procedure n xs) a = formals_end n xs
-others_end plain (function n xs b) a = ends_last (w.Key t.Function ∷ w.Name n ∷ formal_words xs) (w.Key t.Colon) (base_words b) ∙ base_ends b (w.Key t.Colon)
+others_end plain (function n xs b) a = ends_last (w.Key t.Function ∷ w.Name n ∷ formal_words xs) (w.Key t.Colon) (base_words b) ∙ base_ends b
 others_end plain (forward_procedure n xs) a = formals_end n xs
-others_end plain (forward_function n xs b) a = ends_last (w.Key t.Forward ∷ w.Key t.Function ∷ w.Name n ∷ formal_words xs) (w.Key t.Colon) (base_words b) ∙ base_ends b (w.Key t.Colon)
+others_end plain (forward_function n xs b) a = ends_last (w.Key t.Forward ∷ w.Key t.Function ∷ w.Name n ∷ formal_words xs) (w.Key t.Colon) (base_words b) ∙ base_ends b
 others_end plain (assign x op s) a = ends_last (target_words x) (operator_word op) (spell s) ∙ ends_behind (operator_word op) (spell s) (operator_colon op) (ends_plain (spell s) (plain s))
 others_end plain (fill n xs) a = ends_last (w.Name n ∷ w.Key t.Fill ∷ w.Key t.OpenSquare ∷ spell_list xs) (w.Key t.CloseSquare) []
 others_end plain (call n xs) a = ends_last (w.Name n ∷ w.Key t.OpenRound ∷ spell_list xs) (w.Key t.CloseRound) []
-others_end plain (bare n) a = refl
-others_end plain (if_then s) a = ends_last (w.Key t.If ∷ spell s) (w.Key t.Then) []
-others_end plain (elif_then s) a = ends_last (w.Key t.Elif ∷ spell s) (w.Key t.Then) []
-others_end plain (case_of s) a = ends_last (w.Key t.Case ∷ spell s) (w.Key t.Of) []
+others_end plain (guarded condition.Case s) a = ends_last (w.Key t.Case ∷ spell s) (w.Key t.Of) []
+others_end plain (guarded condition.While s) a = ends_last (w.Key t.While ∷ w.Key t.OpenRound ∷ spell s) (w.Key t.CloseRound) []
+others_end plain (guarded condition.Until s) a = ends_behind (w.Key t.Until) (spell s) refl (ends_plain (spell s) (plain s))
+others_end plain (guarded g s) a = ends_last (w.Key (condition_word g) ∷ spell s) (w.Key t.Then) []
 others_end plain (alternative xs) a = absurd (a tt)
 others_end plain (forall_in i) a = ends_last (w.Key t.Forall ∷ w.Key t.OpenRound ∷ spell_over i) (w.Key t.CloseRound) []
-others_end plain (while_so s) a = ends_last (w.Key t.While ∷ w.Key t.OpenRound ∷ spell s) (w.Key t.CloseRound) []
-others_end plain (until_so s) a = ends_behind (w.Key t.Until) (spell s) refl (ends_plain (spell s) (plain s))
 others_end plain (initializations d s) a = ends_behind (direction_word d) (spell s) (direction_colon d) (ends_plain (spell s) (plain s))
 others_end plain (labels xs) a = labels_end xs
+others_end plain _ a = refl
 
 -- ---- an alternative
 
 abbrev IsLabelled : List Word → Phrase → Type 0
-IsLabelled inside p = (xs : Written) × AreSome inside xs × (p ≡ alternative xs)
+IsLabelled inside p = (xs : Written) × Writes AreSomeGrouped spell_list inside xs × (p ≡ alternative xs)
 
 either_way : (p : Phrase) → (A : Type 0) → (IsAlternative p → A) → ((IsAlternative p → ⊥) → A) → A
 either_way (alternative xs) A yes_case no_case = yes_case tt
 either_way _ A yes_case no_case = no_case (λ z. z)
 
 labelled : (inside : List Word) (p : Phrase) → IsPhrase (inside ++ key t.Colon) p → IsAlternative p → IsLabelled inside p
-labelled inside (alternative xs) k a = (xs, (record { grouped = k.well.0; exact = append_cancel_right inside (spell_list xs) (key t.Colon) k.exact }, k.well.1), refl)
+labelled inside (alternative xs) k a = (xs, record { grouped = k.well; exact = append_cancel_right inside (spell_list xs) (key t.Colon) k.exact }, refl)
 labelled inside _ k a = absurd a
 
 alternative_back : SyntaxIsPlain → (inside : List Word) (p : Phrase) → IsPhrase (inside ++ key t.Colon) p → IsLabelled inside p
@@ -162,8 +144,8 @@ alternative_back plain inside p k = either_way p (IsLabelled inside p) (labelled
 
 pub alternative_piece : {E : Type 0} → SyntaxIsPlain → (words inside : List Word) → words ≡ inside ++ key t.Colon → (r : Result Form E) → IfOk r (TellsSome (λ xs. f.Alternative xs) inside) → IfOk r (Tells Phrase (IsPhrase words) answer)
 alternative_piece plain words inside e r k =
-    embed_ok (AreSome inside) (λ xs. by_height (heights xs) (f.Alternative (trees xs))) (IsPhrase words) answer alternative
-    (λ xs m. record { well = (m.0.grouped, m.1); exact = e ∙ ap (λ z. z ++ key t.Colon) m.0.exact })
+    embed_ok (Writes AreSomeGrouped spell_list inside) (λ xs. by_height (heights xs) (f.Alternative (trees xs))) (IsPhrase words) answer alternative
+    (λ xs m. record { well = m.grouped; exact = e ∙ ap (λ z. z ++ key t.Colon) m.exact })
     (λ p m. alternative_back plain inside p (subst (λ z. IsPhrase z p) e m))
     (λ xs. refl) r k
 
@@ -197,40 +179,10 @@ said_only words (Err e) k = tt
 
 -- ---- a piece begins with a token or a name
 
-begins : (words : List Word) (p : Phrase) → (IsAlternative p → ⊥) → words ≡ words_of p → ((kind : TokenKind) (rest : List Word) → words ≡ w.Key kind ∷ rest → ⊥) → ((n : List ℕ) (rest : List Word) → words ≡ w.Name n ∷ rest → ⊥) → ⊥
-begins words (word x) a e no_key no_name = no_key _ _ e
-begins words break_word a e no_key no_name = no_key _ _ e
-begins words next_word a e no_key no_name = no_key _ _ e
-begins words (model_text n) a e no_key no_name = no_key _ _ e
-begins words (model_name n) a e no_key no_name = no_key _ _ e
-begins words (uses_modules ns) a e no_key no_name = no_key _ _ e
-begins words (options_name n) a e no_key no_name = no_key _ _ e
-begins words (definition n s) a e no_key no_name = no_name _ _ e
-begins words (typed (one_name n) x) a e no_key no_name = no_name _ _ e
-begins words (typed (and_name n ns) x) a e no_key no_name = no_name _ _ e
-begins words (record_of n) a e no_key no_name = no_name _ _ e
-begins words (procedure n xs) a e no_key no_name = no_key _ _ e
-begins words (function n xs b) a e no_key no_name = no_key _ _ e
-begins words (forward_procedure n xs) a e no_key no_name = no_key _ _ e
-begins words (forward_function n xs b) a e no_key no_name = no_key _ _ e
-begins words (assign (to_name n) op s) a e no_key no_name = no_name _ _ e
-begins words (assign (to_cell n xs) op s) a e no_key no_name = no_name _ _ e
-begins words (assign (to_field n g) op s) a e no_key no_name = no_name _ _ e
-begins words (assign (to_cell_field n xs g) op s) a e no_key no_name = no_name _ _ e
-begins words (assign to_result op s) a e no_key no_name = no_key _ _ e
-begins words (fill n xs) a e no_key no_name = no_name _ _ e
-begins words (call n xs) a e no_key no_name = no_name _ _ e
-begins words (bare n) a e no_key no_name = no_name _ _ e
-begins words (if_then s) a e no_key no_name = no_key _ _ e
-begins words (elif_then s) a e no_key no_name = no_key _ _ e
-begins words (case_of s) a e no_key no_name = no_key _ _ e
-begins words (forall_in i) a e no_key no_name = no_key _ _ e
-begins words (while_so s) a e no_key no_name = no_key _ _ e
-begins words (until_so s) a e no_key no_name = no_key _ _ e
-begins words (initializations d s) a e no_key no_name = no_key _ _ e
-begins words (labels (last_label n shown)) a e no_key no_name = no_name _ _ e
-begins words (labels (and_label n shown xs)) a e no_key no_name = no_name _ _ e
-begins words (alternative xs) a e no_key no_name = a tt
+no_word : (words : List Word) → begins words ≡ true → ((kind : TokenKind) (rest : List Word) → words ≡ w.Key kind ∷ rest → ⊥) → ((n : List ℕ) (rest : List Word) → words ≡ w.Name n ∷ rest → ⊥) → ⊥
+no_word (w.Key kind ∷ rest) e no_key no_name = no_key kind rest refl
+no_word (w.Name n ∷ rest) e no_key no_name = no_name n rest refl
+no_word _ e no_key no_name = cc
 
 pub no_beginning : (words : List Word) → ((kind : TokenKind) (rest : List Word) → words ≡ w.Key kind ∷ rest → ⊥) → ((n : List ℕ) (rest : List Word) → words ≡ w.Name n ∷ rest → ⊥) → TellsPiece words f.Unknown
-no_beginning words no_key no_name = no_piece words (λ p m. begins words p m.1 m.0.exact no_key no_name)
+no_beginning words no_key no_name = no_piece words (λ p m. no_word words (begun words p m.1 m.0.exact) no_key no_name)

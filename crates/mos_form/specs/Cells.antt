@@ -7,10 +7,11 @@ use Rattle.mos_tree.specs.declared.statement.Assignment.{Assignment}
 use Rattle.mos_tree.specs.declared.statement.Reference.{Reference}
 use Rattle.mos_tree.specs.declared.statement.Reference.TheVariants as reference
 use Rattle.mos_scan.specs.declared.reading.Word.{Word}
-use Rattle.mos_expr.specs.Grammar.{Syntax, Written, IsSpelled, height, heights, tree, trees}
+use Rattle.mos_expr.specs.Grammar.{Syntax, Written, height, heights, tree, trees, IsGrouped, spell, spell_list}
 use Rattle.mos_tree.specs.declared.form.Form.{Form}
 use Rattle.mos_form.specs.Phrases.{Target, to_cell, to_cell_field}
-use Rattle.mos_form.specs.Telling.{Tells, by_height, AreSome, assigned}
+use Rattle.mos_expr.specs.Said.{AreSomeGrouped}
+use Rattle.mos_form.specs.Telling.{Tells, by_height, assigned, Writes}
 
 -- a cell, or a field of the record in it
 abbrev pub cell : List ℕ → List Expr → Option (List ℕ) → Reference
@@ -24,7 +25,7 @@ cell_target name indexes (Some field) = to_cell_field name indexes field
 
 -- indexes and a value
 abbrev pub AreParts : List Word → List Word → Written × Syntax → Type 0
-AreParts indexes value p = AreSome indexes p.0 × IsSpelled value p.1
+AreParts indexes value p = Writes AreSomeGrouped spell_list indexes p.0 × Writes IsGrouped spell value p.1
 
 -- the height of the highest of them
 abbrev pub parts_height : Written × Syntax → ℕ

@@ -1,7 +1,7 @@
 -- As the code reads, apart from what the public clauses say: pieces that have no expressions, or
 -- that differ by a word alone.
 
-use Rattle.std.specs.Prelude.{ℕ, Bool, true, false, List, [], ◌∷◌, ◌++◌, Option, Some, None}
+use Rattle.std.specs.Prelude.{ℕ, Bool, true, false, List, [], ◌∷◌, Option, Some, None}
 use Rattle.mos_tree.specs.declared.declaration.BaseType.{BaseType}
 use Rattle.mos_tree.specs.declared.declaration.FormalGroup.{FormalGroup}
 use Rattle.mos_tree.specs.declared.source.ModelName.TheVariants as called
@@ -11,13 +11,10 @@ use Rattle.mos_scan.specs.declared.reading.Word.{Word}
 use Rattle.mos_scan.specs.declared.reading.Word.TheVariants as w
 use Rattle.mos_tree.specs.declared.form.Form.{Form}
 use Rattle.mos_tree.specs.declared.form.Form.TheVariants as f
-use Rattle.mos_tree.specs.declared.form.ConditionKeyword.{ConditionKeyword}
-use Rattle.mos_tree.specs.declared.form.ConditionKeyword.TheVariants as condition
 use Rattle.mos_tree.specs.declared.form.Keyword.{Keyword}
 use Rattle.mos_tree.specs.declared.form.PieceKind.{PieceKind}
 use Rattle.mos_tree.specs.declared.form.PieceKind.TheVariants as m
 use Rattle.mos_tree.specs.declared.form.Simple.TheVariants as simple
-use Rattle.mos_typing.specs.Typing.{key, in_brackets}
 use Rattle.mos_form.specs.Heads.{keyword_of}
 
 -- what stands behind `model`
@@ -37,9 +34,10 @@ heading true n xs typ = f.Forward n xs typ
 heading false n xs typ = f.Routine n xs typ
 
 -- its kind
-abbrev pub heading_kind : Bool → PieceKind → PieceKind
-heading_kind true routine = m.Forward
-heading_kind false routine = routine
+abbrev pub heading_kind : Bool → Option BaseType → PieceKind
+heading_kind true result = m.Forward
+heading_kind false None = m.Procedure
+heading_kind false (Some b) = m.Function
 
 -- the first words of a heading
 abbrev pub lead : Bool → TokenKind → List Word → List Word
@@ -65,19 +63,3 @@ single_word kind = keyword_or (keyword_of kind) (other_word kind)
 abbrev pub single : TokenKind → List Word → Form
 single kind [] = single_word kind
 single kind (word ∷ rest) = f.Unknown
-
--- the token of a keyword with a condition
-abbrev pub condition_word : ConditionKeyword → TokenKind
-condition_word condition.If = t.If
-condition_word condition.Elif = t.Elif
-condition_word condition.Case = t.Case
-condition_word condition.While = t.While
-condition_word condition.Until = t.Until
-
--- the words behind a keyword with these words in its condition
-abbrev pub around : ConditionKeyword → List Word → List Word
-around condition.If inside = inside ++ key t.Then
-around condition.Elif inside = inside ++ key t.Then
-around condition.Case inside = inside ++ key t.Of
-around condition.While inside = in_brackets inside
-around condition.Until inside = inside

@@ -1,7 +1,8 @@
 -- What one piece is as it is written: its words, its form, and how high its expressions are.
 
-use Rattle.std.specs.Prelude.{◌≡◌, ◌≢◌, ℕ, max, if◌then◌else◌, nat_le, List, [], ◌∷◌, ◌++◌, Option, Some, None}
+use Rattle.std.specs.Prelude.{◌≡◌, ℕ, max, if◌then◌else◌, nat_le, List, [], ◌∷◌, ◌++◌, Option, Some, None}
 use Rattle.mos_tree.specs.declared.declaration.BaseType.{BaseType}
+use Rattle.mos_tree.specs.declared.source.ModelName.{ModelName}
 use Rattle.mos_tree.specs.declared.source.ModelName.TheVariants as called
 use Rattle.mos_tree.specs.declared.statement.Assignment.{Assignment}
 use Rattle.mos_tree.specs.declared.statement.Assignment.TheVariants as assignment
@@ -14,14 +15,16 @@ use Rattle.mos_scan.specs.declared.token.TokenKind.{TokenKind}
 use Rattle.mos_scan.specs.declared.token.TokenKind.TheVariants as t
 use Rattle.mos_scan.specs.declared.reading.Word.{Word}
 use Rattle.mos_scan.specs.declared.reading.Word.TheVariants as w
-use Rattle.mos_expr.specs.Grammar.{Syntax, Written, no_more, Over, Names, one_name, and_name, spell, spell_list, spell_over, spell_names, list_of_names, IsGrouped, AreGrouped, IsGroupedOver, height, heights, height_over, limit, tree, trees, index_of}
+use Rattle.mos_expr.specs.Grammar.{Syntax, Written, Over, Names, one_name, and_name, spell, spell_list, spell_over, spell_names, list_of_names, IsGrouped, AreGrouped, IsGroupedOver, height, heights, height_over, limit, tree, trees, index_of}
 use Rattle.mos_typing.specs.Typing.{Typing, Formals, key, in_brackets, base_words, typing_words, formal_words, type_of, formals_of, tallest_type, tallest_formals, TypeIsGrouped, FormalsAreGrouped}
 use Rattle.mos_tree.specs.declared.form.Form.{Form}
 use Rattle.mos_tree.specs.declared.form.Form.TheVariants as f
+use Rattle.mos_tree.specs.declared.form.ConditionKeyword.{ConditionKeyword}
 use Rattle.mos_tree.specs.declared.form.ConditionKeyword.TheVariants as condition
 use Rattle.mos_tree.specs.declared.form.Keyword.TheVariants as keyword
 use Rattle.mos_tree.specs.declared.form.Keyword.{Keyword}
 use Rattle.mos_tree.specs.declared.form.Simple.TheVariants as simple
+use Rattle.mos_expr.specs.Said.{AreSomeGrouped}
 use Rattle.mos_tree.specs.Forms.{piece_kind_of}
 
 -- ---- what is written
@@ -44,8 +47,7 @@ pub data Phrase : Type 0 where
   word : Keyword → Phrase  -- one reserved word
   break_word : Phrase
   next_word : Phrase
-  model_text : List ℕ → Phrase
-  model_name : List ℕ → Phrase
+  model : ModelName → Phrase
   uses_modules : Names → Phrase
   options_name : List ℕ → Phrase
   definition : List ℕ → Syntax → Phrase
@@ -59,13 +61,9 @@ pub data Phrase : Type 0 where
   fill : List ℕ → Written → Phrase
   call : List ℕ → Written → Phrase
   bare : List ℕ → Phrase
-  if_then : Syntax → Phrase
-  elif_then : Syntax → Phrase
-  case_of : Syntax → Phrase
+  guarded : ConditionKeyword → Syntax → Phrase  -- a keyword with its condition
   alternative : Written → Phrase
   forall_in : Over → Phrase
-  while_so : Syntax → Phrase
-  until_so : Syntax → Phrase
   initializations : Direction → Syntax → Phrase
   labels : Labels → Phrase
 
@@ -123,13 +121,32 @@ target_words (to_field n x) = w.Name n ∷ w.Key t.Dot ∷ w.Name x ∷ []
 target_words (to_cell_field n xs x) = w.Name n ∷ (in_brackets (spell_list xs) ++ w.Key t.Dot ∷ w.Name x ∷ [])
 target_words to_result = key t.Returned
 
+-- the name of a model
+abbrev pub model_word : ModelName → Word
+model_word (called.Quoted n) = w.Text n
+model_word (called.Named n) = w.Name n
+
+-- the token of a keyword with a condition
+abbrev pub condition_word : ConditionKeyword → TokenKind
+condition_word condition.If = t.If
+condition_word condition.Elif = t.Elif
+condition_word condition.Case = t.Case
+condition_word condition.While = t.While
+condition_word condition.Until = t.Until
+
+-- the words behind a keyword with these words in its condition
+abbrev pub around : ConditionKeyword → List Word → List Word
+around condition.Case inside = inside ++ key t.Of
+around condition.While inside = in_brackets inside
+around condition.Until inside = inside
+around _ inside = inside ++ key t.Then
+
 -- the words of a piece
 abbrev pub words_of : Phrase → List Word
 words_of (word x) = key (token_of x)
 words_of break_word = key t.Break
 words_of next_word = key t.Next
-words_of (model_text n) = w.Key t.Model ∷ w.Text n ∷ []
-words_of (model_name n) = w.Key t.Model ∷ w.Name n ∷ []
+words_of (model n) = w.Key t.Model ∷ model_word n ∷ []
 words_of (uses_modules ns) = w.Key t.Uses ∷ text_words ns
 words_of (options_name n) = w.Key t.Options ∷ w.Name n ∷ []
 words_of (definition n s) = w.Name n ∷ w.Key t.Equal ∷ spell s
@@ -143,13 +160,9 @@ words_of (assign x operator s) = target_words x ++ operator_word operator ∷ sp
 words_of (fill n xs) = w.Name n ∷ w.Key t.Fill ∷ w.Key t.OpenSquare ∷ (spell_list xs ++ key t.CloseSquare)
 words_of (call n xs) = w.Name n ∷ in_brackets (spell_list xs)
 words_of (bare n) = w.Name n ∷ []
-words_of (if_then s) = w.Key t.If ∷ (spell s ++ key t.Then)
-words_of (elif_then s) = w.Key t.Elif ∷ (spell s ++ key t.Then)
-words_of (case_of s) = w.Key t.Case ∷ (spell s ++ key t.Of)
+words_of (guarded g s) = w.Key (condition_word g) ∷ around g (spell s)
 words_of (alternative xs) = spell_list xs ++ key t.Colon
 words_of (forall_in i) = w.Key t.Forall ∷ in_brackets (spell_over i)
-words_of (while_so s) = w.Key t.While ∷ in_brackets (spell s)
-words_of (until_so s) = w.Key t.Until ∷ spell s
 words_of (initializations d s) = w.Key t.Initializations ∷ direction_word d ∷ spell s
 words_of (labels xs) = label_words xs
 
@@ -173,8 +186,7 @@ abbrev pub form_of : Phrase → Form
 form_of (word x) = f.Keyword x
 form_of break_word = f.Simple simple.Break
 form_of next_word = f.Simple simple.Next
-form_of (model_text n) = f.Model (called.Quoted n)
-form_of (model_name n) = f.Model (called.Named n)
+form_of (model n) = f.Model n
 form_of (uses_modules ns) = f.Uses (list_of_names ns)
 form_of (options_name n) = f.Options n
 form_of (definition n s) = f.Definition n (tree s)
@@ -188,13 +200,9 @@ form_of (assign x operator s) = f.Simple (simple.Assign (reference_of x) operato
 form_of (fill n xs) = f.Simple (simple.Fill n (trees xs))
 form_of (call n xs) = f.Simple (simple.Call n (trees xs))
 form_of (bare n) = f.Bare n
-form_of (if_then s) = f.Guarded condition.If (tree s)
-form_of (elif_then s) = f.Guarded condition.Elif (tree s)
-form_of (case_of s) = f.Guarded condition.Case (tree s)
+form_of (guarded g s) = f.Guarded g (tree s)
 form_of (alternative xs) = f.Alternative (trees xs)
 form_of (forall_in i) = f.Forall (index_of i)
-form_of (while_so s) = f.Guarded condition.While (tree s)
-form_of (until_so s) = f.Guarded condition.Until (tree s)
 form_of (initializations d s) = f.Initializations d (tree s)
 form_of (labels xs) = f.Labels (labels_of xs)
 
@@ -204,9 +212,7 @@ form_of (labels xs) = f.Labels (labels_of xs)
 abbrev pub tallest_target : Target → ℕ
 tallest_target (to_cell n xs) = heights xs
 tallest_target (to_cell_field n xs x) = heights xs
-tallest_target (to_name n) = 0
-tallest_target (to_field n x) = 0
-tallest_target to_result = 0
+tallest_target _ = 0
 
 -- the height of the highest expression tree in a piece, 0 where there is none
 abbrev pub tallest : Phrase → ℕ
@@ -219,40 +225,24 @@ tallest (forward_function n xs b) = tallest_formals xs
 tallest (assign x operator s) = max (tallest_target x) (height s)
 tallest (fill n xs) = heights xs
 tallest (call n xs) = heights xs
-tallest (if_then s) = height s
-tallest (elif_then s) = height s
-tallest (case_of s) = height s
+tallest (guarded g s) = height s
 tallest (alternative xs) = heights xs
 tallest (forall_in i) = height_over i
-tallest (while_so s) = height s
-tallest (until_so s) = height s
 tallest (initializations d s) = height s
-tallest (word x) = 0
-tallest break_word = 0
-tallest next_word = 0
-tallest (model_text n) = 0
-tallest (model_name n) = 0
-tallest (uses_modules ns) = 0
-tallest (options_name n) = 0
-tallest (record_of n) = 0
-tallest (bare n) = 0
-tallest (labels xs) = 0
+tallest _ = 0
 
 -- ---- what each part must be
 
 -- a cell has at least one index
 abbrev pub TargetIs : Target → Type 0
-TargetIs (to_cell n xs) = AreGrouped xs × (xs ≢ no_more)
-TargetIs (to_cell_field n xs x) = AreGrouped xs × (xs ≢ no_more)
-TargetIs (to_name n) = Unit {0}
-TargetIs (to_field n x) = Unit {0}
-TargetIs to_result = Unit {0}
+TargetIs (to_cell n xs) = AreSomeGrouped xs
+TargetIs (to_cell_field n xs x) = AreSomeGrouped xs
+TargetIs _ = Unit {0}
 
 -- one label without a text behind it is a name alone
 abbrev pub LabelsAre : Labels → Type 0
 LabelsAre (last_label n None) = ⊥
-LabelsAre (last_label n (Some x)) = Unit {0}
-LabelsAre (and_label n shown rest) = Unit {0}
+LabelsAre _ = Unit {0}
 
 -- each expression is grouped rightly, an alternative has a label, a cell an index
 abbrev pub IsWell : Phrase → Type 0
@@ -265,24 +255,12 @@ IsWell (forward_function n xs b) = FormalsAreGrouped xs
 IsWell (assign x operator s) = TargetIs x × IsGrouped s
 IsWell (fill n xs) = AreGrouped xs
 IsWell (call n xs) = AreGrouped xs
-IsWell (if_then s) = IsGrouped s
-IsWell (elif_then s) = IsGrouped s
-IsWell (case_of s) = IsGrouped s
-IsWell (alternative xs) = AreGrouped xs × (xs ≢ no_more)
+IsWell (guarded g s) = IsGrouped s
+IsWell (alternative xs) = AreSomeGrouped xs
 IsWell (forall_in i) = IsGroupedOver i
-IsWell (while_so s) = IsGrouped s
-IsWell (until_so s) = IsGrouped s
 IsWell (initializations d s) = IsGrouped s
 IsWell (labels xs) = LabelsAre xs
-IsWell (word x) = Unit {0}
-IsWell break_word = Unit {0}
-IsWell next_word = Unit {0}
-IsWell (model_text n) = Unit {0}
-IsWell (model_name n) = Unit {0}
-IsWell (uses_modules ns) = Unit {0}
-IsWell (options_name n) = Unit {0}
-IsWell (record_of n) = Unit {0}
-IsWell (bare n) = Unit {0}
+IsWell _ = Unit {0}
 
 -- ---- what words are
 

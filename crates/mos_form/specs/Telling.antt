@@ -1,7 +1,7 @@
 -- As the code reads, apart from what the public clauses say: what is told of words that may be one
 -- of many things, of which only one fits.
 
-use Rattle.std.specs.Prelude.{◌≡◌, ◌≢◌, ℕ, if◌then◌else◌, nat_le, List, ◌∷◌, ◌++◌, Option, Some, None}
+use Rattle.std.specs.Prelude.{◌≡◌, ℕ, if◌then◌else◌, nat_le, List, ◌∷◌, ◌++◌, Option, Some, None}
 use Rattle.mos_tree.specs.declared.expr.Expr.{Expr}
 use Rattle.mos_tree.specs.declared.expr.Index.{Index}
 use Rattle.mos_tree.specs.declared.declaration.TypeForm.{TypeForm}
@@ -9,10 +9,10 @@ use Rattle.mos_tree.specs.declared.declaration.FormalGroup.{FormalGroup}
 use Rattle.mos_tree.specs.declared.statement.Assignment.{Assignment}
 use Rattle.mos_tree.specs.declared.statement.Reference.{Reference}
 use Rattle.mos_scan.specs.declared.reading.Word.{Word}
-use Rattle.mos_expr.specs.Grammar.{Names, spell_names, list_of_names, Syntax, Written, no_more, Over, IsSpelled, AreSpelled, IsIndexSpelled, height, heights, height_over, limit, tree, trees, index_of}
+use Rattle.mos_expr.specs.Grammar.{Names, spell_names, list_of_names, height, heights, height_over, limit, tree, trees, index_of, IsGrouped, AreGrouped, IsGroupedOver, spell, spell_list, spell_over}
 use Rattle.mos_expr.specs.declared.fault.ExprFault.{ExprFault}
 use Rattle.mos_expr.specs.declared.fault.ExprFault.TheVariants as fault
-use Rattle.mos_typing.specs.Typing.{Typing, Formals, IsTyping, AreFormals, tallest_type, tallest_formals, type_of, formals_of}
+use Rattle.mos_typing.specs.Typing.{Typing, tallest_type, tallest_formals, type_of, formals_of, TypeIsGrouped, FormalsAreGrouped, typing_words, formal_words}
 use Rattle.mos_tree.specs.declared.form.Form.{Form}
 use Rattle.mos_tree.specs.declared.form.Form.TheVariants as f
 use Rattle.mos_tree.specs.declared.form.PieceKind.{PieceKind}
@@ -20,6 +20,7 @@ use Rattle.mos_tree.specs.declared.form.Simple.TheVariants as simple
 use Rattle.mos_tree.specs.Forms.{piece_kind_of}
 use Rattle.mos_form.specs.Phrases.{Phrase, alternative, call, typed, labels, assign, operator_word, target_words, IsPhrase, answer}
 use Rattle.mos_scan.specs.declared.token.TokenKind.TheVariants as t
+use Rattle.mos_expr.specs.Said.{AreSomeGrouped}
 use Rattle.mos_scan.specs.declared.reading.Word.TheVariants as w
 
 -- the form of the one thing that fits, or that none fits
@@ -37,33 +38,38 @@ refused kind fault.NoExpr = Some f.Unknown
 refused kind fault.Deep = Some (f.TooHigh kind)
 refused kind fault.NoMemory = None
 
+-- what is written is grouped rightly and has these words
+pub record Writes {S : Type 0} (Grouped : S → Type 0) (words_of : S → List Word) (words : List Word) (written : S) : Type 0 where
+  pub grouped : Grouped written
+  pub exact : words ≡ words_of written
+
+-- a form with what the words spell
+abbrev pub TellsOf : {S T : Type 0} → (S → Type 0) → (S → List Word) → (S → T) → (S → ℕ) → (T → Form) → List Word → Form → Type 0
+TellsOf {S = S} Grouped words_of tree_of height_of make words = Tells S (Writes Grouped words_of words) (λ s. by_height (height_of s) (make (tree_of s)))
+
 -- a form with one expression
 abbrev pub TellsOne : (Expr → Form) → List Word → Form → Type 0
-TellsOne make words = Tells Syntax (IsSpelled words) (λ s. by_height (height s) (make (tree s)))
+TellsOne = TellsOf IsGrouped spell tree height
 
 -- a form with expressions
 abbrev pub TellsAll : (List Expr → Form) → List Word → Form → Type 0
-TellsAll make words = Tells Written (AreSpelled words) (λ ss. by_height (heights ss) (make (trees ss)))
-
--- at least one expression
-abbrev pub AreSome : List Word → Written → Type 0
-AreSome words ss = AreSpelled words ss × (ss ≢ no_more)
+TellsAll = TellsOf AreGrouped spell_list trees heights
 
 -- a form with at least one expression
 abbrev pub TellsSome : (List Expr → Form) → List Word → Form → Type 0
-TellsSome make words = Tells Written (AreSome words) (λ ss. by_height (heights ss) (make (trees ss)))
+TellsSome = TellsOf AreSomeGrouped spell_list trees heights
 
 -- a form with an index
 abbrev pub TellsIndex : (Index Expr → Form) → List Word → Form → Type 0
-TellsIndex make words = Tells Over (IsIndexSpelled words) (λ i. by_height (height_over i) (make (index_of i)))
+TellsIndex = TellsOf IsGroupedOver spell_over index_of height_over
 
 -- a form with a type
 abbrev pub TellsType : (TypeForm → Form) → List Word → Form → Type 0
-TellsType make words = Tells Typing (IsTyping words) (λ t. by_height (tallest_type t) (make (type_of t)))
+TellsType = TellsOf TypeIsGrouped typing_words type_of tallest_type
 
 -- a form with formals
 abbrev pub TellsFormals : (List FormalGroup → Form) → List Word → Form → Type 0
-TellsFormals make words = Tells Formals (AreFormals words) (λ xs. by_height (tallest_formals xs) (make (formals_of xs)))
+TellsFormals = TellsOf FormalsAreGrouped formal_words formals_of tallest_formals
 
 -- an assignment
 abbrev pub assigned : Reference → Assignment → Expr → Form
@@ -121,7 +127,7 @@ TellsList words = Tells Phrase (λ p. IsPhrase words p × IsListed p) answer
 
 -- names with a type, cut at their colon
 abbrev pub AreTyped : List Word → List Word → Names × Typing → Type 0
-AreTyped before behind p = (before ≡ spell_names p.0) × IsTyping behind p.1
+AreTyped before behind p = (before ≡ spell_names p.0) × Writes TypeIsGrouped typing_words behind p.1
 
 -- what names with a type are
 abbrev pub TellsTyped : List Word → List Word → Form → Type 0

@@ -59,50 +59,38 @@ fn heading(
     }
 }
 
-fn heading_kind(forward: bool, routine: PieceKind) -> PieceKind
-    ensures { result ≡ fixed.heading_kind forward routine }
+fn heading_kind(forward: bool, typ: &Option<BaseType>) -> PieceKind
+    ensures { result ≡ fixed.heading_kind forward typ.now }
 {
-    if forward { PieceKind::Forward } else { routine }
-}
-
-/// The procedure with this name and these formals.
-fn procedure_of(
-    alloc: Global,
-    forward: bool,
-    name: &SourceText,
-    words: &[Word],
-) -> Result<Form, NoMemory>
-    ensures { IfOk result (spec.TellsFormals
-        (λ xs. fixed.heading forward name.now xs None) words.now) }
-{
-    let name = name.copy(alloc)?;
-    match formals(alloc, words) {
-        Ok(formals) => Ok(heading(forward, name, formals, None)),
-        Err(fault) => {
-            let_go(name);
-            refused(fault, heading_kind(forward, PieceKind::Procedure))
+    if forward {
+        PieceKind::Forward
+    } else {
+        match typ {
+            None => PieceKind::Procedure,
+            Some(_) => PieceKind::Function,
         }
     }
 }
 
-/// The function with this name, these formals and this result.
-fn function_of(
+/// The routine with this name, these formals and perhaps a result.
+fn routine(
     alloc: Global,
     forward: bool,
     name: &SourceText,
     words: &[Word],
-    base: BaseType,
+    typ: Option<BaseType>,
 ) -> Result<Form, NoMemory>
     ensures { IfOk result (spec.TellsFormals
-        (λ xs. fixed.heading forward name.now xs (Some base)) words.now) }
+        (λ xs. fixed.heading forward name.now xs typ) words.now) }
 {
     let name = name.copy(alloc)?;
     match formals(alloc, words) {
-        Ok(formals) => Ok(heading(forward, name, formals, Some(base))),
+        Ok(formals) => Ok(heading(forward, name, formals, typ)),
         Err(fault) => {
+            let kind = heading_kind(forward, &typ);
             let_go(name);
-            let_go(base);
-            refused(fault, heading_kind(forward, PieceKind::Function))
+            let_go(typ);
+            refused(fault, kind)
         }
     }
 }
@@ -112,7 +100,7 @@ pub(crate) fn procedure(alloc: Global, forward: bool, words: &[Word]) -> Result<
     ensures { IfOk result (spec.TellsPiece (fixed.lead forward t.Procedure words.now)) }
 {
     match first_name(words) {
-        Some((name, formals)) => procedure_of(alloc, forward, name, formals),
+        Some((name, formals)) => routine(alloc, forward, name, formals, None),
         None => Ok(Form::Unknown),
     }
 }
@@ -131,7 +119,7 @@ fn after_name(
         Some((formals, word)) => {
             let base = base_type(alloc, word)?;
             match base {
-                Some(base) => function_of(alloc, forward, name, formals, base),
+                Some(base) => routine(alloc, forward, name, formals, Some(base)),
                 None => Ok(Form::Unknown),
             }
         }

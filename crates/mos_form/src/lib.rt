@@ -6,7 +6,9 @@ mod cut;
 mod expressions;
 mod head;
 mod headings;
+mod laws;
 mod lists;
 mod reading;
 
+pub use laws::words_have_one_form;
 pub use reading::form_of;

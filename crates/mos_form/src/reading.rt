@@ -4,6 +4,7 @@ ghost use Rattle.mos_tree.specs.Sizes.{size_of_form};
 ghost use Rattle.mos_scan.specs.declared.reading.Word.TheVariants as w;
 ghost use Rattle.mos_scan.specs.declared.token.TokenKind.TheVariants as t;
 ghost use Rattle.mos_form.specs.Phrases.{IsFormOf, Phrase, IsPhrase, answer, operator_word};
+ghost use Rattle.mos_form.specs.Phrases as phrases;
 ghost use Rattle.mos_form.specs.Fixed as fixed;
 ghost use Rattle.mos_form.specs.Telling as spec;
 ghost use Rattle.mos_typing.specs.Shapes.{AreNo};
@@ -98,8 +99,8 @@ fn single_word(kind: TokenKind) -> Form
 
 /// The words of the condition behind its keyword.
 fn condition(keyword: ConditionKeyword, rest: &[Word]) -> Option<&[Word]>
-    ensures { MatchOption result (AreNo (fixed.around keyword) rest.now)
-        (λ inside. rest.now ≡ fixed.around keyword inside.now) }
+    ensures { MatchOption result (AreNo (phrases.around keyword) rest.now)
+        (λ inside. rest.now ≡ phrases.around keyword inside.now) }
 {
     match keyword {
         ConditionKeyword::If | ConditionKeyword::Elif => before_last(rest, TokenKind::Then),
@@ -115,7 +116,7 @@ fn behind_condition(
     keyword: ConditionKeyword,
     rest: &[Word],
 ) -> Result<Form, NoMemory>
-    ensures { IfOk result (spec.TellsPiece (w.Key (fixed.condition_word keyword) ∷ rest.now)) }
+    ensures { IfOk result (spec.TellsPiece (w.Key (phrases.condition_word keyword) ∷ rest.now)) }
 {
     match condition(keyword, rest) {
         Some(inside) => guarded(alloc, keyword, inside),

@@ -7,44 +7,26 @@ use Rattle.mos_tree.specs.declared.source.Tree.{Tree}
 use Rattle.mos_tree.specs.declared.form.PieceForm.{PieceForm}
 use Rattle.mos_tree.specs.Sizes.{size_of_tree}
 use Rattle.mos_scan.specs.declared.token.Token.{Token}
-use Rattle.mos_scan.specs.declared.piece.Piece.{Piece}
 use Rattle.mos_scan.specs.declared.fault.LexFault.{LexFault}
 use Rattle.mos_scan.specs.declared.fault.LexFault.TheVariants as lex
-use Rattle.mos_scan.specs.Cuts.{IsTokenList, IsLexicalFault}
-use Rattle.mos_scan.specs.Laws.{OneListOfPieces}
-use Rattle.mos_scan.specs.Pieces.{ArePieces}
+use Rattle.mos_scan.specs.Cuts.{IsTokenList}
 use Rattle.mos_scan.specs.Scans as scans
 use Rattle.mos_source.specs.Sources.{IsSource}
 use Rattle.mos_source.specs.Faults.{IsKind, too_early, beyond, misplaced as out_of_place, line_of_first, FaultyOn}
-use Rattle.mos_source.specs.Laws.{HaveOneTree, HaveOneFault, HaveNotBoth}
+use Rattle.mos_source.specs.Laws.{HaveOneFault, HaveNotBoth}
 use Rattle.mos_source.specs.Answers.{IsTree, BreaksOn}
 use Rattle.mos_parse.specs.declared.fault.SyntaxFault.{SyntaxFault}
 use Rattle.mos_parse.specs.declared.fault.SyntaxFault.TheVariants.{Refused, NoMemory}
-use Rattle.mos_parse.specs.Parsed.{AreForms, HasForms, IsParsed, line_or_last, IsFaultyLine, BreaksOnLine, IsSyntaxFault, lexical, misplaced}
+use Rattle.mos_parse.specs.Parsed.{HasForms, IsParsed, line_or_last, IsFaultyLine, BreaksOnLine, IsSyntaxFault, lexical, misplaced}
+use Rattle.mos_parse.specs.Laws.{NoSourceHasBoth, SourcesHaveOneTree, SourcesHaveOneFault, SourcesHaveOneListOfForms}
 use Rattle.mos_parse.specs.Answers.{GivesTree, GivesFault, IsFaultOf, BreaksBy}
-use Rattle.mos_parse.specs.Steps.{of_tokens, HaveForms, HasFault, IsReading, Reads}
+use Rattle.mos_parse.specs.Steps.{of_tokens, HasFault, IsReading, Reads}
 
 -- ---- where there are tokens
-
--- these are the tokens, and there are no others
-abbrev pub AreTheTokens : List ℕ → List Token → Type 0
-AreTheTokens source tokens = (others : List Token) → IsTokenList source others → tokens ≡ others
-
-same_forms : OneListOfPieces → (source : List ℕ) (tokens : List Token) (pieces : List Piece) (mine forms : List PieceForm) → AreTheTokens source tokens → ArePieces tokens pieces
-    → HaveForms source tokens pieces mine → HasForms source forms → forms ≡ mine
-same_forms law source tokens pieces mine forms the parted have h =
-    let t : h.tokens ≡ tokens = sym (the h.tokens h.cut) in
-    let p : h.pieces ≡ pieces = law tokens h.pieces pieces (subst (λ z. ArePieces z h.pieces) t h.parted) parted in
-    have.only forms (subst (λ z. AreForms source tokens z forms) p (subst (λ z. AreForms source z h.pieces forms) t h.forms_are))
 
 -- the forms that were read are those of the source
 read_forms : (source : List ℕ) (tokens : List Token) (result : Result Tree SyntaxFault) → IsTokenList source tokens → (r : IsReading source tokens result) → HasForms source r.forms
 read_forms source tokens result cut r = record { tokens = tokens; cut = cut; pieces = r.pieces; parted = r.parted; forms_are = r.have.are }
-
--- the forms of the source are those that were read
-only_forms : OneListOfPieces → (source : List ℕ) (tokens : List Token) (result : Result Tree SyntaxFault) (forms : List PieceForm) → AreTheTokens source tokens → (r : IsReading source tokens result) → HasForms source forms
-    → forms ≡ r.forms
-only_forms law source tokens result forms the r h = same_forms law source tokens r.pieces r.forms forms the r.parted r.have h
 
 pub tokens_faulty : (source : List ℕ) (tokens : List Token) (result : Result Tree SyntaxFault) → IsTokenList source tokens → Reads source tokens result → IfErr result (IsFaultOf source)
 tokens_faulty source tokens (Ok tree) cut r = tt
@@ -56,20 +38,9 @@ tokens_found source tokens (Ok tree) cut r = record { forms = r.forms; read = re
 tokens_found source tokens (Err x) cut r = tt
 
 -- forms with a tree have no faulty piece
-never_both : HaveNotBoth → (source : List ℕ) (forms : List PieceForm) (tree : Tree) (line : ℕ) (kind : Kind) → IsTree forms tree → IsFaultyLine source forms line kind → ⊥
+pub never_both : HaveNotBoth → (source : List ℕ) (forms : List PieceForm) (tree : Tree) (line : ℕ) (kind : Kind) → IsTree forms tree → IsFaultyLine source forms line kind → ⊥
 never_both law source forms tree line kind t f =
     law f.faulty.before f.faulty.after t.0 (subst (λ z. IsSource z t.0) f.faulty.cut t.1) f.faulty.faulty
-
-pub tokens_only : OneListOfPieces → HaveOneTree → HaveNotBoth → (source : List ℕ) (tokens : List Token) (result : Result Tree SyntaxFault) → AreTheTokens source tokens → Reads source tokens result
-    → (tree : Tree) → IsParsed source tree → GivesTree result tree
-tokens_only law one both source tokens (Ok x) the r tree h =
-    let same : h.forms ≡ r.forms = only_forms law source tokens (Ok x) h.forms the r h.read in
-    let t : IsTree r.forms tree = subst (λ z. IsTree z tree) same h.tree_is in
-    r.says.tree_is.2 ∙ one r.forms r.says.tree_is.0 t.0 r.says.tree_is.1 t.1 ∙ sym t.2
-tokens_only law one both source tokens (Err NoMemory) the r tree h = tt
-tokens_only law one both source tokens (Err (Refused refusal)) the r tree h =
-    let same : h.forms ≡ r.forms = only_forms law source tokens (Err (Refused refusal)) h.forms the r h.read in
-    never_both both source r.forms tree refusal.line refusal.kind (subst (λ z. IsTree z tree) same h.tree_is) r.says.faulty
 
 one_kind : (before after : List PieceForm) (k l : Kind) → IsKind before after k → IsKind before after l → k ≡ l
 one_kind before after k l too_early too_early = refl
@@ -78,7 +49,7 @@ one_kind before after k l (beyond x xs c) (out_of_place y ys d) = absurd (d c)
 one_kind before after k l (out_of_place x xs c) (beyond y ys d) = absurd (c d)
 one_kind before after k l (out_of_place x xs c) (out_of_place y ys d) = refl
 
-one_line : HaveOneFault → (source : List ℕ) (forms : List PieceForm) (line at : ℕ) (kind what : Kind) → IsFaultyLine source forms line kind → IsFaultyLine source forms at what → (at ≡ line) × (what ≡ kind)
+pub one_line : HaveOneFault → (source : List ℕ) (forms : List PieceForm) (line at : ℕ) (kind what : Kind) → IsFaultyLine source forms line kind → IsFaultyLine source forms at what → (at ≡ line) × (what ≡ kind)
 one_line law source forms line at kind what f g =
     let cuts : f.faulty.before ++ f.faulty.after ≡ g.faulty.before ++ g.faulty.after = sym f.faulty.cut ∙ g.faulty.cut in
     let before : f.faulty.before ≡ g.faulty.before = law f.faulty.before f.faulty.after g.faulty.before g.faulty.after cuts f.faulty.faulty g.faulty.faulty in
@@ -87,24 +58,12 @@ one_line law source forms line at kind what f g =
     let there : g.at ≡ f.at = g.faulty.line_is ∙ ap (λ z. line_of_first z) (sym after) ∙ sym f.faulty.line_is in
     (g.line_is ∙ ap (λ z. line_or_last source z) there ∙ sym f.line_is, one_kind g.faulty.before g.faulty.after what kind g.faulty.named moved)
 
-pub tokens_only_fault : OneListOfPieces → HaveOneFault → HaveNotBoth → (source : List ℕ) (tokens : List Token) (result : Result Tree SyntaxFault) → AreTheTokens source tokens
-    → ((place : ℕ) (kind : Kind) → IsLexicalFault source place kind → ⊥) → Reads source tokens result
-    → (line : ℕ) (kind : Kind) → IsSyntaxFault source line kind → GivesFault result line kind
-tokens_only_fault law one both source tokens result the none r line kind (lexical column f) = absurd (none f.place kind f.fault)
-tokens_only_fault law one both source tokens (Ok x) the none r line kind (misplaced forms h f) =
-    let same : forms ≡ r.forms = only_forms law source tokens (Ok x) forms the r h in
-    never_both both source r.forms x line kind r.says.tree_is (subst (λ z. IsFaultyLine source z line kind) same f)
-tokens_only_fault law one both source tokens (Err NoMemory) the none r line kind (misplaced forms h f) = tt
-tokens_only_fault law one both source tokens (Err (Refused refusal)) the none r line kind (misplaced forms h f) =
-    let same : forms ≡ r.forms = only_forms law source tokens (Err (Refused refusal)) forms the r h in
-    one_line one source r.forms line refusal.line kind refusal.kind (subst (λ z. IsFaultyLine source z line kind) same f) r.says.faulty
-
 -- the faulty piece is the one at which the productions break
-pub tokens_breaks : OneListOfPieces → (source : List ℕ) (tokens : List Token) (result : Result Tree SyntaxFault) → AreTheTokens source tokens → Reads source tokens result → IfErr result (BreaksBy source)
-tokens_breaks law source tokens (Ok x) the r = tt
-tokens_breaks law source tokens (Err NoMemory) the r = tt
-tokens_breaks law source tokens (Err (Refused refusal)) the r =
-    λ forms h. subst (λ z. BreaksOnLine source z refusal.line) (sym (only_forms law source tokens (Err (Refused refusal)) forms the r h)) r.says.breaks
+pub tokens_breaks : SourcesHaveOneListOfForms → (source : List ℕ) (tokens : List Token) (result : Result Tree SyntaxFault) → IsTokenList source tokens → Reads source tokens result → IfErr result (BreaksBy source)
+tokens_breaks law source tokens (Ok x) cut r = tt
+tokens_breaks law source tokens (Err NoMemory) cut r = tt
+tokens_breaks law source tokens (Err (Refused refusal)) cut r =
+    λ forms h. subst (λ z. BreaksOnLine source z refusal.line) (law source r.forms forms (read_forms source tokens (Err (Refused refusal)) cut r) h) r.says.breaks
 
 -- a tree is no larger than its pieces, these have no more nodes than words, and a source has a byte for each word
 pub tokens_no_larger : (source : List ℕ) (tokens : List Token) (result : Result Tree SyntaxFault) → length tokens ≤ length source → Reads source tokens result → IfOk result (λ tree. size_of_tree tree ≤ length source)
@@ -126,19 +85,20 @@ fault_faulty source lex.NoMemory f = tt
 abbrev pub Lacks : List ℕ → LexFault → Type 0
 Lacks source fault = (tokens : List Token) → IsTokenList source tokens → scans.IsNoMemory fault
 
-pub fault_only : (source : List ℕ) (fault : LexFault) → Lacks source fault → (tree : Tree) → IsParsed source tree → GivesTree (Err (of_tokens fault)) tree
-fault_only source (lex.At line column kind) lacks tree h = lacks h.read.tokens h.read.cut
-fault_only source lex.NoMemory lacks tree h = tt
-
-pub fault_only_fault : (source : List ℕ) (fault : LexFault) → Lacks source fault → ((place : ℕ) (kind : Kind) → IsLexicalFault source place kind → scans.Names fault source place kind)
-    → (line : ℕ) (kind : Kind) → IsSyntaxFault source line kind → GivesFault (Err (of_tokens fault)) line kind
-fault_only_fault source lex.NoMemory lacks named line kind f = tt
-fault_only_fault source (lex.At at column what) lacks named line kind (lexical c f) =
-    let n = named f.place kind f.fault in
-    (n.0 ∙ sym f.line_is, n.2)
-fault_only_fault source (lex.At at column what) lacks named line kind (misplaced forms h f) = absurd (lacks h.tokens h.cut)
-
 -- a source without tokens has no pieces
 pub fault_breaks : (source : List ℕ) (fault : LexFault) → Lacks source fault → BreaksBy source (of_tokens fault)
 fault_breaks source (lex.At line column kind) lacks = λ forms h. absurd (lacks h.tokens h.cut)
 fault_breaks source lex.NoMemory lacks = tt
+
+-- ---- there is no other answer
+
+pub gives_tree : SourcesHaveOneTree → NoSourceHasBoth → (source : List ℕ) (r : Result Tree SyntaxFault) → IfOk r (IsParsed source) → IfErr r (IsFaultOf source) → (tree : Tree) → IsParsed source tree → GivesTree r tree
+gives_tree one both source (Ok x) found faulty tree h = one source x tree found h
+gives_tree one both source (Err NoMemory) found faulty tree h = tt
+gives_tree one both source (Err (Refused refusal)) found faulty tree h = both source tree refusal.line refusal.kind h faulty
+
+pub gives_fault : SourcesHaveOneFault → NoSourceHasBoth → (source : List ℕ) (r : Result Tree SyntaxFault) → IfOk r (IsParsed source) → IfErr r (IsFaultOf source)
+    → (line : ℕ) (kind : Kind) → IsSyntaxFault source line kind → GivesFault r line kind
+gives_fault one both source (Ok x) found faulty line kind f = both source x line kind found f
+gives_fault one both source (Err NoMemory) found faulty line kind f = tt
+gives_fault one both source (Err (Refused refusal)) found faulty line kind f = one source refusal.line line refusal.kind kind faulty f

@@ -3,7 +3,6 @@
 use Rattle.std.specs.Prelude.{◌≡◌, ◌≤◌, ℕ, List, length, Result, Ok, Err}
 use Rattle.mos_tree.specs.declared.source.Tree.{Tree}
 use Rattle.mos_tree.specs.declared.refusal.Refusal.{Refusal}
-use Rattle.mos_tree.specs.declared.form.Form.{Form}
 use Rattle.mos_tree.specs.declared.form.PieceForm.{PieceForm}
 use Rattle.mos_tree.specs.Forms.{piece}
 use Rattle.mos_tree.specs.Sizes.{size_of_tree, size_of_form, size_of_pieces}
@@ -24,17 +23,15 @@ abbrev pub of_tokens : LexFault → SyntaxFault
 of_tokens (lex.At line column kind) = Refused (record { line = line; kind = kind })
 of_tokens lex.NoMemory = NoMemory
 
--- the form of a piece, that it has no other, and that it is no larger than the piece has words
+-- the form of a piece, which is no larger than the piece has words
 pub record IsFormAt (source : List ℕ) (tokens : List Token) (p : Piece) (x : PieceForm) : Type 0 where
   pub at_line : x ≡ piece p.line x.form
   pub form : IsFormOf (piece_words source tokens p) x.form
-  pub only : (other : Form) → IsFormOf (piece_words source tokens p) other → other ≡ x.form
   pub small : size_of_form x.form ≤ length (piece_words source tokens p)
 
--- the forms of pieces, that they have no others, and that they are no larger than the pieces have words
+-- the forms of pieces, which are no larger than the pieces have words
 pub record HaveForms (source : List ℕ) (tokens : List Token) (ps : List Piece) (forms : List PieceForm) : Type 0 where
   pub are : AreForms source tokens ps forms
-  pub only : (others : List PieceForm) → AreForms source tokens ps others → others ≡ forms
   pub small : size_of_pieces forms ≤ count_of_words source tokens ps
 
 -- a tree that is no larger than its pieces

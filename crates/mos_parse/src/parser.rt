@@ -9,9 +9,10 @@ ghost use Rattle.mos_parse.specs.Answers.{GivesTree, GivesFault, IsFaultOf, Brea
 ghost use Rattle.mos_parse.specs.Steps.{IsFormAt, HaveForms, Says, Reads};
 
 use crate::fault::{SyntaxFault, of_tokens};
+use crate::laws::{sources_are_parsed_one_way, sources_have_one_list_of_forms};
 use mos_form::form_of;
-use mos_scan::{Piece, Token, line_behind, piece_words, pieces, scan, tokens_are_cut_once};
-use mos_source::{PieceFault, pieces_are_read_one_way, source};
+use mos_scan::{Piece, Token, line_behind, piece_words, pieces, scan};
+use mos_source::{PieceFault, source};
 use mos_text::NoMemory;
 use mos_tree::{PieceForm, Refusal, Tree};
 use std::alloc::Global;
@@ -33,8 +34,19 @@ pub fn parse(alloc: Global, bytes: &[u8]) -> Result<Tree, SyntaxFault>
     // The tree has no more nodes and statements than the source has bytes.
     ensures no_larger { IfOk result (λ tree. size_of_tree tree ≤ length bytes.now) }
 {
-    pieces_are_read_one_way();
-    tokens_are_cut_once();
+    sources_are_parsed_one_way();
+    read(alloc, bytes)
+}
+
+/// What is answered of a source.
+fn read(alloc: Global, bytes: &[u8]) -> Result<Tree, SyntaxFault>
+    requires { length bytes.now ≤ source_limit }
+    ensures found { IfOk result (IsParsed bytes.now) }
+    ensures faulty { IfErr result (IsFaultOf bytes.now) }
+    ensures breaks { IfErr result (BreaksBy bytes.now) }
+    ensures no_larger { IfOk result (λ tree. size_of_tree tree ≤ length bytes.now) }
+{
+    sources_have_one_list_of_forms();
     match scan(alloc, bytes) {
         Ok(tokens) => parse_tokens(alloc, bytes, tokens.as_slice()),
         Err(fault) => Err(of_tokens(fault)),

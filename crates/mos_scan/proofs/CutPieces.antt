@@ -116,10 +116,6 @@ unfolding IsOpen
 grown before [] t o s b = one_token t (subst (λ ts. separates ts t.kind ≡ false) (append-nil before) s)
 grown before (x ∷ xs) t o s b = one_more (x ∷ xs) t o (neither (separates (before ++ x ∷ xs) t.kind) (begins_piece t.kind || ends_piece before (x ∷ xs)) s b)
 
--- the place behind what is open
-behind_open : (before xs : List Token) → (open_of before xs).from + (open_of before xs).count ≡ length (before ++ xs)
-behind_open before xs = sym (length-append before xs)
-
 pub pieces_here : (before xs ts : List Token) → IsOpen before xs → ArePiecesBehind before (xs ++ ts) (pieces_from (context_of (before ++ xs)) (open_of before xs) ts)
 pieces_here before xs [] o =
     subst (λ ps. ArePiecesBehind before (xs ++ []) ps) (append-nil (closed_piece (open_of before xs))) (close_open before xs [] [] o tt (no_token (before ++ xs)))

@@ -7,6 +7,5 @@ pub mod One
 pub mod CutPieces
 pub mod Scans
 pub mod Short
-pub mod Tables
 pub mod Texts
 pub mod Verdicts

@@ -1,16 +1,15 @@
-use Rattle.std.proofs.Common.{◌≡◌, ◌≢◌, ℕ, zero, suc, ◌+◌, ◌<◌, ◌≤◌, nat_eq, Bool, true, false, not, ◌&&◌, List, [], ◌∷◌, ◌++◌, length, take, drop, Option, Some, None, unwrap_or, refl, sym, ◌∙◌, ap, subst, arith, append_assoc, length-append}
-use Rattle.std.proofs.lemmas.Bool.{and_parts, ne_eqb, eq-eqb}
-use Rattle.std.proofs.lemmas.List.{take-append-drop, append-nil, length-take-le, length-drop}
-use Rattle.std.proofs.lemmas.List.Sums.{prefix_len-le-length}
+use Rattle.std.proofs.Common.{◌≡◌, ◌≢◌, ℕ, zero, suc, ◌+◌, ◌<◌, nat_eq, Bool, true, false, not, ◌&&◌, List, [], ◌∷◌, ◌++◌, length, take, drop, Option, Some, None, unwrap_or, refl, sym, ◌∙◌, ap, subst, arith, append_assoc, length-append}
+use Rattle.std.proofs.lemmas.Bool.{ne_eqb, eq-eqb}
+use Rattle.std.proofs.lemmas.List.{take-append-drop, append-nil, length-take-le}
 use Rattle.std.proofs.Math.Seq.{take-append_seam, drop-append_seam}
 use Rattle.std.specs.List.{list_all, prefix_len}
 use Rattle.std.specs.Char.{is_ascii_digit}
 use Rattle.mos_scan.specs.declared.token.TokenKind.{TokenKind}
 use Rattle.mos_scan.specs.declared.token.TokenKind.TheVariants as t
 use Rattle.mos_text.specs.declared.kind.Kind.TheVariants as k
-use Rattle.mos_scan.specs.Characters.{begins_name, is_word, is_quote, is_blank, is_inside}
+use Rattle.mos_scan.specs.Characters.{begins_name, is_word, is_quote}
 use Rattle.mos_scan.specs.Words.{end_word, plain_word, is_refused}
-use Rattle.mos_scan.specs.Tokens.{begins_with, comment_end, closing_quote, one_byte, two_bytes, symbol, kind_of, gap_at, fault_at, word_fault, text_fault, symbol_fault}
+use Rattle.mos_scan.specs.Tokens.{begins_with, closing_quote, one_byte, two_bytes, symbol, kind_of, fault_at, word_fault, text_fault, symbol_fault}
 use Rattle.mos_scan.specs.Lexemes.{end_at, Longest, token_at, word_at, end_or_word, two_or_one, symbol_at, quoted_at}
 use Rattle.mos_scan.proofs.Lists.{on_bool, Run, run_of, run_over}
 use Rattle.mos_scan.proofs.Ends.{EndAt, end_token, no_end, word_is_no_end}
@@ -287,46 +286,3 @@ longest_at (a ∷ bs) some f =
     (λ q.
     let f' : symbol_fault a bs ≡ None = rw (n, d, q) at f in
     rw (n, d, q) (symbol_case a bs (record { no_name = n; no_digit = d; no_quote = q }) f'))))
-
--- ---- gaps
-
-comment_fits : (at : ℕ) (bs : List ℕ) (n : ℕ) → comment_end at bs ≡ Some n → (at < n) × (n ≤ at + length bs)
-comment_fits at [] n e = cc
-comment_fits at (b ∷ bs) n e =
-    on_bool (nat_eq b 33 && begins_with 41 bs)
-    (λ c.
-    let it : Some (at + 2) ≡ Some n = rw c at e in
-    let long : at + 2 ≡ n = ap (λ x. unwrap_or x 0) it in
-    let two : 1 ≤ length bs = second bs (and_parts (nat_eq b 33) (begins_with 41 bs) c).1 in
-    (omega (arith, long), omega (arith, long, two)))
-    (λ c.
-    let r : (at + 1 < n) × (n ≤ at + 1 + length bs) = comment_fits (at + 1) bs n (rw c at e) in
-    (omega (arith, r.0), omega (arith, r.1)))
-  where
-    second : (xs : List ℕ) → begins_with 41 xs ≡ true → 1 ≤ length xs
-    second [] h = cc
-    second (x ∷ xs) h = omega arith
-
-pub gap_fits : (bytes : List ℕ) (n : ℕ) → gap_at bytes ≡ Some n → (0 < n) × (n ≤ length bytes)
-unfolding gap_at
-gap_fits [] n e = cc
-gap_fits (a ∷ bs) n e =
-    on_bool (is_blank a)
-    (λ c. let it : 1 ≡ n = ap (λ x. unwrap_or x 0) (rw c at e) in (omega (arith, it), omega (arith, it)))
-    (λ c.
-    on_bool (nat_eq a 33)
-    (λ d.
-    let it : prefix_len is_inside bs + 1 ≡ n = ap (λ x. unwrap_or x 0) (rw (c, d) at e) in
-    (omega (arith, it), omega (arith, it, prefix_len-le-length is_inside bs)))
-    (λ d.
-    on_bool (nat_eq a 40 && begins_with 33 bs)
-    (λ f.
-    let it : comment_end 2 (drop 1 bs) ≡ Some n = rw (c, d, f) at e in
-    let r : (2 < n) × (n ≤ 2 + length (drop 1 bs)) = comment_fits 2 (drop 1 bs) n it in
-    let two : 1 ≤ length bs = second bs (and_parts (nat_eq a 40) (begins_with 33 bs) f).1 in
-    (omega (arith, r.0), omega (arith, r.1, two, length-drop 1 bs)))
-    (λ f. let x : None ≡ Some n = rw (c, d, f) at e in cc)))
-  where
-    second : (xs : List ℕ) → begins_with 33 xs ≡ true → 1 ≤ length xs
-    second [] h = cc
-    second (x ∷ xs) h = omega arith

@@ -1,6 +1,6 @@
 -- A source has one token list or one lexical fault.
 
-use Rattle.std.proofs.Common.{◌≡◌, ℕ, ◌+◌, ◌<◌, ◌≤◌, ◌⊎◌, inl, inr, true, false, List, [], ◌∷◌, ◌++◌, length, Option, Some, None, Result, Ok, Err, IfOk, IfErr, refl, sym, ◌∙◌, ap, subst, arith, length-append}
+use Rattle.std.proofs.Common.{◌≡◌, ℕ, ◌+◌, ◌<◌, ◌≤◌, ◌⊎◌, inl, inr, true, false, List, [], ◌∷◌, ◌++◌, length, Some, None, Result, Ok, Err, IfOk, IfErr, refl, sym, ◌∙◌, ap, subst, arith, length-append}
 use Rattle.mos_text.specs.declared.kind.Kind.{Kind}
 use Rattle.mos_scan.specs.declared.token.TokenKind.{TokenKind}
 use Rattle.mos_scan.specs.declared.token.TokenKind.TheVariants.{EndModel}
@@ -77,10 +77,6 @@ one_gap xs ys us vs e h =
           let p : xs ≡ us = b.1 ∙ ap (λ m. us ++ m) n ∙ append-nil us in
           (ap (λ z. gap z) p, sym (b.2 ∙ ap (λ m. m ++ ys) n)))
     ]
-
-length_of_some : Option ℕ → ℕ
-length_of_some None = 0
-length_of_some (Some n) = n
 
 one_part : (x y : Part) (rest after : List ℕ) → text_of x ++ rest ≡ text_of y ++ after → IsPart x rest → IsPart y after → Same x rest y after
 one_part (gap xs) (gap us) rest after e p q =

@@ -4,14 +4,16 @@ use Rattle.std.proofs.Common.{◌≡◌, ℕ, ◌+◌, ◌≤◌, true, false, L
 use Rattle.mos_scan.specs.declared.token.TokenKind.{TokenKind}
 use Rattle.mos_scan.specs.declared.token.Token.{Token}
 use Rattle.mos_scan.specs.declared.token.TokenKind.TheVariants.{EndModel}
+use Rattle.mos_text.specs.declared.kind.Kind.{Kind}
+use Rattle.mos_scan.specs.declared.lexeme.LexicalError.{LexicalError}
 use Rattle.mos_scan.specs.declared.lexeme.Lexeme.TheVariants as f
-use Rattle.mos_scan.specs.Lexemes.{Longest, Stands}
+use Rattle.mos_scan.specs.Lexemes.{kind_of_error, Longest, Stands}
 use Rattle.mos_scan.specs.Scanning.{IsWholeCut}
 use Rattle.mos_scan.proofs.Looks.{take_front, drop_front}
 use Rattle.std.proofs.lemmas.List.{take-append-drop, length-take-le}
 use Rattle.std.proofs.lemmas.List.Sums.{count_by-le-length}
 use Rattle.mos_scan.specs.Tokens.{gap_at, fault_at}
-use Rattle.mos_scan.specs.Cuts.{Part, gap, token, text_of, is_end, is_end_model, IsPart, IsToken, Cuts, Whole, up_to_the_end, up_to_end_model, is_newline, newlines, token_of, tokens_from}
+use Rattle.mos_scan.specs.Cuts.{Stops, Part, gap, token, text_of, is_end, is_end_model, IsPart, IsToken, Cuts, Whole, up_to_the_end, up_to_end_model, is_newline, newlines, token_of, tokens_from}
 
 abbrev pub size : List Part → ℕ
 size [] = 0
@@ -85,6 +87,18 @@ scanned_gap bytes rest at line tokens s n stands text after te ae k ke =
       room = omega (arith, s.room, left, long);
       few = omega (arith, s.few, few_lines text, ke, long);
     }
+
+-- a fault
+pub scanned_fault : (bytes rest : List ℕ) (at line : ℕ) (tokens : List Token) → Scanned bytes rest at line tokens → (error : LexicalError) (offset : ℕ) → Stands rest (f.Fault error offset) → (kind : Kind) → kind ≡ kind_of_error rest error → Stops bytes (at + offset) kind
+scanned_fault bytes rest at line tokens s error offset stands kind e = record {
+  parts = s.parts;
+  left = rest;
+  cuts = s.cuts;
+  no_gap = stands.0;
+  offset = offset;
+  fault = subst (λ k. fault_at rest ≡ Some (k, offset)) (sym e) stands.1;
+  there = omega (arith, s.room);
+}
 
 -- the text of a token at the front
 record Fronted (rest : List ℕ) (kind : TokenKind) (n : ℕ) (text after : List ℕ) : Type 0 where

@@ -183,33 +183,20 @@ is_heading Function = true
 is_heading Forward = true
 is_heading _ = false
 
-abbrev pub is_open_round : TokenKind → Bool
-is_open_round OpenRound = true
-is_open_round _ = false
-
-abbrev pub is_case : TokenKind → Bool
-is_case Case = true
-is_case _ = false
-
-abbrev pub is_of : TokenKind → Bool
-is_of Of = true
-is_of _ = false
-
-abbrev pub is_colon : TokenKind → Bool
-is_colon Colon = true
-is_colon _ = false
-
 -- a piece that begins with `forall (` or `while (`, with so many of its own brackets open
 abbrev pub closes_loop : TokenKind → TokenKind → ℕ → Bool
-closes_loop first second inner = is_loop first && is_open_round second && (inner == 0)
+closes_loop first OpenRound inner = is_loop first && (inner == 0)
+closes_loop first _ inner = false
 
 -- a piece that begins with `case` and ends with `of`
 abbrev pub closes_case : TokenKind → TokenKind → Bool
-closes_case first last = is_case first && is_of last
+closes_case Case Of = true
+closes_case first _ = false
 
 -- a piece that ends with a colon outside brackets, and is neither a heading nor an item
 abbrev pub closes_label : TokenKind → TokenKind → ℕ → Bool → Bool
-closes_label first last outer items = is_colon last && (outer == 0) && not (is_heading first) && not items
+closes_label first Colon outer items = (outer == 0) && not (is_heading first) && not items
+closes_label first _ outer items = false
 
 -- a piece ends by its first two tokens and its last, by the brackets open in it and in all, and where items stand
 unfoldable pub ends_by : TokenKind → TokenKind → TokenKind → ℕ → ℕ → Bool → Bool

@@ -4,10 +4,10 @@ use Rattle.std.specs.Prelude.{ℕ, ◌+◌, ◌*◌, ◌-◌, Bool, true, false,
 use Rattle.std.specs.List.{list_all, prefix_len}
 use Rattle.std.specs.Char.{is_ascii_digit}
 use Rattle.mos_scan.specs.Characters.{is_blank, begins_name, is_word, is_quote, is_inside, is_escape}
-use Rattle.mos_scan.specs.Words.{end_word, plain_word, is_refused}
+use Rattle.mos_scan.specs.Words.{look_up, end_word, plain_word, is_refused}
 use Rattle.mos_scan.specs.declared.token.TokenKind.{TokenKind}
 use Rattle.mos_scan.specs.declared.token.TokenKind.TheVariants as t
-use Rattle.mos_scan.specs.Vocabulary.{symbols, pairs}
+use Rattle.mos_scan.specs.Vocabulary.{symbols}
 use Rattle.mos_text.specs.declared.kind.Kind.{Kind}
 use Rattle.mos_text.specs.declared.kind.Kind.TheVariants as k
 
@@ -54,23 +54,13 @@ bad_escape escaped at (b ∷ bs) = if escaped && not (is_escape b) then Some at 
 
 -- ---- tokens
 
--- what stands beside the byte in a table
-abbrev pub look_up_one : List (ℕ × TokenKind) → ℕ → Option TokenKind
-look_up_one [] a = None
-look_up_one (k ∷ ks) a = if k.0 == a then Some k.1 else look_up_one ks a
-
--- what stands beside the two bytes in a table
-abbrev pub look_up_two : List (ℕ × ℕ × TokenKind) → ℕ → ℕ → Option TokenKind
-look_up_two [] a b = None
-look_up_two (k ∷ ks) a b = if k.0 == a && k.1 == b then Some k.2 else look_up_two ks a b
-
 -- the symbol that a byte is
 unfoldable pub one_byte : ℕ → Option TokenKind
-one_byte a = look_up_one symbols a
+one_byte a = look_up symbols (a ∷ [])
 
 -- the symbol that two bytes are
 unfoldable pub two_bytes : ℕ → ℕ → Option TokenKind
-two_bytes a b = look_up_two pairs a b
+two_bytes a b = look_up symbols (a ∷ b ∷ [])
 
 -- the symbol that these bytes are, as a whole
 abbrev pub symbol : ℕ → List ℕ → Option TokenKind

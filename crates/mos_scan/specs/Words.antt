@@ -1,12 +1,13 @@
 -- Which words are reserved, left out, or names.
 
-use Rattle.std.specs.Prelude.{ℕ, Bool, true, false, not, ◌&&◌, ◌||◌, if◌then◌else◌, ◌==◌, List, [], ◌∷◌, Option, Some, None, unwrap_or, codes}
+use Rattle.std.specs.Prelude.{ℕ, Bool, not, ◌&&◌, ◌||◌, if◌then◌else◌, ◌==◌, List, [], ◌∷◌, Option, Some, None, unwrap_or, codes}
 use Rattle.std.specs.List.{list_any}
 use Rattle.std.specs.Char.{is_ascii_lowercase, is_ascii_uppercase}
 use Rattle.std.specs.Str.{str_eq_ignore_ascii_case}
 use Rattle.mos_scan.specs.declared.token.TokenKind.{TokenKind}
 use Rattle.mos_scan.specs.declared.token.TokenKind.TheVariants.{Name}
-use Rattle.mos_scan.specs.Vocabulary.{Table, reserved_words, ends, refused_words}
+use Rattle.mos_scan.specs.declared.vocabulary.TheConstants.{REFUSED}
+use Rattle.mos_scan.specs.Vocabulary.{Table, reserved_words, ends}
 
 -- the same word but for the case of letters
 unfoldable pub same_word : List ℕ → List ℕ → Bool
@@ -21,14 +22,9 @@ abbrev pub look_up : Table → List ℕ → Option TokenKind
 look_up [] word = None
 look_up (k ∷ ks) word = if same_word k.0 word then Some k.1 else look_up ks word
 
--- the word stands in the list, in whatever case
-abbrev pub contains : List (List ℕ) → List ℕ → Bool
-contains [] word = false
-contains (k ∷ ks) word = if same_word k word then true else contains ks word
-
 -- a word that is left out, in one case
 unfoldable pub is_refused : List ℕ → Bool
-is_refused word = in_one_case word && contains refused_words word
+is_refused word = in_one_case word && list_any (λ k. same_word k.now word) REFUSED
 
 -- a word without `end-`: a reserved word in one case, or a name
 unfoldable pub plain_word : List ℕ → TokenKind

@@ -3,9 +3,7 @@ ghost use Rattle.std.specs.Prelude.{◌≡◌, ◌≤◌, ◌<◌, ◌+◌, ◌-
 ghost use Rattle.mos_scan.specs.Cutting as spec;
 
 use crate::TokenKind;
-use crate::token_class::{
-    declarations_after, depth_behind, initializations_after, parameters_after, separates_at,
-};
+use crate::token_class::{depth_behind, separates_at};
 
 /// What is known behind some tokens: how many brackets are open, the last token, and which blocks
 /// of items are open.
@@ -39,13 +37,19 @@ pub(crate) fn context_after(context: Context, kind: TokenKind) -> Context
     ensures value { result ≡ spec.context_after context kind }
     ensures near { result.depth ≤ context.depth + 1 }
 {
-    Context {
-        depth: depth_behind(context.depth, kind),
-        last: kind,
-        declarations: declarations_after(context.declarations, kind),
-        parameters: parameters_after(context.parameters, kind),
-        initializations: initializations_after(context.initializations, kind),
+    let mut next = context;
+    next.depth = depth_behind(context.depth, kind);
+    next.last = kind;
+    match kind {
+        TokenKind::Declarations => next.declarations = true,
+        TokenKind::EndDeclarations => next.declarations = false,
+        TokenKind::Parameters => next.parameters = true,
+        TokenKind::EndParameters => next.parameters = false,
+        TokenKind::Initializations => next.initializations = true,
+        TokenKind::EndInitializations => next.initializations = false,
+        _ => {}
     }
+    next
 }
 
 /// Whether a colon behind these tokens belongs to an item.

@@ -34,7 +34,7 @@ pub(crate) enum Lexeme {
 
 fn comment_end(text: &[u8]) -> Option<usize>
     ensures value { result ≡ spec.comment_end 2 text.now }
-    ensures within { IfSome result (λ n. n ≤ length text.now + 2) }
+    ensures within { IfSome result (λ n. (0 < n) × (n ≤ length text.now + 2)) }
 {
     let mut rest = text;
     let mut at = 2;
@@ -52,7 +52,7 @@ fn comment_end(text: &[u8]) -> Option<usize>
 #[tactic(auto, unfolding(crate::specs::Tokens::gap_at))]
 fn gap_at(text: &[u8]) -> Option<usize>
     ensures value { result ≡ spec.gap_at text.now }
-    ensures within { IfSome result (λ n. n ≤ length text.now) }
+    ensures within { IfSome result (λ n. (0 < n) × (n ≤ length text.now)) }
 {
     match text {
         [] => None,

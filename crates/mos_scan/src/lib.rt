@@ -16,6 +16,7 @@ mod scanner;
 mod symbol;
 mod token;
 mod token_class;
+mod vocabulary;
 mod word;
 
 pub use fault::LexFault;

@@ -21,14 +21,14 @@ pub enum Word {
     Key(TokenKind),
 }
 
-/// The bytes from one place to another; none where there are none.
-fn bytes_between(source: &[u8], from: usize, to: usize) -> &[u8]
-    ensures value { result.now ≡ take (to - from) (drop from source.now) }
-    ensures within { length result.now ≤ length source.now }
+/// The items from one place to another; none where there are none.
+fn between<T>(items: &[T], from: usize, to: usize) -> &[T]
+    ensures value { result.now ≡ take (to - from) (drop from items.now) }
+    ensures within { length result.now ≤ length items.now }
 {
-    let (_, rest) = source.split_at(from.min(source.len()));
-    let (bytes, _) = rest.split_at(to.saturating_sub(from).min(rest.len()));
-    bytes
+    let (_, rest) = items.split_at(from.min(items.len()));
+    let (found, _) = rest.split_at(to.saturating_sub(from).min(rest.len()));
+    found
 }
 
 /// The value of a literal.
@@ -123,7 +123,7 @@ fn word_of(alloc: Global, source: &[u8], token: &Token) -> Result<Word, NoMemory
     requires { length source.now ≤ source_limit }
     ensures { IfOk result (λ word. word ≡ spec.word_of source.now token.now) }
 {
-    let bytes = bytes_between(source, token.from as usize, token.to as usize);
+    let bytes = between(source, token.from as usize, token.to as usize);
     match token.kind {
         TokenKind::Name => name_word(alloc, bytes),
         TokenKind::Number => Ok(Word::Number(literal(bytes))),
@@ -136,15 +136,6 @@ fn is_newline(kind: TokenKind) -> bool
     ensures { result ≡ spec.is_newline kind }
 {
     matches!(kind, TokenKind::Newline)
-}
-
-/// The tokens from one place to another; none where there are none.
-fn tokens_between(tokens: &[Token], from: usize, to: usize) -> &[Token]
-    ensures { result.now ≡ take (to - from) (drop from tokens.now) }
-{
-    let (_, rest) = tokens.split_at(from.min(tokens.len()));
-    let (between, _) = rest.split_at(to.saturating_sub(from).min(rest.len()));
-    between
 }
 
 /// What the grammar sees of tokens of a source: their words, the newlines passed over. The tokens
@@ -172,6 +163,6 @@ pub fn piece_words(
     requires { length source.now ≤ source_limit }
     ensures { IfOk result (λ v. v.items ≡ spec.piece_words source.now tokens.now piece) }
 {
-    let between = tokens_between(tokens, piece.from as usize, piece.to as usize);
+    let between = between(tokens, piece.from as usize, piece.to as usize);
     words(alloc, source, between)
 }

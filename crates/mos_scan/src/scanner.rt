@@ -22,8 +22,8 @@ use std::alloc::Global;
 enum Cut {
     /// All that is read, and the place behind it.
     Whole(Vec<Token>, u32),
-    /// The place up to which it is cut, and the fault with its offset from there.
-    Stopped(u32, u32, LexicalError),
+    /// The place of the first fault, and its kind.
+    Stopped(u32, Kind),
 }
 
 fn is_end_model(kind: TokenKind) -> bool
@@ -52,7 +52,10 @@ fn cut_all(alloc: Global, bytes: &[u8]) -> Result<Cut, NoMemory>
     let mut line: u32 = 1;
     while !rest.is_empty() {
         match next_lexeme(rest) {
-            Lexeme::Fault(error, offset) => return Ok(Cut::Stopped(at, offset as u32, error)),
+            Lexeme::Fault(error, offset) => {
+                let kind = kind_of(alloc, error, rest)?;
+                return Ok(Cut::Stopped(at + offset as u32, kind));
+            }
             Lexeme::Gap(length) => {
                 let (text, after) = rest.split_at(length);
                 line += newlines(text) as u32;
@@ -134,7 +137,7 @@ fn column_of(before: &[u8]) -> u32
 fn fault_at(bytes: &[u8], place: usize, kind: Kind) -> LexFault
     requires room { length bytes.now ≤ source_limit }
     requires within { place ≤ length bytes.now }
-    ensures { scanning.IsAt result bytes.now place kind }
+    ensures { scans.Names result bytes.now place kind }
 {
     let (before, _) = bytes.split_at(place);
     LexFault::At {
@@ -212,14 +215,12 @@ fn scan_all(alloc: Global, bytes: &[u8]) -> Result<Vec<Token>, LexFault>
                 Ok(tokens)
             }
         }
-        Cut::Stopped(at, offset, error) => {
-            let place = at as usize + offset as usize;
-            if valid <= place {
-                return Err(fault_at(bytes, valid, Kind::Utf8));
+        Cut::Stopped(place, kind) => {
+            if valid <= place as usize {
+                Err(fault_at(bytes, valid, Kind::Utf8))
+            } else {
+                Err(fault_at(bytes, place as usize, kind))
             }
-            let (_, rest) = bytes.split_at(at as usize);
-            let kind = kind_of(alloc, error, rest)?;
-            Err(fault_at(bytes, place, kind))
         }
     }
 }

@@ -96,39 +96,6 @@ pub(crate) fn depth_behind(depth: u32, kind: TokenKind) -> u32
     }
 }
 
-/// Whether `declarations` are open behind one token more.
-pub(crate) fn declarations_after(before: bool, kind: TokenKind) -> bool
-    ensures { result ≡ spec.declarations_after before kind }
-{
-    match kind {
-        TokenKind::Declarations => true,
-        TokenKind::EndDeclarations => false,
-        _ => before,
-    }
-}
-
-/// Whether `parameters` are open behind one token more.
-pub(crate) fn parameters_after(before: bool, kind: TokenKind) -> bool
-    ensures { result ≡ spec.parameters_after before kind }
-{
-    match kind {
-        TokenKind::Parameters => true,
-        TokenKind::EndParameters => false,
-        _ => before,
-    }
-}
-
-/// Whether `initializations` are open behind one token more.
-pub(crate) fn initializations_after(before: bool, kind: TokenKind) -> bool
-    ensures { result ≡ spec.initializations_after before kind }
-{
-    match kind {
-        TokenKind::Initializations => true,
-        TokenKind::EndInitializations => false,
-        _ => before,
-    }
-}
-
 /// A word that ends a block.
 fn is_end_word(kind: TokenKind) -> bool
     ensures { result ≡ spec.is_end_word kind }
@@ -195,49 +162,31 @@ fn is_heading(kind: TokenKind) -> bool
     )
 }
 
-fn is_open_round(kind: TokenKind) -> bool
-    ensures { result ≡ spec.is_open_round kind }
-{
-    matches!(kind, TokenKind::OpenRound)
-}
-
-fn is_case(kind: TokenKind) -> bool
-    ensures { result ≡ spec.is_case kind }
-{
-    matches!(kind, TokenKind::Case)
-}
-
-fn is_of(kind: TokenKind) -> bool
-    ensures { result ≡ spec.is_of kind }
-{
-    matches!(kind, TokenKind::Of)
-}
-
-fn is_colon(kind: TokenKind) -> bool
-    ensures { result ≡ spec.is_colon kind }
-{
-    matches!(kind, TokenKind::Colon)
-}
-
 /// Whether the bracket of a loop is closed again.
 fn closes_loop(first: TokenKind, second: TokenKind, inner: u32) -> bool
     ensures { result ≡ spec.closes_loop first second inner }
 {
-    is_loop(first) && is_open_round(second) && inner == 0
+    match second {
+        TokenKind::OpenRound => is_loop(first) && inner == 0,
+        _ => false,
+    }
 }
 
 /// Whether `of` stands behind a `case`.
 fn closes_case(first: TokenKind, last: TokenKind) -> bool
     ensures { result ≡ spec.closes_case first last }
 {
-    is_case(first) && is_of(last)
+    matches!((first, last), (TokenKind::Case, TokenKind::Of))
 }
 
 /// Whether a colon ends a piece that is no heading and no item.
 fn closes_label(first: TokenKind, last: TokenKind, outer: u32, items: bool) -> bool
     ensures { result ≡ spec.closes_label first last outer items }
 {
-    is_colon(last) && outer == 0 && !is_heading(first) && !items
+    match last {
+        TokenKind::Colon => outer == 0 && !is_heading(first) && !items,
+        _ => false,
+    }
 }
 
 /// Whether a piece ends by its first two tokens and its last one, by the brackets that are open in

@@ -1,6 +1,6 @@
 -- The productions name the faulty piece.
 
-use Rattle.std.proofs.Common.{◌≡◌, ◌≢◌, Bool, true, false, inl, inr, List, [], ◌∷◌, ◌++◌, length, Option, Some, None, Ok, refl, sym, ◌∙◌, ap, subst, arith}
+use Rattle.std.proofs.Common.{◌≡◌, ◌≢◌, Bool, true, false, inl, inr, List, [], ◌∷◌, ◌++◌, length, Option, Some, None, refl, sym, ◌∙◌, ap, subst, arith}
 use Rattle.std.proofs.lemmas.List.{append_cancel_left, append_cancel_right}
 use Rattle.mos_text.specs.declared.kind.Kind.{Kind}
 use Rattle.mos_text.specs.declared.kind.Kind.TheVariants as kind
@@ -21,12 +21,11 @@ use Rattle.mos_source.specs.Sources.{Source, IsSource, tree_of, limit}
 use Rattle.mos_source.specs.Faults.{IsFaulty}
 use Rattle.mos_source.specs.Laws.{ProductionsTakeSources, ProductionsTakeNothingElse, ProductionsBreakThere, ProductionsBreak}
 use Rattle.mos_source.specs.Productions.{source, opens_block, form_at, took, broke, Reads, BreaksAt}
-use Rattle.mos_source.specs.Machine.{Stack, enter, add_part, done, stopped, step, run}
+use Rattle.mos_source.specs.Machine.{Stack, enter, add_part, done, stopped, run}
 use Rattle.mos_source.proofs.Steps.{step-role, run-step}
 use Rattle.mos_source.proofs.Held.{is_model}
-use Rattle.mos_source.proofs.Sound.{some_stack}
-use Rattle.mos_source.proofs.SoundStep.{sound}
-use Rattle.mos_source.proofs.Progress.{progress}
+use Rattle.mos_source.proofs.Roles.{opens-there}
+use Rattle.mos_source.proofs.SoundStep.{sound-enter}
 use Rattle.mos_source.proofs.Whole.{Found, run-found, Stop, run-stopped, begins, is-stuck}
 use Rattle.mos_source.proofs.Reading.{whole, one-fault, not-both}
 use Rattle.mos_source.proofs.OneWay.{one-way, took-broke, took-same}
@@ -63,8 +62,8 @@ start-model _ role r = let no : ⊥ = cc in absurd no
 
 -- ---- behind a whole source
 
-ended : (x : Part) (next : Stack) → is_source x ≡ true → add_part x [] ≡ some_stack next → (tree : Tree) × (next ≡ g.End tree ∷ [])
-ended (part.Source tree) next k e = (tree, cc)
+ended : (x : Part) (next : Stack) → is_source x ≡ true → add_part x [] ≡ next → (tree : Tree) × (next ≡ g.End tree ∷ [])
+ended (part.Source tree) next k e = (tree, sym e)
 ended _ next k e = let no : ⊥ = cc in absurd no
 
 end-nowhere : (x : PieceKind) → role_at p.End x ≡ None
@@ -94,11 +93,10 @@ from-model x xs h r =
     let own : own_limit x.form ≡ None = start-own (own_limit x.form) x Opens refl r in
     let is : form_at 0 x ≡ piece_kind_of x.form = start-form (opens_block (piece_kind_of x.form)) x own refl in
     let here : role_at p.Start (piece_kind_of x.form) ≡ Some Opens = as-kind p.Start 0 x (Some Opens) is r in
-    let goes : (next : Stack) × (enter Opens x.line x.form [] ≡ some_stack next) = progress limit [] [] x.line x.form Opens refl here own in
-    let stepped : step limit [] x ≡ Ok goes.0 = step-role limit [] x Opens goes.0 here own refl goes.1 in
-    let at : At [] (opened_place (form_at 0 x)) goes.0 = subst (λ z. At [] (opened_place z) goes.0) (sym is) (opened-at x.line x.form [] goes.0 goes.1) in
-    let inner : ReadAt (opened_place (form_at 0 x)) [] goes.0 xs = led (length xs) (opened_place (form_at 0 x)) [] goes.0 xs (read-block (length xs)) (omega arith) (ap (λ z. is_end (opened_place z)) h) (x ∷ [], sound limit [] goes.0 x [] refl stepped) at in
-    from-heads x xs goes.0 h r (run-step limit [] goes.0 x xs stepped) inner
+    let next : Stack = enter Opens x.line x.form [] in
+    let at : At [] (opened_place (form_at 0 x)) next = subst (λ z. At [] (opened_place z) next) (sym is) (opened-at x.line x.form [] (opens-there p.Start (piece_kind_of x.form) here) own) in
+    let inner : ReadAt (opened_place (form_at 0 x)) [] next xs = led (length xs) (opened_place (form_at 0 x)) [] next xs (read-block (length xs)) (omega arith) (ap (λ z. is_end (opened_place z)) h) (x ∷ [], sound-enter limit Opens [] x.line x.form [] refl here own refl) at in
+    from-heads x xs next h r (run-step limit [] next x xs (step-role limit [] x Opens here own refl)) inner
 
 from-role : (role : Option Role) (x : PieceForm) (xs : List PieceForm) → role_at p.Start (form_at 0 x) ≡ role → ReadSource (x ∷ xs)
 unfolding Fails

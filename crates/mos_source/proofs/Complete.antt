@@ -1,6 +1,6 @@
 -- Each statement as it is written is read.
 
-use Rattle.std.proofs.Common.{◌≡◌, ℕ, ◌+◌, ◌≤◌, true, List, [], ◌∷◌, ◌++◌, length, Some, Ok, refl, ◌∙◌, ap, arith}
+use Rattle.std.proofs.Common.{◌≡◌, ℕ, ◌+◌, ◌≤◌, true, List, [], ◌∷◌, ◌++◌, length, Some, refl, ◌∙◌, ap, arith}
 use Rattle.std.proofs.lemmas.List.{append_assoc}
 use Rattle.mos_tree.specs.declared.expr.Expr.{Expr}
 use Rattle.mos_tree.specs.declared.statement.Statement.{Statement}
@@ -8,7 +8,6 @@ use Rattle.mos_tree.specs.declared.statement.Statement.TheVariants as s
 use Rattle.mos_tree.specs.declared.statement.Arm.{Arm}
 use Rattle.mos_tree.specs.declared.statement.Alternative.{Alternative}
 use Rattle.mos_tree.specs.declared.statement.Direction.{Direction}
-use Rattle.mos_tree.specs.declared.statement.Label.{Label}
 use Rattle.mos_tree.specs.declared.form.Form.TheVariants as f
 use Rattle.mos_tree.specs.declared.form.ConditionKeyword.TheVariants as conditional
 use Rattle.mos_tree.specs.declared.form.Keyword.TheVariants as keyword
@@ -16,56 +15,32 @@ use Rattle.mos_tree.specs.declared.form.PieceKind.TheVariants as m
 use Rattle.mos_tree.specs.declared.form.PieceForm.{PieceForm}
 use Rattle.mos_source.specs.declared.frame.Frame.{Frame}
 use Rattle.mos_source.specs.declared.frame.Frame.TheVariants as g
-use Rattle.mos_source.specs.declared.place.Role.TheVariants.{Opens, StandsAlone, Closes}
+use Rattle.mos_source.specs.declared.place.Place.TheVariants as p
+use Rattle.mos_source.specs.declared.place.Role.TheVariants.{Opens, Continues, StandsAlone, Closes}
 use Rattle.mos_tree.specs.Forms.{piece}
 use Rattle.mos_source.specs.Places.{takes_statements, role_at}
-use Rattle.mos_source.specs.Statements.{Rows, no_row, named, labelled, Written, single, bare, if_, case_, forall_, while_, repeat_, do_, initializations, Block, nothing, then_one, Arms, no_arm, arm, Last, without, otherwise, Alternatives, no_alternative, alternative, arm_form, spell_rows, spell, spell_block, spell_arms, spell_last, spell_alternatives, depth, depth_block, depth_arms, depth_last, depth_alternatives, label_groups, first_line, arm_of, alternative_of, tree, trees, trees_of_arms, trees_of_last, trees_of_alternatives}
+use Rattle.mos_source.specs.Statements.{Rows, no_row, named, labelled, Written, single, bare, if_, case_, forall_, while_, repeat_, do_, initializations, Block, nothing, then_one, Arms, no_arm, arm, Last, without, otherwise, Alternatives, no_alternative, alternative, arm_form, spell_rows, spell, spell_block, spell_arms, spell_last, spell_alternatives, depth, depth_block, depth_arms, depth_last, depth_alternatives, label_groups, first_line, arm_of, tree, trees, trees_of_arms, trees_of_last, trees_of_alternatives}
 use Rattle.mos_source.specs.Machine.{Stack, frame_place, place_of, add_statement, step, step_as, run}
-use Rattle.mos_source.proofs.Ends.{ends-arm, ends-otherwise, ends-case, ends-case-else, ends-repeat, ends-do, ends-initializations}
-use Rattle.mos_source.proofs.Steps.{Takes, role-of-statement, step-role, run-step, run-open, one-end, two-end}
+use Rattle.mos_source.proofs.Roles.{ends}
+use Rattle.mos_source.proofs.Steps.{Takes, role-of-statement, run-role, run-open, one-end, two-end}
 
--- ---- pieces inside a block that is open
-
-elif-step : (deep : ℕ) (k : Stack) (first : ℕ) (arms : List (Arm Statement)) (l : ℕ) (c : Expr) (body : List Statement) (line : ℕ) (next : Expr) → step deep (g.IfArm first arms l c body ∷ k) (piece line (f.Guarded conditional.Elif next)) ≡ Ok (g.IfArm first (arms ++ arm_of l c body ∷ []) line next [] ∷ k)
-unfolding step step_as role_at
-elif-step deep k first arms l c body line next = refl
-
-else-step : (deep : ℕ) (k : Stack) (first : ℕ) (arms : List (Arm Statement)) (l : ℕ) (c : Expr) (body : List Statement) (line : ℕ) → step deep (g.IfArm first arms l c body ∷ k) (piece line (f.Keyword keyword.Else)) ≡ Ok (g.IfElse first (arms ++ arm_of l c body ∷ []) [] ∷ k)
-unfolding step step_as role_at
-else-step deep k first arms l c body line = refl
-
-alternative-step : (deep : ℕ) (k : Stack) (l : ℕ) (v : Expr) (xs : List (Alternative Statement)) (line : ℕ) (labels : List Expr) → step deep (g.Case l v xs ∷ k) (piece line (f.Alternative labels)) ≡ Ok (g.CaseArm l v xs line labels ∷ k)
-unfolding step step_as role_at
-alternative-step deep k l v xs line labels = refl
-
-case-else-step : (deep : ℕ) (k : Stack) (l : ℕ) (v : Expr) (xs : List (Alternative Statement)) (line : ℕ) → step deep (g.Case l v xs ∷ k) (piece line (f.Keyword keyword.Else)) ≡ Ok (g.CaseElse l v xs [] ∷ k)
-unfolding step step_as role_at
-case-else-step deep k l v xs line = refl
-
-row-step : (deep : ℕ) (k : Stack) (l : ℕ) (d : Direction) (e : Expr) (rows : Rows) (line : ℕ) (name : List ℕ) → step deep (g.Initializations l d e (label_groups rows) ∷ k) (piece line (f.Bare name)) ≡ Ok (g.Initializations l d e (label_groups (named rows line name)) ∷ k)
-unfolding step step_as role_at
-row-step deep k l d e rows line name = refl
-
-labels-step : (deep : ℕ) (k : Stack) (l : ℕ) (d : Direction) (e : Expr) (rows : Rows) (line : ℕ) (labels : List Label) → step deep (g.Initializations l d e (label_groups rows) ∷ k) (piece line (f.Labels labels)) ≡ Ok (g.Initializations l d e (label_groups (labelled rows line labels)) ∷ k)
-unfolding step step_as role_at
-labels-step deep k l d e rows line labels = refl
+-- ---- rows
 
 reads-rows : (deep : ℕ) (rows : Rows) (k : Stack) (l : ℕ) (d : Direction) (e : Expr) (rest : List PieceForm) → run deep (g.Initializations l d e [] ∷ k) (spell_rows rows ++ rest) ≡ run deep (g.Initializations l d e (label_groups rows) ∷ k) rest
+unfolding step step_as role_at
 reads-rows deep no_row k l d e rest = refl
 reads-rows deep (named rows line name) k l d e rest =
     ap (run deep (g.Initializations l d e [] ∷ k)) (one-end (spell_rows rows) (piece line (f.Bare name)) rest)
     ∙ reads-rows deep rows k l d e (piece line (f.Bare name) ∷ rest)
-    ∙ run-step deep (g.Initializations l d e (label_groups rows) ∷ k) (g.Initializations l d e (label_groups (named rows line name)) ∷ k) (piece line (f.Bare name)) rest (row-step deep k l d e rows line name)
 reads-rows deep (labelled rows line labels) k l d e rest =
     ap (run deep (g.Initializations l d e [] ∷ k)) (one-end (spell_rows rows) (piece line (f.Labels labels)) rest)
     ∙ reads-rows deep rows k l d e (piece line (f.Labels labels) ∷ rest)
-    ∙ run-step deep (g.Initializations l d e (label_groups rows) ∷ k) (g.Initializations l d e (label_groups (labelled rows line labels)) ∷ k) (piece line (f.Labels labels)) rest (labels-step deep k l d e rows line labels)
 
 -- ---- a block that takes statements one after the other
 
 pub record IsFilled (fill : List Statement → Frame) : Type 0 where
   pub takes : (xs : List Statement) → takes_statements (frame_place (fill xs)) ≡ true
-  pub adds : (k : Stack) (xs : List Statement) (x : Statement) → add_statement x (fill xs ∷ k) ≡ Some (fill (xs ++ x ∷ []) ∷ k)
+  pub adds : (k : Stack) (xs : List Statement) (x : Statement) → add_statement x (fill xs ∷ k) ≡ fill (xs ++ x ∷ []) ∷ k
 
 filled-arm : (first : ℕ) (arms : List (Arm Statement)) (l : ℕ) (c : Expr) → IsFilled (λ xs. g.IfArm first arms l c xs)
 filled-arm first arms l c = record { takes = λ xs. refl; adds = λ k xs x. refl }
@@ -84,51 +59,66 @@ filled-do l = record { takes = λ xs. refl; adds = λ k xs x. refl }
 
 -- ---- statements
 
+elif-goes : role_at p.IfArm m.Elif ≡ Some Continues
+unfolding role_at
+elif-goes = refl
+
+else-goes : role_at p.IfArm m.Else ≡ Some Continues
+unfolding role_at
+else-goes = refl
+
+alternative-goes : role_at p.Case m.Alternative ≡ Some Continues
+unfolding role_at
+alternative-goes = refl
+
+case-else-goes : role_at p.Case m.Else ≡ Some Continues
+unfolding role_at
+case-else-goes = refl
+
 mutual
   -- the pieces of a statement give it to the innermost block
-  pub reads : (deep : ℕ) (w : Written) (k next : Stack) (rest : List PieceForm) → Takes k → depth w + length k ≤ deep + 1 → add_statement (tree w) k ≡ Some next → run deep k (spell w ++ rest) ≡ run deep next rest
-  reads deep (single line x) k next rest t h e =
-      run-step deep k next (piece line (f.Simple x)) rest (step-role deep k (piece line (f.Simple x)) StandsAlone next (role-of-statement (place_of k) m.Simple StandsAlone t refl) refl refl e)
-  reads deep (bare line name) k next rest t h e =
-      run-step deep k next (piece line (f.Bare name)) rest (step-role deep k (piece line (f.Bare name)) StandsAlone next (role-of-statement (place_of k) m.Bare StandsAlone t refl) refl refl e)
-  reads deep (if_ arms line condition b last end) k next rest t h e =
+  pub reads : (deep : ℕ) (w : Written) (k : Stack) (rest : List PieceForm) → Takes k → depth w + length k ≤ deep + 1 → run deep k (spell w ++ rest) ≡ run deep (add_statement (tree w) k) rest
+  reads deep (single line x) k rest t h = run-role deep k (piece line (f.Simple x)) StandsAlone rest (role-of-statement (place_of k) m.Simple StandsAlone t refl) refl refl
+  reads deep (bare line name) k rest t h = run-role deep k (piece line (f.Bare name)) StandsAlone rest (role-of-statement (place_of k) m.Bare StandsAlone t refl) refl refl
+  reads deep (if_ arms line condition b last end) k rest t h =
       ap (run deep k) (append_assoc (spell_arms arms) (piece line (arm_form arms condition) ∷ (spell_block b ++ (spell_last last ++ piece end (f.Keyword keyword.EndIf) ∷ []))) rest ∙ ap (λ zs. spell_arms arms ++ piece line (arm_form arms condition) ∷ zs) (two-end (spell_block b) (spell_last last) (piece end (f.Keyword keyword.EndIf)) rest))
       ∙ reads-arms deep arms line condition k (spell_block b ++ (spell_last last ++ piece end (f.Keyword keyword.EndIf) ∷ rest)) t (omega (arith, h)) (omega (arith, h))
       ∙ reads-block deep b k (λ xs. g.IfArm (first_line arms line) (trees_of_arms arms) line condition xs) (filled-arm (first_line arms line) (trees_of_arms arms) line condition) (spell_last last ++ piece end (f.Keyword keyword.EndIf) ∷ rest) (omega (arith, h))
-      ∙ reads-last-arm deep last (first_line arms line) (trees_of_arms arms) line condition (trees b) end k next rest (omega (arith, h)) e
-  reads deep (case_ line value xs last end) k next rest t h e =
+      ∙ reads-last-arm deep last (first_line arms line) (trees_of_arms arms) line condition (trees b) end k rest (omega (arith, h))
+  reads deep (case_ line value xs last end) k rest t h =
       run-open deep k line (f.Guarded conditional.Case value) (g.Case line value []) ((spell_alternatives xs ++ (spell_last last ++ piece end (f.Keyword keyword.EndCase) ∷ [])) ++ rest) (role-of-statement (place_of k) m.Case Opens t refl) refl refl (omega (arith, h))
       ∙ ap (run deep (g.Case line value [] ∷ k)) (two-end (spell_alternatives xs) (spell_last last) (piece end (f.Keyword keyword.EndCase)) rest)
       ∙ reads-alternatives deep xs line value k (spell_last last ++ piece end (f.Keyword keyword.EndCase) ∷ rest) (omega (arith, h))
-      ∙ reads-last-case deep last line value (trees_of_alternatives xs) end k next rest (omega (arith, h)) e
-  reads deep (forall_ line index body) k next rest t h e =
+      ∙ reads-last-case deep last line value (trees_of_alternatives xs) end k rest (omega (arith, h))
+  reads deep (forall_ line index body) k rest t h =
       run-open deep k line (f.Forall index) (g.Forall line index) (spell body ++ rest) (role-of-statement (place_of k) m.Forall Opens t refl) refl refl (omega (arith, h))
-      ∙ reads deep body (g.Forall line index ∷ k) next rest refl (omega (arith, h)) e
-  reads deep (while_ line condition body) k next rest t h e =
+      ∙ reads deep body (g.Forall line index ∷ k) rest refl (omega (arith, h))
+  reads deep (while_ line condition body) k rest t h =
       run-open deep k line (f.Guarded conditional.While condition) (g.While line condition) (spell body ++ rest) (role-of-statement (place_of k) m.While Opens t refl) refl refl (omega (arith, h))
-      ∙ reads deep body (g.While line condition ∷ k) next rest refl (omega (arith, h)) e
-  reads deep (repeat_ line b until condition) k next rest t h e =
+      ∙ reads deep body (g.While line condition ∷ k) rest refl (omega (arith, h))
+  reads deep (repeat_ line b until condition) k rest t h =
       run-open deep k line (f.Keyword keyword.Repeat) (g.Repeat line []) ((spell_block b ++ piece until (f.Guarded conditional.Until condition) ∷ []) ++ rest) (role-of-statement (place_of k) m.Repeat Opens t refl) refl refl (omega (arith, h))
       ∙ ap (run deep (g.Repeat line [] ∷ k)) (one-end (spell_block b) (piece until (f.Guarded conditional.Until condition)) rest)
       ∙ reads-block deep b k (λ xs. g.Repeat line xs) (filled-repeat line) (piece until (f.Guarded conditional.Until condition) ∷ rest) (omega (arith, h))
-      ∙ run-step deep (g.Repeat line (trees b) ∷ k) next (piece until (f.Guarded conditional.Until condition)) rest (step-role deep (g.Repeat line (trees b) ∷ k) (piece until (f.Guarded conditional.Until condition)) Closes next ends-repeat refl refl e)
-  reads deep (do_ line b end) k next rest t h e =
+      ∙ run-role deep (g.Repeat line (trees b) ∷ k) (piece until (f.Guarded conditional.Until condition)) Closes rest (ends p.Repeat refl) refl refl
+  reads deep (do_ line b end) k rest t h =
       run-open deep k line (f.Keyword keyword.Do) (g.Do line []) ((spell_block b ++ piece end (f.Keyword keyword.EndDo) ∷ []) ++ rest) (role-of-statement (place_of k) m.Do Opens t refl) refl refl (omega (arith, h))
       ∙ ap (run deep (g.Do line [] ∷ k)) (one-end (spell_block b) (piece end (f.Keyword keyword.EndDo)) rest)
       ∙ reads-block deep b k (λ xs. g.Do line xs) (filled-do line) (piece end (f.Keyword keyword.EndDo) ∷ rest) (omega (arith, h))
-      ∙ run-step deep (g.Do line (trees b) ∷ k) next (piece end (f.Keyword keyword.EndDo)) rest (step-role deep (g.Do line (trees b) ∷ k) (piece end (f.Keyword keyword.EndDo)) Closes next ends-do refl refl e)
-  reads deep (initializations line direction name rows end) k next rest t h e =
+      ∙ run-role deep (g.Do line (trees b) ∷ k) (piece end (f.Keyword keyword.EndDo)) Closes rest (ends p.Do refl) refl refl
+  reads deep (initializations line direction name rows end) k rest t h =
       run-open deep k line (f.Initializations direction name) (g.Initializations line direction name []) ((spell_rows rows ++ piece end (f.Keyword keyword.EndInitializations) ∷ []) ++ rest) (role-of-statement (place_of k) m.Initializations Opens t refl) refl refl (omega (arith, h))
       ∙ ap (run deep (g.Initializations line direction name [] ∷ k)) (one-end (spell_rows rows) (piece end (f.Keyword keyword.EndInitializations)) rest)
       ∙ reads-rows deep rows k line direction name (piece end (f.Keyword keyword.EndInitializations) ∷ rest)
-      ∙ run-step deep (g.Initializations line direction name (label_groups rows) ∷ k) next (piece end (f.Keyword keyword.EndInitializations)) rest (step-role deep (g.Initializations line direction name (label_groups rows) ∷ k) (piece end (f.Keyword keyword.EndInitializations)) Closes next ends-initializations refl refl e)
+      ∙ run-role deep (g.Initializations line direction name (label_groups rows) ∷ k) (piece end (f.Keyword keyword.EndInitializations)) Closes rest (ends p.Initializations refl) refl refl
 
   reads-block : (deep : ℕ) (b : Block) (k : Stack) (fill : List Statement → Frame) → IsFilled fill → (rest : List PieceForm) → depth_block b + length k ≤ deep → run deep (fill [] ∷ k) (spell_block b ++ rest) ≡ run deep (fill (trees b) ∷ k) rest
   reads-block deep nothing k fill is rest h = refl
   reads-block deep (then_one b w) k fill is rest h =
       ap (run deep (fill [] ∷ k)) (append_assoc (spell_block b) (spell w) rest)
       ∙ reads-block deep b k fill is (spell w ++ rest) (omega (arith, h))
-      ∙ reads deep w (fill (trees b) ∷ k) (fill (trees b ++ tree w ∷ []) ∷ k) rest (is.takes (trees b)) (omega (arith, h)) (is.adds k (trees b) (tree w))
+      ∙ reads deep w (fill (trees b) ∷ k) rest (is.takes (trees b)) (omega (arith, h))
+      ∙ ap (λ z. run deep z rest) (is.adds k (trees b) (tree w))
 
   -- up to the piece that begins an arm behind these
   reads-arms : (deep : ℕ) (arms : Arms) (line : ℕ) (condition : Expr) (k : Stack) (rest : List PieceForm) → Takes k → depth_arms arms + length k ≤ deep → length k ≤ deep → run deep k (spell_arms arms ++ piece line (arm_form arms condition) ∷ rest) ≡ run deep (g.IfArm (first_line arms line) (trees_of_arms arms) line condition [] ∷ k) rest
@@ -138,30 +128,28 @@ mutual
       ap (run deep k) (append_assoc (spell_arms before) (piece l (arm_form before c) ∷ spell_block b) (piece line (f.Guarded conditional.Elif condition) ∷ rest))
       ∙ reads-arms deep before l c k (spell_block b ++ piece line (f.Guarded conditional.Elif condition) ∷ rest) t (omega (arith, h)) n
       ∙ reads-block deep b k (λ xs. g.IfArm (first_line before l) (trees_of_arms before) l c xs) (filled-arm (first_line before l) (trees_of_arms before) l c) (piece line (f.Guarded conditional.Elif condition) ∷ rest) (omega (arith, h))
-      ∙ run-step deep (g.IfArm (first_line before l) (trees_of_arms before) l c (trees b) ∷ k) (g.IfArm (first_line before l) (trees_of_arms before ++ arm_of l c (trees b) ∷ []) line condition [] ∷ k) (piece line (f.Guarded conditional.Elif condition)) rest (elif-step deep k (first_line before l) (trees_of_arms before) l c (trees b) line condition)
+      ∙ run-role deep (g.IfArm (first_line before l) (trees_of_arms before) l c (trees b) ∷ k) (piece line (f.Guarded conditional.Elif condition)) Continues rest elif-goes refl refl
 
   -- behind the last arm
-  reads-last-arm : (deep : ℕ) (last : Last) (first : ℕ) (arms : List (Arm Statement)) (l : ℕ) (c : Expr) (body : List Statement) (end : ℕ) (k next : Stack) (rest : List PieceForm) → depth_last last + length k ≤ deep → add_statement (s.If first (arms ++ arm_of l c body ∷ []) (trees_of_last last)) k ≡ Some next → run deep (g.IfArm first arms l c body ∷ k) (spell_last last ++ piece end (f.Keyword keyword.EndIf) ∷ rest) ≡ run deep next rest
-  reads-last-arm deep without first arms l c body end k next rest h e =
-      run-step deep (g.IfArm first arms l c body ∷ k) next (piece end (f.Keyword keyword.EndIf)) rest (step-role deep (g.IfArm first arms l c body ∷ k) (piece end (f.Keyword keyword.EndIf)) Closes next ends-arm refl refl e)
-  reads-last-arm deep (otherwise line b) first arms l c body end k next rest h e =
-      run-step deep (g.IfArm first arms l c body ∷ k) (g.IfElse first (arms ++ arm_of l c body ∷ []) [] ∷ k) (piece line (f.Keyword keyword.Else)) (spell_block b ++ piece end (f.Keyword keyword.EndIf) ∷ rest) (else-step deep k first arms l c body line)
+  reads-last-arm : (deep : ℕ) (last : Last) (first : ℕ) (arms : List (Arm Statement)) (l : ℕ) (c : Expr) (body : List Statement) (end : ℕ) (k : Stack) (rest : List PieceForm) → depth_last last + length k ≤ deep → run deep (g.IfArm first arms l c body ∷ k) (spell_last last ++ piece end (f.Keyword keyword.EndIf) ∷ rest) ≡ run deep (add_statement (s.If first (arms ++ arm_of l c body ∷ []) (trees_of_last last)) k) rest
+  reads-last-arm deep without first arms l c body end k rest h = run-role deep (g.IfArm first arms l c body ∷ k) (piece end (f.Keyword keyword.EndIf)) Closes rest (ends p.IfArm refl) refl refl
+  reads-last-arm deep (otherwise line b) first arms l c body end k rest h =
+      run-role deep (g.IfArm first arms l c body ∷ k) (piece line (f.Keyword keyword.Else)) Continues (spell_block b ++ piece end (f.Keyword keyword.EndIf) ∷ rest) else-goes refl refl
       ∙ reads-block deep b k (λ xs. g.IfElse first (arms ++ arm_of l c body ∷ []) xs) (filled-otherwise first (arms ++ arm_of l c body ∷ [])) (piece end (f.Keyword keyword.EndIf) ∷ rest) h
-      ∙ run-step deep (g.IfElse first (arms ++ arm_of l c body ∷ []) (trees b) ∷ k) next (piece end (f.Keyword keyword.EndIf)) rest (step-role deep (g.IfElse first (arms ++ arm_of l c body ∷ []) (trees b) ∷ k) (piece end (f.Keyword keyword.EndIf)) Closes next ends-otherwise refl refl e)
+      ∙ run-role deep (g.IfElse first (arms ++ arm_of l c body ∷ []) (trees b) ∷ k) (piece end (f.Keyword keyword.EndIf)) Closes rest (ends p.IfElse refl) refl refl
 
   reads-alternatives : (deep : ℕ) (xs : Alternatives) (line : ℕ) (value : Expr) (k : Stack) (rest : List PieceForm) → depth_alternatives xs + length k ≤ deep → run deep (g.Case line value [] ∷ k) (spell_alternatives xs ++ rest) ≡ run deep (g.Case line value (trees_of_alternatives xs) ∷ k) rest
   reads-alternatives deep no_alternative line value k rest h = refl
   reads-alternatives deep (alternative before l labels w) line value k rest h =
       ap (run deep (g.Case line value [] ∷ k)) (append_assoc (spell_alternatives before) (piece l (f.Alternative labels) ∷ spell w) rest)
       ∙ reads-alternatives deep before line value k (piece l (f.Alternative labels) ∷ (spell w ++ rest)) (omega (arith, h))
-      ∙ run-step deep (g.Case line value (trees_of_alternatives before) ∷ k) (g.CaseArm line value (trees_of_alternatives before) l labels ∷ k) (piece l (f.Alternative labels)) (spell w ++ rest) (alternative-step deep k line value (trees_of_alternatives before) l labels)
-      ∙ reads deep w (g.CaseArm line value (trees_of_alternatives before) l labels ∷ k) (g.Case line value (trees_of_alternatives before ++ alternative_of l labels (tree w) ∷ []) ∷ k) rest refl (omega (arith, h)) refl
+      ∙ run-role deep (g.Case line value (trees_of_alternatives before) ∷ k) (piece l (f.Alternative labels)) Continues (spell w ++ rest) alternative-goes refl refl
+      ∙ reads deep w (g.CaseArm line value (trees_of_alternatives before) l labels ∷ k) rest refl (omega (arith, h))
 
   -- behind the last alternative
-  reads-last-case : (deep : ℕ) (last : Last) (line : ℕ) (value : Expr) (ys : List (Alternative Statement)) (end : ℕ) (k next : Stack) (rest : List PieceForm) → depth_last last + length k ≤ deep → add_statement (s.Case line value ys (trees_of_last last)) k ≡ Some next → run deep (g.Case line value ys ∷ k) (spell_last last ++ piece end (f.Keyword keyword.EndCase) ∷ rest) ≡ run deep next rest
-  reads-last-case deep without line value ys end k next rest h e =
-      run-step deep (g.Case line value ys ∷ k) next (piece end (f.Keyword keyword.EndCase)) rest (step-role deep (g.Case line value ys ∷ k) (piece end (f.Keyword keyword.EndCase)) Closes next ends-case refl refl e)
-  reads-last-case deep (otherwise l b) line value ys end k next rest h e =
-      run-step deep (g.Case line value ys ∷ k) (g.CaseElse line value ys [] ∷ k) (piece l (f.Keyword keyword.Else)) (spell_block b ++ piece end (f.Keyword keyword.EndCase) ∷ rest) (case-else-step deep k line value ys l)
+  reads-last-case : (deep : ℕ) (last : Last) (line : ℕ) (value : Expr) (ys : List (Alternative Statement)) (end : ℕ) (k : Stack) (rest : List PieceForm) → depth_last last + length k ≤ deep → run deep (g.Case line value ys ∷ k) (spell_last last ++ piece end (f.Keyword keyword.EndCase) ∷ rest) ≡ run deep (add_statement (s.Case line value ys (trees_of_last last)) k) rest
+  reads-last-case deep without line value ys end k rest h = run-role deep (g.Case line value ys ∷ k) (piece end (f.Keyword keyword.EndCase)) Closes rest (ends p.Case refl) refl refl
+  reads-last-case deep (otherwise l b) line value ys end k rest h =
+      run-role deep (g.Case line value ys ∷ k) (piece l (f.Keyword keyword.Else)) Continues (spell_block b ++ piece end (f.Keyword keyword.EndCase) ∷ rest) case-else-goes refl refl
       ∙ reads-block deep b k (λ xs. g.CaseElse line value ys xs) (filled-case-else line value ys) (piece end (f.Keyword keyword.EndCase) ∷ rest) h
-      ∙ run-step deep (g.CaseElse line value ys (trees b) ∷ k) next (piece end (f.Keyword keyword.EndCase)) rest (step-role deep (g.CaseElse line value ys (trees b) ∷ k) (piece end (f.Keyword keyword.EndCase)) Closes next ends-case-else refl refl e)
+      ∙ run-role deep (g.CaseElse line value ys (trees b) ∷ k) (piece end (f.Keyword keyword.EndCase)) Closes rest (ends p.CaseElse refl) refl refl

@@ -3,11 +3,7 @@
 use Rattle.std.proofs.Common.{◌≡◌, ℕ, ◌+◌, ◌≤◌, true, List, [], ◌∷◌, ◌++◌, length, Option, Some, None, Ok, refl, sym, ◌∙◌, ap, arith, map}
 use Rattle.std.proofs.lemmas.List.{append_assoc, append-nil}
 use Rattle.std.proofs.lemmas.Slice.Eq.{bytes_eq-Decides}
-use Rattle.mos_tree.specs.declared.expr.Expr.{Expr}
-use Rattle.mos_tree.specs.declared.declaration.TypeForm.{TypeForm}
 use Rattle.mos_tree.specs.declared.source.Declared.{Declared}
-use Rattle.mos_tree.specs.declared.declaration.Item.{Item}
-use Rattle.mos_tree.specs.declared.declaration.Item.TheVariants as i
 use Rattle.mos_tree.specs.declared.declaration.Parameter.{Parameter}
 use Rattle.mos_tree.specs.declared.declaration.FieldGroup.{FieldGroup}
 use Rattle.mos_tree.specs.declared.declaration.Heading.{Heading}
@@ -15,28 +11,29 @@ use Rattle.mos_tree.specs.declared.declaration.BaseType.{BaseType}
 use Rattle.mos_tree.specs.declared.source.ModelName.{ModelName}
 use Rattle.mos_tree.specs.declared.source.Head.{Head}
 use Rattle.mos_tree.specs.declared.source.Head.TheVariants as h
-use Rattle.mos_tree.specs.declared.source.RoutinePart.TheVariants as r
 use Rattle.mos_tree.specs.declared.source.Routine.{Routine}
 use Rattle.mos_tree.specs.declared.source.Top.{Top}
 use Rattle.mos_tree.specs.declared.source.Top.TheVariants as t
 use Rattle.mos_tree.specs.declared.statement.Statement.{Statement}
 use Rattle.mos_tree.specs.declared.form.Form.TheVariants as f
 use Rattle.mos_tree.specs.declared.form.Keyword.TheVariants as keyword
+use Rattle.mos_tree.specs.declared.form.PieceKind.{PieceKind}
 use Rattle.mos_tree.specs.declared.form.PieceKind.TheVariants as m
 use Rattle.mos_tree.specs.declared.form.PieceForm.{PieceForm}
 use Rattle.mos_source.specs.declared.frame.Frame.{Frame}
 use Rattle.mos_source.specs.declared.frame.Frame.TheVariants as g
 use Rattle.mos_source.specs.declared.frame.Part.TheVariants as part
 use Rattle.mos_source.specs.declared.place.Place.TheVariants as p
+use Rattle.mos_source.specs.declared.place.Role.{Role}
 use Rattle.mos_source.specs.declared.place.Role.TheVariants.{Opens, Continues, StandsAlone, Closes}
 use Rattle.mos_tree.specs.Forms.{piece, routine_kind}
-use Rattle.mos_source.specs.Limits.{module_limit, own_limit, is_jobs}
+use Rattle.mos_source.specs.Limits.{module_limit, is_jobs}
 use Rattle.mos_source.specs.Places.{takes_statements, role_at}
 use Rattle.mos_source.specs.Statements.{spell, tree}
 use Rattle.mos_source.specs.Sources.{Items, no_item, constant, variables, record_type, Parts, no_part, declares, states, Tops, no_top, sets, declares_top, defines, announces, states_top, Source, spell_parameter, spell_field, spell_items, spell_declarations, spell_parts, heading_form, end_form, spell_tops, no_implicit, jobs_module, spell_head, spell_source, depth_items, depth_parts, depth_tops, AreModules, IsAllowed, AreAllowed, items_of, declaration_block, parts_of, tops_of, tree_of}
-use Rattle.mos_source.specs.Machine.{Stack, frame_place, routine_place, place_of, with_top, add_statement, add_other, step, step_as, run, done}
-use Rattle.mos_source.proofs.Ends.{ends-declarations, ends-parameters, ends-routine, end-limit}
-use Rattle.mos_source.proofs.Steps.{step-role, run-step, run-open, one-end}
+use Rattle.mos_source.specs.Machine.{Stack, frame_place, routine_place, place_of, add_statement, add_other, step, step_as, run, done}
+use Rattle.mos_source.proofs.Roles.{ends, ends-routine, end-limit}
+use Rattle.mos_source.proofs.Steps.{step-role, run-step, run-role, run-open, one-end}
 use Rattle.mos_source.proofs.Complete.{reads}
 
 -- ---- rows of one piece each
@@ -63,20 +60,10 @@ modules-allowed (x ∷ xs) a =
     let same : is_jobs x ≡ true = (bytes_eq-Decides x jobs_module).1 a.0 in
     rw same (modules-allowed xs a.1)
 
-pub option-allowed : own_limit (f.Options no_implicit) ≡ None
-option-allowed = refl
-
-heads-role : role_at p.Heads m.Uses ≡ Some Continues
-unfolding role_at
-heads-role = refl
-
-options-role : role_at p.Heads m.Options ≡ Some Continues
-unfolding role_at
-options-role = refl
-
 head-step : (deep : ℕ) (k : Stack) (l : ℕ) (name : ModelName) (before : List Head) (x : Head) → IsAllowed x → step deep (g.Heads l name before ∷ k) (spell_head x) ≡ Ok (g.Heads l name (before ++ x ∷ []) ∷ k)
-head-step deep k l name before (h.Uses line modules) a = step-role deep (g.Heads l name before ∷ k) (piece line (f.Uses modules)) Continues (g.Heads l name (before ++ h.Uses line modules ∷ []) ∷ k) heads-role (modules-allowed modules a) refl refl
-head-step deep k l name before (h.NoImplicit line) a = step-role deep (g.Heads l name before ∷ k) (piece line (f.Options no_implicit)) Continues (g.Heads l name (before ++ h.NoImplicit line ∷ []) ∷ k) options-role option-allowed refl refl
+unfolding role_at
+head-step deep k l name before (h.Uses line modules) a = step-role deep (g.Heads l name before ∷ k) (piece line (f.Uses modules)) Continues refl (modules-allowed modules a) refl
+head-step deep k l name before (h.NoImplicit line) a = step-role deep (g.Heads l name before ∷ k) (piece line (f.Options no_implicit)) Continues refl refl refl
 
 heads-read : (deep : ℕ) (k : Stack) (l : ℕ) (name : ModelName) (before : List Head) (xs : List Head) (rest : List PieceForm) → AreAllowed xs → run deep (g.Heads l name before ∷ k) (map spell_head xs ++ rest) ≡ run deep (g.Heads l name (before ++ xs) ∷ k) rest
 heads-read deep k l name before [] rest a = ap (λ ys. run deep (g.Heads l name ys ∷ k) rest) (sym (append-nil before))
@@ -87,46 +74,28 @@ heads-read deep k l name before (x ∷ xs) rest a =
 
 -- ---- declarations
 
-constant-step : (deep : ℕ) (k : Stack) (l : ℕ) (xs : List Item) (line : ℕ) (name : List ℕ) (value : Expr) → step deep (g.Declarations l xs ∷ k) (piece line (f.Definition name value)) ≡ Ok (g.Declarations l (xs ++ i.Constant line name value ∷ []) ∷ k)
-unfolding step step_as role_at
-constant-step deep k l xs line name value = refl
-
-variables-step : (deep : ℕ) (k : Stack) (l : ℕ) (xs : List Item) (line : ℕ) (names : List (List ℕ)) (typ : TypeForm) → step deep (g.Declarations l xs ∷ k) (piece line (f.Typed names typ)) ≡ Ok (g.Declarations l (xs ++ i.Variables line names typ ∷ []) ∷ k)
-unfolding step step_as role_at
-variables-step deep k l xs line names typ = refl
-
-record-step : (deep : ℕ) (k : Stack) (l : ℕ) (xs : List Item) (line : ℕ) (name : List ℕ) (fields : List FieldGroup) (end : ℕ) → step deep (g.Record line name fields ∷ g.Declarations l xs ∷ k) (piece end (f.Keyword keyword.EndRecord)) ≡ Ok (g.Declarations l (xs ++ i.Record line name fields ∷ []) ∷ k)
-unfolding step step_as role_at
-record-step deep k l xs line name fields end = refl
-
-record-role : role_at p.Declarations m.RecordOf ≡ Some Opens
-unfolding role_at
-record-role = refl
-
 items-read : (deep : ℕ) (xs : Items) (k : Stack) (l : ℕ) (rest : List PieceForm) → depth_items xs + length k ≤ deep → run deep (g.Declarations l [] ∷ k) (spell_items xs ++ rest) ≡ run deep (g.Declarations l (items_of xs) ∷ k) rest
+unfolding step step_as role_at
 items-read deep no_item k l rest h = refl
 items-read deep (constant xs line name value) k l rest h =
     ap (run deep (g.Declarations l [] ∷ k)) (one-end (spell_items xs) (piece line (f.Definition name value)) rest)
     ∙ items-read deep xs k l (piece line (f.Definition name value) ∷ rest) h
-    ∙ run-step deep (g.Declarations l (items_of xs) ∷ k) (g.Declarations l (items_of xs ++ i.Constant line name value ∷ []) ∷ k) (piece line (f.Definition name value)) rest (constant-step deep k l (items_of xs) line name value)
 items-read deep (variables xs line names typ) k l rest h =
     ap (run deep (g.Declarations l [] ∷ k)) (one-end (spell_items xs) (piece line (f.Typed names typ)) rest)
     ∙ items-read deep xs k l (piece line (f.Typed names typ) ∷ rest) h
-    ∙ run-step deep (g.Declarations l (items_of xs) ∷ k) (g.Declarations l (items_of xs ++ i.Variables line names typ ∷ []) ∷ k) (piece line (f.Typed names typ)) rest (variables-step deep k l (items_of xs) line names typ)
 items-read deep (record_type xs line name fields end) k l rest h =
     ap (run deep (g.Declarations l [] ∷ k)) (append_assoc (spell_items xs) (piece line (f.RecordOf name) ∷ (map spell_field fields ++ piece end (f.Keyword keyword.EndRecord) ∷ [])) rest ∙ ap (λ zs. spell_items xs ++ piece line (f.RecordOf name) ∷ zs) (one-end (map spell_field fields) (piece end (f.Keyword keyword.EndRecord)) rest))
     ∙ items-read deep xs k l (piece line (f.RecordOf name) ∷ (map spell_field fields ++ piece end (f.Keyword keyword.EndRecord) ∷ rest)) (omega (arith, h))
-    ∙ run-open deep (g.Declarations l (items_of xs) ∷ k) line (f.RecordOf name) (g.Record line name []) (map spell_field fields ++ piece end (f.Keyword keyword.EndRecord) ∷ rest) record-role refl refl (omega (arith, h))
+    ∙ run-open deep (g.Declarations l (items_of xs) ∷ k) line (f.RecordOf name) (g.Record line name []) (map spell_field fields ++ piece end (f.Keyword keyword.EndRecord) ∷ rest) refl refl refl (omega (arith, h))
     ∙ fields-read deep (g.Declarations l (items_of xs) ∷ k) line name [] fields (piece end (f.Keyword keyword.EndRecord) ∷ rest)
-    ∙ run-step deep (g.Record line name fields ∷ g.Declarations l (items_of xs) ∷ k) (g.Declarations l (items_of xs ++ i.Record line name fields ∷ []) ∷ k) (piece end (f.Keyword keyword.EndRecord)) rest (record-step deep k l (items_of xs) line name fields end)
 
 -- a block of `declarations`, where one may stand
-declarations-read : (deep : ℕ) (line : ℕ) (xs : Items) (end : ℕ) (k next : Stack) (rest : List PieceForm) → role_at (place_of k) m.Declarations ≡ Some Opens → 1 + depth_items xs + length k ≤ deep + 1 → add_other (part.Declared (declaration_block line xs)) k ≡ Some next → run deep k (spell_declarations line xs end ++ rest) ≡ run deep next rest
-declarations-read deep line xs end k next rest role h e =
+declarations-read : (deep : ℕ) (line : ℕ) (xs : Items) (end : ℕ) (k : Stack) (rest : List PieceForm) → role_at (place_of k) m.Declarations ≡ Some Opens → 1 + depth_items xs + length k ≤ deep + 1 → run deep k (spell_declarations line xs end ++ rest) ≡ run deep (add_other (part.Declared (declaration_block line xs)) k) rest
+declarations-read deep line xs end k rest role h =
     run-open deep k line (f.Keyword keyword.Declarations) (g.Declarations line []) ((spell_items xs ++ piece end (f.Keyword keyword.EndDeclarations) ∷ []) ++ rest) role refl refl (omega (arith, h))
     ∙ ap (run deep (g.Declarations line [] ∷ k)) (one-end (spell_items xs) (piece end (f.Keyword keyword.EndDeclarations)) rest)
     ∙ items-read deep xs k line (piece end (f.Keyword keyword.EndDeclarations) ∷ rest) (omega (arith, h))
-    ∙ run-step deep (g.Declarations line (items_of xs) ∷ k) next (piece end (f.Keyword keyword.EndDeclarations)) rest (step-role deep (g.Declarations line (items_of xs) ∷ k) (piece end (f.Keyword keyword.EndDeclarations)) Closes next ends-declarations refl refl e)
+    ∙ run-role deep (g.Declarations line (items_of xs) ∷ k) (piece end (f.Keyword keyword.EndDeclarations)) Closes rest (ends p.Declarations refl) refl refl
 
 -- ---- routines
 
@@ -144,11 +113,11 @@ parts-read deep no_part k heading rest h = refl
 parts-read deep (declares xs line items end) k heading rest h =
     ap (run deep (g.Routine heading [] ∷ k)) (append_assoc (spell_parts xs) (spell_declarations line items end) rest)
     ∙ parts-read deep xs k heading (spell_declarations line items end ++ rest) (omega (arith, h))
-    ∙ declarations-read deep line items end (g.Routine heading (parts_of xs) ∷ k) (g.Routine heading (parts_of xs ++ r.Declarations (declaration_block line items) ∷ []) ∷ k) rest (routine-declares heading.result) (omega (arith, h)) refl
+    ∙ declarations-read deep line items end (g.Routine heading (parts_of xs) ∷ k) rest (routine-declares heading.result) (omega (arith, h))
 parts-read deep (states xs w) k heading rest h =
     ap (run deep (g.Routine heading [] ∷ k)) (append_assoc (spell_parts xs) (spell w) rest)
     ∙ parts-read deep xs k heading (spell w ++ rest) (omega (arith, h))
-    ∙ reads deep w (g.Routine heading (parts_of xs) ∷ k) (g.Routine heading (parts_of xs ++ r.Statement (tree w) ∷ []) ∷ k) rest (routine-takes heading.result) (omega (arith, h)) refl
+    ∙ reads deep w (g.Routine heading (parts_of xs) ∷ k) rest (routine-takes heading.result) (omega (arith, h))
 
 -- ---- what stands in a model
 
@@ -161,91 +130,65 @@ pub model-takes : (l : ℕ) (name : ModelName) (heads : List Head) (xs : List To
 model-takes l name heads [] = refl
 model-takes l name heads (x ∷ xs) = refl
 
-pub model-adds : (l : ℕ) (name : ModelName) (heads : List Head) (xs : List Top) (x : Top) → with_top x (model l name heads xs) ≡ Some (model l name heads (xs ++ x ∷ []))
-model-adds l name heads [] x = refl
-model-adds l name heads (y ∷ ys) x = refl
-
-pub model-states : (l : ℕ) (name : ModelName) (heads : List Head) (xs : List Top) (x : Statement) (k : Stack) → add_statement x (model l name heads xs ∷ k) ≡ Some (model l name heads (xs ++ t.Statement x ∷ []) ∷ k)
+pub model-states : (l : ℕ) (name : ModelName) (heads : List Head) (xs : List Top) (x : Statement) (k : Stack) → add_statement x (model l name heads xs ∷ k) ≡ model l name heads (xs ++ t.Statement x ∷ []) ∷ k
 model-states l name heads [] x k = refl
 model-states l name heads (y ∷ ys) x k = refl
 
-pub model-declares : (l : ℕ) (name : ModelName) (heads : List Head) (xs : List Top) (x : Declared) (k : Stack) → add_other (part.Declared x) (model l name heads xs ∷ k) ≡ Some (model l name heads (xs ++ t.Declarations x ∷ []) ∷ k)
+pub model-declares : (l : ℕ) (name : ModelName) (heads : List Head) (xs : List Top) (x : Declared) (k : Stack) → add_other (part.Declared x) (model l name heads xs ∷ k) ≡ model l name heads (xs ++ t.Declarations x ∷ []) ∷ k
 model-declares l name heads [] x k = refl
 model-declares l name heads (y ∷ ys) x k = refl
 
-pub model-others : (l : ℕ) (name : ModelName) (heads : List Head) (xs : List Top) (x : Top) (k : Stack) → add_other (part.Top x) (model l name heads xs ∷ k) ≡ Some (model l name heads (xs ++ x ∷ []) ∷ k)
+pub model-others : (l : ℕ) (name : ModelName) (heads : List Head) (xs : List Top) (x : Top) (k : Stack) → add_other (part.Top x) (model l name heads xs ∷ k) ≡ model l name heads (xs ++ x ∷ []) ∷ k
 model-others l name heads [] x k = refl
 model-others l name heads (y ∷ ys) x k = refl
 
-role-parameters : (l : ℕ) (name : ModelName) (heads : List Head) (xs : List Top) → role_at (frame_place (model l name heads xs)) m.Parameters ≡ Some Opens
-unfolding role_at
-role-parameters l name heads [] = refl
-role-parameters l name heads (x ∷ xs) = refl
+model-role : (l : ℕ) (name : ModelName) (heads : List Head) (xs : List Top) (x : PieceKind) (role : Role) → role_at p.Heads x ≡ Some role → role_at p.Tops x ≡ Some role → role_at (frame_place (model l name heads xs)) x ≡ Some role
+model-role l name heads [] x role a b = a
+model-role l name heads (y ∷ ys) x role a b = b
 
-role-declarations : (l : ℕ) (name : ModelName) (heads : List Head) (xs : List Top) → role_at (frame_place (model l name heads xs)) m.Declarations ≡ Some Opens
+model-routine : (l : ℕ) (name : ModelName) (heads : List Head) (xs : List Top) (typ : Option BaseType) → role_at (frame_place (model l name heads xs)) (routine_kind typ) ≡ Some Opens
 unfolding role_at
-role-declarations l name heads [] = refl
-role-declarations l name heads (x ∷ xs) = refl
-
-role-routine : (l : ℕ) (name : ModelName) (heads : List Head) (xs : List Top) (typ : Option BaseType) → role_at (frame_place (model l name heads xs)) (routine_kind typ) ≡ Some Opens
-unfolding role_at
-role-routine l name heads [] None = refl
-role-routine l name heads [] (Some typ) = refl
-role-routine l name heads (x ∷ xs) None = refl
-role-routine l name heads (x ∷ xs) (Some typ) = refl
-
-role-forward : (l : ℕ) (name : ModelName) (heads : List Head) (xs : List Top) → role_at (frame_place (model l name heads xs)) m.Forward ≡ Some StandsAlone
-unfolding role_at
-role-forward l name heads [] = refl
-role-forward l name heads (x ∷ xs) = refl
-
-role-end : (l : ℕ) (name : ModelName) (heads : List Head) (xs : List Top) → role_at (frame_place (model l name heads xs)) m.EndModel ≡ Some Closes
-unfolding role_at
-role-end l name heads [] = refl
-role-end l name heads (x ∷ xs) = refl
+model-routine l name heads xs None = model-role l name heads xs m.Procedure Opens refl refl
+model-routine l name heads xs (Some typ) = model-role l name heads xs m.Function Opens refl refl
 
 tops-read : (deep : ℕ) (xs : Tops) (l : ℕ) (name : ModelName) (heads : List Head) (rest : List PieceForm) → depth_tops xs ≤ deep → run deep (g.Heads l name heads ∷ []) (spell_tops xs ++ rest) ≡ run deep (model l name heads (tops_of xs) ∷ []) rest
+unfolding role_at
 tops-read deep no_top l name heads rest h = refl
 tops-read deep (sets xs line ps end) l name heads rest h =
     let k : Stack = model l name heads (tops_of xs) ∷ [] in
-    let next : Stack = model l name heads (tops_of xs ++ t.Parameters line ps ∷ []) ∷ [] in
     ap (run deep (g.Heads l name heads ∷ [])) (append_assoc (spell_tops xs) (piece line (f.Keyword keyword.Parameters) ∷ (map spell_parameter ps ++ piece end (f.Keyword keyword.EndParameters) ∷ [])) rest ∙ ap (λ zs. spell_tops xs ++ piece line (f.Keyword keyword.Parameters) ∷ zs) (one-end (map spell_parameter ps) (piece end (f.Keyword keyword.EndParameters)) rest))
     ∙ tops-read deep xs l name heads (piece line (f.Keyword keyword.Parameters) ∷ (map spell_parameter ps ++ piece end (f.Keyword keyword.EndParameters) ∷ rest)) (omega (arith, h))
-    ∙ run-open deep k line (f.Keyword keyword.Parameters) (g.Parameters line []) (map spell_parameter ps ++ piece end (f.Keyword keyword.EndParameters) ∷ rest) (role-parameters l name heads (tops_of xs)) refl refl (omega (arith, h))
+    ∙ run-open deep k line (f.Keyword keyword.Parameters) (g.Parameters line []) (map spell_parameter ps ++ piece end (f.Keyword keyword.EndParameters) ∷ rest) (model-role l name heads (tops_of xs) m.Parameters Opens refl refl) refl refl (omega (arith, h))
     ∙ parameters-read deep k line [] ps (piece end (f.Keyword keyword.EndParameters) ∷ rest)
-    ∙ run-step deep (g.Parameters line ps ∷ k) next (piece end (f.Keyword keyword.EndParameters)) rest (step-role deep (g.Parameters line ps ∷ k) (piece end (f.Keyword keyword.EndParameters)) Closes next ends-parameters refl refl (model-others l name heads (tops_of xs) (t.Parameters line ps) []))
+    ∙ run-role deep (g.Parameters line ps ∷ k) (piece end (f.Keyword keyword.EndParameters)) Closes rest (ends p.Parameters refl) refl refl
+    ∙ ap (λ z. run deep z rest) (model-others l name heads (tops_of xs) (t.Parameters line ps) [])
 tops-read deep (declares_top xs line items end) l name heads rest h =
-    let k : Stack = model l name heads (tops_of xs) ∷ [] in
     ap (run deep (g.Heads l name heads ∷ [])) (append_assoc (spell_tops xs) (spell_declarations line items end) rest)
     ∙ tops-read deep xs l name heads (spell_declarations line items end ++ rest) (omega (arith, h))
-    ∙ declarations-read deep line items end k (model l name heads (tops_of xs ++ t.Declarations (declaration_block line items) ∷ []) ∷ []) rest (role-declarations l name heads (tops_of xs)) (omega (arith, h)) (model-declares l name heads (tops_of xs) (declaration_block line items) [])
+    ∙ declarations-read deep line items end (model l name heads (tops_of xs) ∷ []) rest (model-role l name heads (tops_of xs) m.Declarations Opens refl refl) (omega (arith, h))
+    ∙ ap (λ z. run deep z rest) (model-declares l name heads (tops_of xs) (declaration_block line items) [])
 tops-read deep (defines xs heading parts end) l name heads rest h =
     let k : Stack = model l name heads (tops_of xs) ∷ [] in
     let routine : Routine = record { heading = heading; parts = parts_of parts } in
-    let next : Stack = model l name heads (tops_of xs ++ t.Routine routine ∷ []) ∷ [] in
     ap (run deep (g.Heads l name heads ∷ [])) (append_assoc (spell_tops xs) (piece heading.line (heading_form heading) ∷ (spell_parts parts ++ piece end (end_form heading.result) ∷ [])) rest ∙ ap (λ zs. spell_tops xs ++ piece heading.line (heading_form heading) ∷ zs) (one-end (spell_parts parts) (piece end (end_form heading.result)) rest))
     ∙ tops-read deep xs l name heads (piece heading.line (heading_form heading) ∷ (spell_parts parts ++ piece end (end_form heading.result) ∷ rest)) (omega (arith, h))
-    ∙ run-open deep k heading.line (heading_form heading) (g.Routine heading []) (spell_parts parts ++ piece end (end_form heading.result) ∷ rest) (role-routine l name heads (tops_of xs) heading.result) refl refl (omega (arith, h))
+    ∙ run-open deep k heading.line (heading_form heading) (g.Routine heading []) (spell_parts parts ++ piece end (end_form heading.result) ∷ rest) (model-routine l name heads (tops_of xs) heading.result) refl refl (omega (arith, h))
     ∙ parts-read deep parts k heading (piece end (end_form heading.result) ∷ rest) (omega (arith, h))
-    ∙ run-step deep (g.Routine heading (parts_of parts) ∷ k) next (piece end (end_form heading.result)) rest (step-role deep (g.Routine heading (parts_of parts) ∷ k) (piece end (end_form heading.result)) Closes next (ends-routine heading.result) (end-limit heading.result) refl (model-others l name heads (tops_of xs) (t.Routine routine) []))
+    ∙ run-role deep (g.Routine heading (parts_of parts) ∷ k) (piece end (end_form heading.result)) Closes rest (ends-routine heading.result) (end-limit heading.result) refl
+    ∙ ap (λ z. run deep z rest) (model-others l name heads (tops_of xs) (t.Routine routine) [])
 tops-read deep (announces xs heading) l name heads rest h =
-    let k : Stack = model l name heads (tops_of xs) ∷ [] in
     let x : PieceForm = piece heading.line (f.Forward heading.name heading.formals heading.result) in
-    let next : Stack = model l name heads (tops_of xs ++ t.Forward heading ∷ []) ∷ [] in
     ap (run deep (g.Heads l name heads ∷ [])) (one-end (spell_tops xs) x rest)
     ∙ tops-read deep xs l name heads (x ∷ rest) h
-    ∙ run-step deep k next x rest (step-role deep k x StandsAlone next (role-forward l name heads (tops_of xs)) refl refl (model-others l name heads (tops_of xs) (t.Forward heading) []))
+    ∙ run-role deep (model l name heads (tops_of xs) ∷ []) x StandsAlone rest (model-role l name heads (tops_of xs) m.Forward StandsAlone refl refl) refl refl
+    ∙ ap (λ z. run deep z rest) (model-others l name heads (tops_of xs) (t.Forward heading) [])
 tops-read deep (states_top xs w) l name heads rest h =
-    let k : Stack = model l name heads (tops_of xs) ∷ [] in
     ap (run deep (g.Heads l name heads ∷ [])) (append_assoc (spell_tops xs) (spell w) rest)
     ∙ tops-read deep xs l name heads (spell w ++ rest) (omega (arith, h))
-    ∙ reads deep w k (model l name heads (tops_of xs ++ t.Statement (tree w) ∷ []) ∷ []) rest (model-takes l name heads (tops_of xs)) (omega (arith, h)) (model-states l name heads (tops_of xs) (tree w) [])
+    ∙ reads deep w (model l name heads (tops_of xs) ∷ []) rest (model-takes l name heads (tops_of xs)) (omega (arith, h))
+    ∙ ap (λ z. run deep z rest) (model-states l name heads (tops_of xs) (tree w) [])
 
 -- ---- the whole source
-
-model-role : role_at p.Start m.Model ≡ Some Opens
-unfolding role_at
-model-role = refl
 
 end-read : (deep : ℕ) (l : ℕ) (name : ModelName) (heads : List Head) (xs : List Top) (end : ℕ) → run deep (model l name heads xs ∷ []) (piece end (f.Keyword keyword.EndModel) ∷ []) ≡ done (record { line = l; name = name; heads = heads; tops = xs })
 unfolding step step_as role_at
@@ -254,8 +197,9 @@ end-read deep l name heads (x ∷ xs) end = refl
 
 -- the pieces of a source within the limits give its tree
 pub source-read : (deep : ℕ) (x : Source) → AreAllowed x.heads → depth_tops x.tops ≤ deep → run deep [] (spell_source x) ≡ done (tree_of x)
+unfolding role_at
 source-read deep x a h =
-    run-open deep [] x.line (f.Model x.name) (g.Heads x.line x.name []) (map spell_head x.heads ++ (spell_tops x.tops ++ piece x.end (f.Keyword keyword.EndModel) ∷ [])) model-role refl refl (omega arith)
+    run-open deep [] x.line (f.Model x.name) (g.Heads x.line x.name []) (map spell_head x.heads ++ (spell_tops x.tops ++ piece x.end (f.Keyword keyword.EndModel) ∷ [])) refl refl refl (omega arith)
     ∙ heads-read deep [] x.line x.name [] x.heads (spell_tops x.tops ++ piece x.end (f.Keyword keyword.EndModel) ∷ []) a
     ∙ tops-read deep x.tops x.line x.name x.heads (piece x.end (f.Keyword keyword.EndModel) ∷ []) h
     ∙ end-read deep x.line x.name x.heads (tops_of x.tops) x.end

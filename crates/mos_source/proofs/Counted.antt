@@ -22,6 +22,7 @@ use Rattle.mos_source.specs.Sources.{limit}
 use Rattle.mos_source.specs.Productions.{opens_block, form_at}
 use Rattle.mos_source.specs.Machine.{Stack, routine_place, frame_place, block_limit, step_as, step_in, step, place_of}
 use Rattle.mos_source.proofs.Behind.{choose}
+use Rattle.mos_source.proofs.Roles.{is_start}
 use Rattle.mos_source.proofs.Naming.{room, step-none}
 
 -- ---- roles of pieces that open a block
@@ -35,10 +36,6 @@ abbrev pub may_not_open : Option Role → Bool
 may_not_open (Some Opens) = false
 may_not_open _ = true
 
-abbrev pub is_start : Place → Bool
-is_start p.Start = true
-is_start _ = false
-
 pub frame-no-start : (frame : Frame) → is_start (frame_place frame) ≡ false
 frame-no-start (g.Routine heading parts) = routine-no-start heading.result
   where
@@ -51,40 +48,8 @@ frame-no-start _ = refl
 pub opens-so : (place : Place) (x : PieceKind) → is_start place ≡ false → choose (opens_block x) (may_open (role_at place x)) (may_not_open (role_at place x)) ≡ true
 unfolding role_at
 opens-so p.Start x s = let no : ⊥ = cc in absurd no
-opens-so p.Heads m.Unknown s = refl
-opens-so p.Heads _ s = refl
-opens-so p.Tops m.Unknown s = refl
-opens-so p.Tops _ s = refl
-opens-so p.Parameters m.Unknown s = refl
-opens-so p.Parameters _ s = refl
-opens-so p.Declarations m.Unknown s = refl
-opens-so p.Declarations _ s = refl
-opens-so p.Record m.Unknown s = refl
-opens-so p.Record _ s = refl
-opens-so p.Procedure m.Unknown s = refl
-opens-so p.Procedure _ s = refl
-opens-so p.Function m.Unknown s = refl
-opens-so p.Function _ s = refl
-opens-so p.IfArm m.Unknown s = refl
-opens-so p.IfArm _ s = refl
-opens-so p.IfElse m.Unknown s = refl
-opens-so p.IfElse _ s = refl
-opens-so p.Case m.Unknown s = refl
-opens-so p.Case _ s = refl
-opens-so p.CaseArm m.Unknown s = refl
-opens-so p.CaseArm _ s = refl
-opens-so p.CaseElse m.Unknown s = refl
-opens-so p.CaseElse _ s = refl
-opens-so p.LoopBody m.Unknown s = refl
-opens-so p.LoopBody _ s = refl
-opens-so p.Repeat m.Unknown s = refl
-opens-so p.Repeat _ s = refl
-opens-so p.Do m.Unknown s = refl
-opens-so p.Do _ s = refl
-opens-so p.Initializations m.Unknown s = refl
-opens-so p.Initializations _ s = refl
-opens-so p.End m.Unknown s = refl
-opens-so p.End _ s = refl
+opens-so _ m.Unknown s = refl
+opens-so _ _ s = refl
 
 only-opens : (role : Role) → may_open (Some role) ≡ true → role ≡ Opens
 only-opens Opens h = refl

@@ -1,6 +1,6 @@
 -- The rest of the innermost open block is read by the productions as the reader reads it.
 
-use Rattle.std.proofs.Common.{◌≡◌, ℕ, zero, suc, ◌≤◌, Bool, true, false, List, [], ◌∷◌, ◌++◌, length, Option, Some, None, Ok, refl, sym, ◌∙◌, ap, subst, arith}
+use Rattle.std.proofs.Common.{◌≡◌, ℕ, zero, suc, ◌≤◌, Bool, true, false, List, [], ◌∷◌, ◌++◌, length, Option, Some, None, refl, sym, ◌∙◌, ap, subst, arith}
 use Rattle.std.specs.Prelude.{is_some}
 use Rattle.mos_text.specs.declared.kind.Kind.{Kind}
 use Rattle.mos_text.specs.declared.kind.Kind.TheVariants as kind
@@ -13,18 +13,18 @@ use Rattle.mos_source.specs.declared.place.Place.TheVariants as p
 use Rattle.mos_source.specs.declared.place.Role.{Role}
 use Rattle.mos_source.specs.declared.place.Role.TheVariants.{Opens, Continues, StandsAlone, Closes}
 use Rattle.mos_tree.specs.Forms.{piece_kind_of}
+use Rattle.mos_source.specs.Limits.{own_limit}
 use Rattle.mos_source.specs.Places.{role_at}
 use Rattle.mos_source.specs.Sources.{limit}
 use Rattle.mos_source.specs.Productions.{opens_block, form_at, Reading, took, broke, Reads}
-use Rattle.mos_source.specs.Machine.{Stack, frame_place, enter, step, stopped, at_end, run}
+use Rattle.mos_source.specs.Machine.{Stack, frame_place, enter, stopped, at_end, run}
 use Rattle.mos_source.proofs.Steps.{step-role, run-step}
 use Rattle.mos_source.proofs.Held.{is_model, Holds}
-use Rattle.mos_source.proofs.Sound.{some_stack}
-use Rattle.mos_source.proofs.SoundStep.{sound}
-use Rattle.mos_source.proofs.Progress.{progress}
+use Rattle.mos_source.proofs.Roles.{is_start, opens-there, stands-there, goes-there}
+use Rattle.mos_source.proofs.SoundStep.{sound-enter}
 use Rattle.mos_source.proofs.Behind.{inside, outside, ReadsLeft, choose, behind, may_begin, within, within_then, rest, whole, read-on, read-none}
 use Rattle.mos_source.proofs.Waits.{waits, opened_place, gone_place, place_after, left_opened, left_after, left_at, is_end, waits-firm, left-is, begins-is}
-use Rattle.mos_source.proofs.Counted.{may_open, may_not_open, is_start, frame-no-start, opens-so, unknown-nowhere, Counts, Fails, fails, counts}
+use Rattle.mos_source.proofs.Counted.{may_open, may_not_open, frame-no-start, opens-so, unknown-nowhere, Counts, Fails, fails, counts}
 use Rattle.mos_source.proofs.Shapes.{At, opened-at, gone-at, Adds, stands-adds, closes-adds, is_loop_body, adds-at, adds-ends, unfinished}
 
 -- some pieces led to these blocks
@@ -135,26 +135,30 @@ led n place k next xs read small h live at =
 
 -- ---- a piece in its role
 
+-- the blocks behind the piece
+abbrev after : Role → Frame → Stack → PieceForm → Stack
+after role frame k x = enter role x.line x.form (frame ∷ k)
+
 -- the piece is taken
 record Taken (frame : Frame) (k : Stack) (x : PieceForm) (xs : List PieceForm) (role : Role) : Type 0 where
-  next : Stack
-  entered : enter role x.line x.form (frame ∷ k) ≡ some_stack next
-  runs : run limit (frame ∷ k) (x ∷ xs) ≡ run limit next xs
-  live : Live next
+  own : own_limit x.form ≡ None
+  there : role_at (frame_place frame) (piece_kind_of x.form) ≡ Some role
+  runs : run limit (frame ∷ k) (x ∷ xs) ≡ run limit (after role frame k x) xs
+  before : Live (frame ∷ k)
+  live : Live (after role frame k x)
   is : form_at (length k) x ≡ piece_kind_of x.form
 
 takes : (frame : Frame) (k : Stack) (x : PieceForm) (xs : List PieceForm) (role : Role) → role_at (frame_place frame) (form_at (length k) x) ≡ Some role → Live (frame ∷ k) → Taken frame k x xs role
 unfolding Live
 takes frame k x xs role r live =
     let c : Counts frame k x role = counts frame k x role r in
-    let here : role_at (frame_place frame) (piece_kind_of x.form) ≡ Some role = ap (role_at (frame_place frame)) (sym c.is) ∙ r in
-    let goes : (next : Stack) × (enter role x.line x.form (frame ∷ k) ≡ some_stack next) = progress limit (frame ∷ k) live.0 x.line x.form role live.1 here c.own in
-    let stepped : step limit (frame ∷ k) x ≡ Ok goes.0 = step-role limit (frame ∷ k) x role goes.0 here c.own c.block goes.1 in
+    let there : role_at (frame_place frame) (piece_kind_of x.form) ≡ Some role = ap (role_at (frame_place frame)) (sym c.is) ∙ r in
     record {
-      next = goes.0;
-      entered = goes.1;
-      runs = run-step limit (frame ∷ k) goes.0 x xs stepped;
-      live = (live.0 ++ x ∷ [], sound limit (frame ∷ k) goes.0 x live.0 live.1 stepped);
+      own = c.own;
+      there = there;
+      runs = run-step limit (frame ∷ k) (after role frame k x) x xs (step-role limit (frame ∷ k) x role there c.own c.block);
+      before = live;
+      live = (live.0 ++ x ∷ [], sound-enter limit role (frame ∷ k) x.line x.form live.0 live.1 there c.own c.block);
       is = c.is;
     }
 
@@ -168,29 +172,31 @@ read-none-there frame k x xs h r =
     broken (x ∷ xs) failed.0 (read-none (waits (frame_place frame)) (length k) (x ∷ xs) (waits-firm (frame_place frame)) (none-begins (frame_place frame) (form_at (length k) x) h r)) (rw failed.1 refl)
 
 read-closes : (frame : Frame) (k : Stack) (x : PieceForm) (xs : List PieceForm) → is_end (frame_place frame) ≡ false → role_at (frame_place frame) (form_at (length k) x) ≡ Some Closes → Taken frame k x xs Closes → At-here frame k x xs
-unfolding At-here
-read-closes frame k x xs h r t = taken xs t.next (on Closes (frame_place frame) (length k) x xs (took xs) h r refl) t.runs (closes-adds x.line x.form frame k t.next t.entered) t.live (omega arith)
+unfolding At-here Live
+read-closes frame k x xs h r t = taken xs (after Closes frame k x) (on Closes (frame_place frame) (length k) x xs (took xs) h r refl) t.runs (closes-adds limit x.line x.form frame k t.before.0 t.before.1 t.own t.there) t.live (omega arith)
 
 read-goes : (n : ℕ) (frame : Frame) (k : Stack) (x : PieceForm) (xs : List PieceForm) → Reader n → length xs ≤ n → is_end (frame_place frame) ≡ false → role_at (frame_place frame) (form_at (length k) x) ≡ Some Continues → Taken frame k x xs Continues → At-here frame k x xs
 unfolding At-here
 read-goes n frame k x xs read small h r t =
     let place : Place = gone_place (frame_place frame) (form_at (length k) x) in
-    let at : At k place t.next = subst (λ z. At k (gone_place (frame_place frame) z) t.next) (sym t.is) (gone-at x.line x.form frame k t.next t.entered) in
-    let there : ReadAt place k t.next xs = led n place k t.next xs read small (gone-end (frame_place frame) (form_at (length k) x) ∙ h) t.live at in
-    further (frame_place frame) place k (frame ∷ k) t.next (x ∷ xs) xs t.runs (λ end reads. on Continues (frame_place frame) (length k) x xs end h r reads) (gone-model (frame_place frame) (form_at (length k) x)) (omega arith) there
+    let next : Stack = after Continues frame k x in
+    let at : At k place next = subst (λ z. At k (gone_place (frame_place frame) z) next) (sym t.is) (gone-at x.line frame x.form k (goes-there frame x.form t.own t.there)) in
+    let there : ReadAt place k next xs = led n place k next xs read small (gone-end (frame_place frame) (form_at (length k) x) ∙ h) t.live at in
+    further (frame_place frame) place k (frame ∷ k) next (x ∷ xs) xs t.runs (λ end reads. on Continues (frame_place frame) (length k) x xs end h r reads) (gone-model (frame_place frame) (form_at (length k) x)) (omega arith) there
 
 -- behind a whole part of the block
-read-after : (n : ℕ) (loop : Bool) (frame : Frame) (k : Stack) (zs ys : List PieceForm) (next : Stack) → Reader n → is_loop_body (frame_place frame) ≡ loop → is_end (frame_place frame) ≡ false → length ys ≤ n → length ys ≤ length zs → run limit (frame ∷ k) zs ≡ run limit next ys → Live next → Adds (frame ∷ k) false next → (is_loop_body (frame_place frame) ≡ true → Reads (waits (frame_place frame)) (length k) zs (took ys)) → (is_loop_body (frame_place frame) ≡ false → (end : Reading) → Reads (waits (place_after (frame_place frame))) (length k) ys end → Reads (waits (frame_place frame)) (length k) zs end) → ReadAt (frame_place frame) k (frame ∷ k) zs
-read-after n true frame k zs ys next read l h small shorter ran live adds ends goes =
-    taken ys next (ends l) ran (subst (λ z. Adds k z next) (sym (loop-no-model (frame_place frame) l)) (adds-ends frame k next l adds)) live shorter
-read-after n false frame k zs ys next read l h small shorter ran live adds ends goes =
+read-after : (n : ℕ) (loop : Bool) (frame : Frame) (k : Stack) (zs ys : List PieceForm) (next : Stack) → Reader n → is_loop_body (frame_place frame) ≡ loop → is_end (frame_place frame) ≡ false → length ys ≤ n → length ys ≤ length zs → run limit (frame ∷ k) zs ≡ run limit next ys → Live (frame ∷ k) → Live next → Adds (frame ∷ k) false next → (is_loop_body (frame_place frame) ≡ true → Reads (waits (frame_place frame)) (length k) zs (took ys)) → (is_loop_body (frame_place frame) ≡ false → (end : Reading) → Reads (waits (place_after (frame_place frame))) (length k) ys end → Reads (waits (frame_place frame)) (length k) zs end) → ReadAt (frame_place frame) k (frame ∷ k) zs
+unfolding Live
+read-after n true frame k zs ys next read l h small shorter ran before live adds ends goes =
+    taken ys next (ends l) ran (subst (λ z. Adds k z next) (sym (loop-no-model (frame_place frame) l)) (adds-ends limit frame k next before.0 before.1 l adds)) live shorter
+read-after n false frame k zs ys next read l h small shorter ran before live adds ends goes =
     let there : ReadAt (place_after (frame_place frame)) k next ys = led n (place_after (frame_place frame)) k next ys read small (after-end (frame_place frame) ∙ h) live (adds-at frame k next l adds) in
     further (frame_place frame) (place_after (frame_place frame)) k (frame ∷ k) next zs ys ran (goes l) (after-model (frame_place frame)) shorter there
 
 read-stands : (n : ℕ) (frame : Frame) (k : Stack) (x : PieceForm) (xs : List PieceForm) → Reader n → length xs ≤ n → is_end (frame_place frame) ≡ false → role_at (frame_place frame) (form_at (length k) x) ≡ Some StandsAlone → Taken frame k x xs StandsAlone → At-here frame k x xs
 unfolding At-here
 read-stands n frame k x xs read small h r t =
-    read-after n (is_loop_body (frame_place frame)) frame k (x ∷ xs) xs t.next read refl h small (omega arith) t.runs t.live (stands-adds x.line x.form (frame ∷ k) t.next t.entered)
+    read-after n (is_loop_body (frame_place frame)) frame k (x ∷ xs) xs (after StandsAlone frame k x) read refl h small (omega arith) t.runs t.before t.live (stands-adds x.line x.form (frame ∷ k) (stands-there (frame_place frame) (piece_kind_of x.form) t.there) t.own)
     (λ l. on StandsAlone (frame_place frame) (length k) x xs (took xs) h r (subst (λ z. ReadsLeft z (length k) xs (took xs)) (sym (left-after-loop (frame_place frame) l)) refl))
     (λ l end reads. on StandsAlone (frame_place frame) (length k) x xs end h r (subst (λ z. ReadsLeft z (length k) xs end) (sym (left-after (frame_place frame) l)) reads))
 
@@ -199,11 +205,11 @@ opens-breaks : (loop : Bool) (frame : Frame) (k : Stack) (x : PieceForm) (xs lef
 opens-breaks true frame k x xs left l h r reads = on Opens (frame_place frame) (length k) x xs (broke left) h r (subst (λ z. ReadsLeft z (length k) xs (broke left)) (sym (left-opened-loop (frame_place frame) (opened_place (form_at (length k) x)) l)) reads)
 opens-breaks false frame k x xs left l h r reads = on Opens (frame_place frame) (length k) x xs (broke left) h r (subst (λ z. ReadsLeft z (length k) xs (broke left)) (sym (left-opened (frame_place frame) (opened_place (form_at (length k) x)) (frame-no-start frame) l)) (inside left reads))
 
-opens-inner : (n : ℕ) (frame : Frame) (k : Stack) (x : PieceForm) (xs : List PieceForm) (next : Stack) → Reader n → length xs ≤ n → is_end (frame_place frame) ≡ false → role_at (frame_place frame) (form_at (length k) x) ≡ Some Opens → is_model (opened_place (form_at (length k) x)) ≡ false → run limit (frame ∷ k) (x ∷ xs) ≡ run limit next xs → ReadAt (opened_place (form_at (length k) x)) (frame ∷ k) next xs → At-here frame k x xs
+opens-inner : (n : ℕ) (frame : Frame) (k : Stack) (x : PieceForm) (xs : List PieceForm) (next : Stack) → Reader n → length xs ≤ n → is_end (frame_place frame) ≡ false → role_at (frame_place frame) (form_at (length k) x) ≡ Some Opens → is_model (opened_place (form_at (length k) x)) ≡ false → run limit (frame ∷ k) (x ∷ xs) ≡ run limit next xs → Live (frame ∷ k) → ReadAt (opened_place (form_at (length k) x)) (frame ∷ k) next xs → At-here frame k x xs
 unfolding At-here
-opens-inner n frame k x xs next read small h r model ran (broken left wrong reads stops) = broken left wrong (opens-breaks (is_loop_body (frame_place frame)) frame k x xs left refl h r reads) (ran ∙ stops)
-opens-inner n frame k x xs next read small h r model ran (taken left there reads runs adds live less) =
-    read-after n (is_loop_body (frame_place frame)) frame k (x ∷ xs) left there read refl h (omega (arith, small, less)) (omega (arith, less)) (ran ∙ runs) live (subst (λ z. Adds (frame ∷ k) z there) model adds)
+opens-inner n frame k x xs next read small h r model ran before (broken left wrong reads stops) = broken left wrong (opens-breaks (is_loop_body (frame_place frame)) frame k x xs left refl h r reads) (ran ∙ stops)
+opens-inner n frame k x xs next read small h r model ran before (taken left there reads runs adds live less) =
+    read-after n (is_loop_body (frame_place frame)) frame k (x ∷ xs) left there read refl h (omega (arith, small, less)) (omega (arith, less)) (ran ∙ runs) before live (subst (λ z. Adds (frame ∷ k) z there) model adds)
     (λ l. on Opens (frame_place frame) (length k) x xs (took left) h r (subst (λ z. ReadsLeft z (length k) xs (took left)) (sym (left-opened-loop (frame_place frame) (opened_place (form_at (length k) x)) l)) reads))
     (λ l end more. on Opens (frame_place frame) (length k) x xs end h r (subst (λ z. ReadsLeft z (length k) xs end) (sym (left-opened (frame_place frame) (opened_place (form_at (length k) x)) (frame-no-start frame) l)) (outside left end reads more)))
 
@@ -211,8 +217,9 @@ read-opens : (n : ℕ) (frame : Frame) (k : Stack) (x : PieceForm) (xs : List Pi
 read-opens n frame k x xs read small h r t =
     let place : Place = opened_place (form_at (length k) x) in
     let block : (is_end place ≡ false) × (is_model place ≡ false) = opened-block (form_at (length k) x) (opening (frame_place frame) (form_at (length k) x) (frame-no-start frame) r) in
-    let at : At (frame ∷ k) place t.next = subst (λ z. At (frame ∷ k) (opened_place z) t.next) (sym t.is) (opened-at x.line x.form (frame ∷ k) t.next t.entered) in
-    opens-inner n frame k x xs t.next read small h r block.1 t.runs (led n place (frame ∷ k) t.next xs read small block.0 t.live at)
+    let next : Stack = after Opens frame k x in
+    let at : At (frame ∷ k) place next = subst (λ z. At (frame ∷ k) (opened_place z) next) (sym t.is) (opened-at x.line x.form (frame ∷ k) (opens-there (frame_place frame) (piece_kind_of x.form) t.there) t.own) in
+    opens-inner n frame k x xs next read small h r block.1 t.runs t.before (led n place (frame ∷ k) next xs read small block.0 t.live at)
 
 read-role : (n : ℕ) (role : Option Role) (frame : Frame) (k : Stack) (x : PieceForm) (xs : List PieceForm) → Reader n → length xs ≤ n → is_end (frame_place frame) ≡ false → role_at (frame_place frame) (form_at (length k) x) ≡ role → Live (frame ∷ k) → At-here frame k x xs
 read-role n None frame k x xs read small h r live = read-none-there frame k x xs h r

@@ -1,7 +1,8 @@
 -- What was read: the pieces that a stack of open blocks stands for.
 
-use Rattle.std.proofs.Common.{◌≡◌, ℕ, ◌+◌, ◌≤◌, Bool, true, false, List, [], ◌∷◌, ◌++◌, length, map}
+use Rattle.std.proofs.Common.{◌≡◌, ℕ, ◌+◌, ◌≤◌, Bool, true, false, List, [], ◌∷◌, ◌++◌, length, map, Option, Some, None}
 use Rattle.mos_tree.specs.declared.expr.Expr.{Expr}
+use Rattle.mos_tree.specs.declared.declaration.BaseType.{BaseType}
 use Rattle.mos_tree.specs.declared.declaration.Parameter.{Parameter}
 use Rattle.mos_tree.specs.declared.declaration.FieldGroup.{FieldGroup}
 use Rattle.mos_tree.specs.declared.declaration.Item.{Item}
@@ -27,7 +28,7 @@ use Rattle.mos_tree.specs.Forms.{piece}
 use Rattle.mos_source.specs.Places.{takes_statements}
 use Rattle.mos_source.specs.Statements.{Rows, Block, Arms, Alternatives, arm_form, spell_rows, spell_block, spell_arms, spell_alternatives, depth_block, depth_arms, depth_alternatives, label_groups, first_line, arm_of, trees, trees_of_arms, trees_of_alternatives}
 use Rattle.mos_source.specs.Sources.{Items, Parts, Tops, Source, spell_parameter, spell_field, spell_items, spell_parts, heading_form, spell_tops, spell_head, spell_source, depth_items, depth_parts, depth_tops, AreAllowed, IsWithin, items_of, parts_of, tops_of, tree_of}
-use Rattle.mos_source.specs.Machine.{Stack, place_of}
+use Rattle.mos_source.specs.Machine.{Stack, routine_place, place_of}
 
 -- the top of a model
 abbrev pub is_model : Place → Bool
@@ -45,6 +46,14 @@ takes_declarations _ = false
 abbrev pub is_declarations : Place → Bool
 is_declarations p.Declarations = true
 is_declarations _ = false
+
+pub no-model : (typ : Option BaseType) → is_model (routine_place typ) ≡ true → ⊥
+no-model None e = cc
+no-model (Some x) e = cc
+
+pub no-declarations : (typ : Option BaseType) → is_declarations (routine_place typ) ≡ true → ⊥
+no-declarations None e = cc
+no-declarations (Some x) e = cc
 
 pub record HeldParameters (deep : ℕ) (k : Stack) (l : ℕ) (xs : List Parameter) (own : List PieceForm) : Type 0 where
   pub there : is_model (place_of k) ≡ true

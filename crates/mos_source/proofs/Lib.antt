@@ -5,11 +5,9 @@ pub mod CompleteSource
 pub mod Completing
 pub mod Counted
 pub mod Descent
-pub mod Ends
 pub mod Held
 pub mod Naming
 pub mod OneWay
-pub mod Progress
 pub mod Reading
 pub mod Roles
 pub mod Runs

@@ -1,6 +1,6 @@
 -- The kind of the fault of a piece.
 
-use Rattle.std.proofs.Common.{◌≡◌, ℕ, ◌+◌, ◌≤◌, Bool, true, false, cond, ◌⊎◌, inl, inr, List, [], ◌∷◌, ◌++◌, length, Option, Some, None, Ok, Err, refl, sym, ◌∙◌, ap, subst, arith}
+use Rattle.std.proofs.Common.{◌≡◌, ℕ, ◌+◌, ◌≤◌, Bool, true, false, cond, List, [], ◌∷◌, ◌++◌, length, Option, Some, None, Err, refl, sym, ◌∙◌, ap, subst, arith}
 use Rattle.std.specs.Prelude.{nat_lt, unwrap_or}
 use Rattle.mos_text.specs.declared.kind.Kind.{Kind}
 use Rattle.mos_text.specs.declared.kind.Kind.TheVariants as kind
@@ -13,14 +13,13 @@ use Rattle.mos_source.specs.Limits.{own_limit}
 use Rattle.mos_source.specs.Places.{role_at}
 use Rattle.mos_source.specs.Sources.{depth_tops, tree_of, limit}
 use Rattle.mos_source.specs.Faults.{CouldStand, IsKind, beyond, misplaced}
-use Rattle.mos_source.specs.Machine.{Stack, place_of, enter, block_limit, or_block, broken_limit, unless, step_as, step_in, step, done, stopped, run}
-use Rattle.mos_source.proofs.Steps.{block-fits, step-role, one-end}
+use Rattle.mos_source.specs.Machine.{Stack, place_of, enter, block_limit, or_block, broken_limit, outcome, step_as, step_in, step, done, stopped, run}
+use Rattle.mos_source.proofs.Steps.{block-fits, one-end}
 use Rattle.mos_source.proofs.CompleteSource.{source-read}
 use Rattle.mos_source.proofs.Held.{Holds}
-use Rattle.mos_source.proofs.Sound.{some_stack}
-use Rattle.mos_source.proofs.SoundStep.{sound, no-limit, some_kind}
+use Rattle.mos_source.proofs.SoundStep.{sound-enter, some_kind}
 use Rattle.mos_source.proofs.Completing.{Closed, closing}
-use Rattle.mos_source.proofs.Progress.{progress, sample, sample-kind, sample-limit}
+use Rattle.mos_source.proofs.Roles.{sample, sample-kind, sample-limit}
 
 -- ---- a mould that may stand
 
@@ -36,9 +35,9 @@ could-stand before top piece_kind role held r =
     let there : Holds deep top before = held deep (omega arith) in
     let other : PieceForm = piece 0 (sample piece_kind) in
     let role-is : role_at (place_of top) (piece_kind_of (sample piece_kind)) ≡ Some role = ap (λ z. role_at (place_of top) z) (sample-kind piece_kind) ∙ r in
-    let takes : (next : Stack) × (enter role 0 (sample piece_kind) top ≡ some_stack next) = progress deep top before 0 (sample piece_kind) role there role-is (sample-limit piece_kind) in
-    let stepped : step deep top other ≡ Ok takes.0 = step-role deep top other role takes.0 role-is (sample-limit piece_kind) (room deep role (length top) (omega arith)) takes.1 in
-    let all : Closed deep (before ++ other ∷ []) = closing deep (length takes.0) takes.0 (before ++ other ∷ []) (omega arith) (sound deep top takes.0 other before there stepped) in
+    let block : block_limit deep role (length top) ≡ None = room deep role (length top) (omega arith) in
+    let next : Stack = enter role 0 (sample piece_kind) top in
+    let all : Closed deep (before ++ other ∷ []) = closing deep (length next) next (before ++ other ∷ []) (omega arith) (sound-enter deep role top 0 (sample piece_kind) before there role-is (sample-limit piece_kind) block) in
     record {
       other = other;
       alike = sample-kind piece_kind;
@@ -69,10 +68,9 @@ could-not before top piece_kind goes r could =
 
 -- ---- the kind
 
-unless-is : (found : Option Kind) (next : Option Stack) (wrong : Kind) → unless found next ≡ Err wrong → (found ≡ some_kind wrong) ⊎ ((found ≡ None) × (next ≡ None))
-unless-is None None wrong e = inr (refl, refl)
-unless-is None (Some k) wrong e = let no : ⊥ = cc in absurd no
-unless-is (Some x) next wrong e = let same : x ≡ wrong = cc in inl (ap some_kind same)
+outcome-is : (found : Option Kind) (next : Stack) (wrong : Kind) → outcome found next ≡ Err wrong → found ≡ some_kind wrong
+outcome-is None next wrong e = let no : ⊥ = cc in absurd no
+outcome-is (Some x) next wrong e = let same : x ≡ wrong = cc in ap some_kind same
 
 deep-is : (deep : ℕ) (n : ℕ) (wrong : Kind) (test : Bool) → nat_lt deep n ≡ test → cond test (some_kind kind.Deep) None ≡ some_kind wrong → wrong ≡ kind.Deep
 deep-is deep n wrong true t e = cc
@@ -88,22 +86,15 @@ broken-own : (own block : Option Kind) (wrong : Kind) → (block ≡ some_kind w
 broken-own (Some x) block wrong b e = cc
 broken-own None block wrong b e = b e
 
-some-next : (next : Option Stack) (k : Stack) → next ≡ None → next ≡ some_stack k → ⊥
-some-next next k a b = cc
-
 named-role : (before : List PieceForm) (top : Stack) (x : PieceForm) (after : List PieceForm) (wrong : Kind) (role : Option Role) → ((deeper : ℕ) → limit ≤ deeper → Holds deeper top before) → ((deeper : ℕ) → limit ≤ deeper → (ys : List PieceForm) → run deeper [] (before ++ ys) ≡ run deeper top ys) → role_at (place_of top) (piece_kind_of x.form) ≡ role → step_in limit role x.line x.form top ≡ Err wrong → IsKind before (x ∷ after) wrong
 unfolding step_as
 named-role before top x after wrong None held goes r e =
     let same : kind.Syntax ≡ wrong = cc in
     subst (λ z. IsKind before (x ∷ after) z) same (misplaced x after (could-not before top (piece_kind_of x.form) goes r))
 named-role before top x after wrong (Some role) held goes r e =
-    elim (unless-is (broken_limit limit role (length top) x.form) (enter role x.line x.form top) wrong e) [
-      | inl found ↦ subst (λ z. IsKind before (x ∷ after) z) (sym (broken-own (own_limit x.form) (block_limit limit role (length top)) wrong (block-is limit role (length top) wrong) found)) (beyond x after (could-stand before top (piece_kind_of x.form) role held r))
-      | inr none ↦
-          (let limits : (own_limit x.form ≡ None) × (block_limit limit role (length top) ≡ None) = no-limit (own_limit x.form) (block_limit limit role (length top)) none.0 in
-          let takes : (next : Stack) × (enter role x.line x.form top ≡ some_stack next) = progress limit top before x.line x.form role (held limit (omega arith)) r limits.0 in
-          absurd (some-next (enter role x.line x.form top) takes.0 none.1 takes.1))
-    ]
+    let found : broken_limit limit role (length top) x.form ≡ some_kind wrong = outcome-is (broken_limit limit role (length top) x.form) (enter role x.line x.form top) wrong e in
+    let is : wrong ≡ unwrap_or (own_limit x.form) kind.Deep = broken-own (own_limit x.form) (block_limit limit role (length top)) wrong (block-is limit role (length top) wrong) found in
+    subst (λ z. IsKind before (x ∷ after) z) (sym is) (beyond x after (could-stand before top (piece_kind_of x.form) role held r))
 
 pub named-step : (before : List PieceForm) (top : Stack) (x : PieceForm) (after : List PieceForm) (wrong : Kind) → ((deeper : ℕ) → limit ≤ deeper → Holds deeper top before) → ((deeper : ℕ) → limit ≤ deeper → (ys : List PieceForm) → run deeper [] (before ++ ys) ≡ run deeper top ys) → step limit top x ≡ Err wrong → IsKind before (x ∷ after) wrong
 unfolding step

@@ -1,245 +1,258 @@
--- Which forms have which role at a place.
+-- Which pieces open, stand alone and close at a place.
 
-use Rattle.std.proofs.Common.{◌≡◌, true, [], ◌∷◌, Option, Some, None, refl}
+use Rattle.std.proofs.Common.{◌≡◌, Bool, true, false, [], ◌∷◌, Option, Some, None, refl}
 use Rattle.mos_tree.specs.declared.expr.Expr.{Expr}
+use Rattle.mos_tree.specs.declared.expr.Expr.TheVariants as e
 use Rattle.mos_tree.specs.declared.declaration.BaseType.{BaseType}
+use Rattle.mos_tree.specs.declared.declaration.BaseType.TheVariants as base
+use Rattle.mos_tree.specs.declared.declaration.TypeForm.TheVariants as type_form
+use Rattle.mos_tree.specs.declared.statement.Alternative.{Alternative}
+use Rattle.mos_tree.specs.declared.source.ModelName.TheVariants as called
+use Rattle.mos_tree.specs.declared.statement.Direction.TheVariants as direction
 use Rattle.mos_tree.specs.declared.form.Form.{Form}
 use Rattle.mos_tree.specs.declared.form.Form.TheVariants as f
 use Rattle.mos_tree.specs.declared.form.ConditionKeyword.TheVariants as conditional
 use Rattle.mos_tree.specs.declared.form.Keyword.TheVariants as keyword
+use Rattle.mos_tree.specs.declared.form.Simple.TheVariants as simple
 use Rattle.mos_tree.specs.declared.form.PieceKind.{PieceKind}
 use Rattle.mos_tree.specs.declared.form.PieceKind.TheVariants as m
+use Rattle.mos_source.specs.declared.frame.Frame.{Frame}
 use Rattle.mos_source.specs.declared.frame.Frame.TheVariants as g
 use Rattle.mos_source.specs.declared.place.Place.{Place}
 use Rattle.mos_source.specs.declared.place.Place.TheVariants as p
-use Rattle.mos_source.specs.declared.place.Role.TheVariants.{Opens, Closes}
+use Rattle.mos_source.specs.declared.place.Role.TheVariants.{Opens, Continues, StandsAlone, Closes}
 use Rattle.mos_tree.specs.Forms.{piece_kind_of, routine_kind}
 use Rattle.mos_source.specs.Limits.{own_limit}
-use Rattle.mos_source.specs.Places.{takes_statements, begins, role_at, start_role, parameters_role, declarations_role, record_role, case_role, initializations_role}
-use Rattle.mos_source.specs.Sources.{end_form}
-use Rattle.mos_source.specs.Machine.{Stack, routine_place, place_of}
+use Rattle.mos_source.specs.Places.{takes_statements, role_at}
+use Rattle.mos_source.specs.Sources.{no_implicit, end_form}
+use Rattle.mos_source.specs.Machine.{Stack, frame_place, routine_place, place_of}
 use Rattle.mos_source.proofs.Held.{is_model, takes_declarations, is_declarations}
+
+-- ---- a piece of each kind
+
+abbrev pub sample : PieceKind → Form
+sample m.Unknown = f.Unknown
+sample m.Model = f.Model (called.Named [])
+sample m.Uses = f.Uses []
+sample m.Options = f.Options no_implicit
+sample m.EndModel = f.Keyword keyword.EndModel
+sample m.Parameters = f.Keyword keyword.Parameters
+sample m.EndParameters = f.Keyword keyword.EndParameters
+sample m.Declarations = f.Keyword keyword.Declarations
+sample m.EndDeclarations = f.Keyword keyword.EndDeclarations
+sample m.Definition = f.Definition [] e.Returned
+sample m.Typed = f.Typed [] type_form.Range
+sample m.RecordOf = f.RecordOf []
+sample m.EndRecord = f.Keyword keyword.EndRecord
+sample m.Procedure = f.Routine [] [] None
+sample m.Function = f.Routine [] [] (Some base.Integer)
+sample m.EndProcedure = f.Keyword keyword.EndProcedure
+sample m.EndFunction = f.Keyword keyword.EndFunction
+sample m.Forward = f.Forward [] [] None
+sample m.Simple = f.Simple simple.Break
+sample m.Bare = f.Bare []
+sample m.If = f.Guarded conditional.If e.Returned
+sample m.Elif = f.Guarded conditional.Elif e.Returned
+sample m.Else = f.Keyword keyword.Else
+sample m.EndIf = f.Keyword keyword.EndIf
+sample m.Case = f.Guarded conditional.Case e.Returned
+sample m.Alternative = f.Alternative []
+sample m.EndCase = f.Keyword keyword.EndCase
+sample m.Forall = f.Forall (record { groups = []; condition = None })
+sample m.While = f.Guarded conditional.While e.Returned
+sample m.Repeat = f.Keyword keyword.Repeat
+sample m.Until = f.Guarded conditional.Until e.Returned
+sample m.Do = f.Keyword keyword.Do
+sample m.EndDo = f.Keyword keyword.EndDo
+sample m.Initializations = f.Initializations direction.From e.Returned
+sample m.Labels = f.Labels []
+sample m.EndInitializations = f.Keyword keyword.EndInitializations
+
+pub sample-kind : (x : PieceKind) → piece_kind_of (sample x) ≡ x
+sample-kind m.Unknown = refl
+sample-kind _ = refl
+
+pub sample-limit : (x : PieceKind) → own_limit (sample x) ≡ None
+sample-limit m.Unknown = refl
+sample-limit _ = refl
 
 -- ---- what opens where
 
-start-begins : (x : PieceKind) → begins x ≡ Some Opens → start_role x ≡ Some Opens → ⊥
-start-begins m.Model b r = cc
-start-begins _ b r = cc
+abbrev pub is_start : Place → Bool
+is_start p.Start = true
+is_start _ = false
 
-parameters-begins : (x : PieceKind) → begins x ≡ Some Opens → parameters_role x ≡ Some Opens → ⊥
-parameters-begins m.Definition b r = cc
-parameters-begins m.EndParameters b r = cc
-parameters-begins _ b r = cc
+-- the places at which a piece of this kind opens a block
+abbrev pub opens_at : PieceKind → Place → Bool
+opens_at m.Model = is_start
+opens_at m.Parameters = is_model
+opens_at m.Procedure = is_model
+opens_at m.Function = is_model
+opens_at m.Declarations = takes_declarations
+opens_at m.RecordOf = is_declarations
+opens_at m.If = takes_statements
+opens_at m.Case = takes_statements
+opens_at m.Forall = takes_statements
+opens_at m.While = takes_statements
+opens_at m.Repeat = takes_statements
+opens_at m.Do = takes_statements
+opens_at m.Initializations = takes_statements
+opens_at _ = λ place. false
 
-declarations-begins : (x : PieceKind) → begins x ≡ Some Opens → declarations_role x ≡ Some Opens → ⊥
-declarations-begins m.RecordOf b r = cc
-declarations-begins _ b r = cc
-
-record-begins : (x : PieceKind) → begins x ≡ Some Opens → record_role x ≡ Some Opens → ⊥
-record-begins m.Typed b r = cc
-record-begins _ b r = cc
-
-case-begins : (x : PieceKind) → begins x ≡ Some Opens → case_role x ≡ Some Opens → ⊥
-case-begins m.Alternative b r = cc
-case-begins _ b r = cc
-
-initializations-begins : (x : PieceKind) → begins x ≡ Some Opens → initializations_role x ≡ Some Opens → ⊥
-initializations-begins m.Bare b r = cc
-initializations-begins _ b r = cc
-
--- where a statement opens, statements begin
-pub begins-takes : (place : Place) (x : PieceKind) → begins x ≡ Some Opens → role_at place x ≡ Some Opens → takes_statements place ≡ true
+pub opens-there : (place : Place) (x : PieceKind) → role_at place x ≡ Some Opens → opens_at x place ≡ true
 unfolding role_at
-begins-takes p.Start x b r = absurd (start-begins x b r)
-begins-takes p.Parameters x b r = absurd (parameters-begins x b r)
-begins-takes p.Declarations x b r = absurd (declarations-begins x b r)
-begins-takes p.Record x b r = absurd (record-begins x b r)
-begins-takes p.Case x b r = absurd (case-begins x b r)
-begins-takes p.Initializations x b r = absurd (initializations-begins x b r)
-begins-takes p.End x b r = let no : ⊥ = cc in absurd no
-begins-takes _ x b r = refl
-
-routine-no-model : (typ : Option BaseType) → role_at (routine_place typ) m.Model ≡ Some Opens → ⊥
-unfolding role_at
-routine-no-model None r = cc
-routine-no-model (Some t) r = cc
+opens-there p.Start m.Unknown r = cc
+opens-there _ m.Unknown r = cc
+opens-there _ _ r = cc
 
 -- `model` opens before everything
-pub starts : (k : Stack) → role_at (place_of k) m.Model ≡ Some Opens → k ≡ []
-unfolding role_at
+pub starts : (k : Stack) → is_start (place_of k) ≡ true → k ≡ []
 starts [] r = refl
-starts (g.Routine heading xs ∷ k) r = absurd (routine-no-model heading.result r)
+starts (g.Routine heading xs ∷ k) r = absurd (no-start heading.result r)
+  where
+    no-start : (typ : Option BaseType) → is_start (routine_place typ) ≡ true → ⊥
+    no-start None r = cc
+    no-start (Some t) r = cc
 starts (_ ∷ k) r = let no : ⊥ = cc in absurd no
 
-pub parameters-there : (place : Place) → role_at place m.Parameters ≡ Some Opens → is_model place ≡ true
-unfolding role_at
-parameters-there p.Heads r = refl
-parameters-there p.Tops r = refl
-parameters-there _ r = let no : ⊥ = cc in absurd no
+pub routine-there : (place : Place) (typ : Option BaseType) → opens_at (routine_kind typ) place ≡ true → is_model place ≡ true
+routine-there place None o = o
+routine-there place (Some t) o = o
 
-pub declarations-there : (place : Place) → role_at place m.Declarations ≡ Some Opens → takes_declarations place ≡ true
-unfolding role_at
-declarations-there p.Heads r = refl
-declarations-there p.Tops r = refl
-declarations-there p.Procedure r = refl
-declarations-there p.Function r = refl
-declarations-there _ r = let no : ⊥ = cc in absurd no
+-- ---- what stands alone where
 
-pub record-there : (place : Place) → role_at place m.RecordOf ≡ Some Opens → is_declarations place ≡ true
-unfolding role_at
-record-there p.Declarations r = refl
-record-there _ r = let no : ⊥ = cc in absurd no
+abbrev pub stands_at : PieceKind → Place → Bool
+stands_at m.Simple = takes_statements
+stands_at m.Bare = takes_statements
+stands_at m.Forward = is_model
+stands_at _ = λ place. false
 
-procedure-there : (place : Place) → role_at place m.Procedure ≡ Some Opens → is_model place ≡ true
+pub stands-there : (place : Place) (x : PieceKind) → role_at place x ≡ Some StandsAlone → stands_at x place ≡ true
 unfolding role_at
-procedure-there p.Heads r = refl
-procedure-there p.Tops r = refl
-procedure-there _ r = let no : ⊥ = cc in absurd no
+stands-there p.Start m.Unknown r = cc
+stands-there _ m.Unknown r = cc
+stands-there _ _ r = cc
 
-function-there : (place : Place) → role_at place m.Function ≡ Some Opens → is_model place ≡ true
-unfolding role_at
-function-there p.Heads r = refl
-function-there p.Tops r = refl
-function-there _ r = let no : ⊥ = cc in absurd no
-
-pub routine-there : (place : Place) (typ : Option BaseType) → role_at place (routine_kind typ) ≡ Some Opens → is_model place ≡ true
-routine-there place None r = procedure-there place r
-routine-there place (Some t) r = function-there place r
+pub no-routine : (place : Place) (typ : Option BaseType) → stands_at (routine_kind typ) place ≡ true → ⊥
+no-routine place None o = cc
+no-routine place (Some x) o = cc
 
 -- ---- what closes where
 
-pub closes-heads : (form : Form) → own_limit form ≡ None → role_at p.Heads (piece_kind_of form) ≡ Some Closes → form ≡ (f.Keyword keyword.EndModel)
-unfolding role_at
-closes-heads (f.Keyword keyword.EndModel) o r = refl
-closes-heads (f.Routine n fs None) o r = let no : ⊥ = cc in absurd no
-closes-heads (f.Keyword keyword.Else) o r = let no : ⊥ = cc in absurd no
-closes-heads (f.Guarded conditional.If x) o r = let no : ⊥ = cc in absurd no
-closes-heads (f.Routine n fs (Some t)) o r = let no : ⊥ = cc in absurd no
-closes-heads _ o r = let no : ⊥ = cc in absurd no
+-- the piece that closes the block at the place; `else` closes none
+abbrev pub end_kind : Place → PieceKind
+end_kind p.Heads = m.EndModel
+end_kind p.Tops = m.EndModel
+end_kind p.Parameters = m.EndParameters
+end_kind p.Declarations = m.EndDeclarations
+end_kind p.Record = m.EndRecord
+end_kind p.Procedure = m.EndProcedure
+end_kind p.Function = m.EndFunction
+end_kind p.IfArm = m.EndIf
+end_kind p.IfElse = m.EndIf
+end_kind p.Case = m.EndCase
+end_kind p.CaseElse = m.EndCase
+end_kind p.Repeat = m.Until
+end_kind p.Do = m.EndDo
+end_kind p.Initializations = m.EndInitializations
+end_kind _ = m.Else
 
-pub closes-tops : (form : Form) → own_limit form ≡ None → role_at p.Tops (piece_kind_of form) ≡ Some Closes → form ≡ (f.Keyword keyword.EndModel)
-unfolding role_at
-closes-tops (f.Keyword keyword.EndModel) o r = refl
-closes-tops (f.Routine n fs None) o r = let no : ⊥ = cc in absurd no
-closes-tops (f.Keyword keyword.Else) o r = let no : ⊥ = cc in absurd no
-closes-tops (f.Guarded conditional.If x) o r = let no : ⊥ = cc in absurd no
-closes-tops (f.Routine n fs (Some t)) o r = let no : ⊥ = cc in absurd no
-closes-tops _ o r = let no : ⊥ = cc in absurd no
+-- a block is closed at the place
+abbrev pub closes_there : Place → Bool
+closes_there p.Start = false
+closes_there p.CaseArm = false
+closes_there p.LoopBody = false
+closes_there p.End = false
+closes_there _ = true
 
-pub closes-model : (place : Place) (form : Form) → is_model place ≡ true → own_limit form ≡ None → role_at place (piece_kind_of form) ≡ Some Closes → form ≡ (f.Keyword keyword.EndModel)
+pub ends : (place : Place) → closes_there place ≡ true → role_at place (end_kind place) ≡ Some Closes
 unfolding role_at
-closes-model p.Heads form i o r = closes-heads form o r
-closes-model p.Tops form i o r = closes-tops form o r
-closes-model _ form i o r = let no : ⊥ = cc in absurd no
+ends p.Start h = cc
+ends _ h = cc
 
-pub closes-parameters : (form : Form) → own_limit form ≡ None → role_at p.Parameters (piece_kind_of form) ≡ Some Closes → form ≡ (f.Keyword keyword.EndParameters)
+pub none-closes : (place : Place) (x : PieceKind) → closes_there place ≡ false → role_at place x ≡ Some Closes → ⊥
 unfolding role_at
-closes-parameters (f.Keyword keyword.EndParameters) o r = refl
-closes-parameters (f.Routine n fs None) o r = let no : ⊥ = cc in absurd no
-closes-parameters (f.Keyword keyword.Else) o r = let no : ⊥ = cc in absurd no
-closes-parameters (f.Guarded conditional.If x) o r = let no : ⊥ = cc in absurd no
-closes-parameters (f.Routine n fs (Some t)) o r = let no : ⊥ = cc in absurd no
-closes-parameters _ o r = let no : ⊥ = cc in absurd no
+none-closes p.Start m.Unknown n r = cc
+none-closes _ m.Unknown n r = cc
+none-closes _ _ n r = cc
 
-pub closes-declarations : (form : Form) → own_limit form ≡ None → role_at p.Declarations (piece_kind_of form) ≡ Some Closes → form ≡ (f.Keyword keyword.EndDeclarations)
-unfolding role_at
-closes-declarations (f.Keyword keyword.EndDeclarations) o r = refl
-closes-declarations (f.Routine n fs None) o r = let no : ⊥ = cc in absurd no
-closes-declarations (f.Keyword keyword.Else) o r = let no : ⊥ = cc in absurd no
-closes-declarations (f.Guarded conditional.If x) o r = let no : ⊥ = cc in absurd no
-closes-declarations (f.Routine n fs (Some t)) o r = let no : ⊥ = cc in absurd no
-closes-declarations _ o r = let no : ⊥ = cc in absurd no
+abbrev pub is_repeat : Place → Bool
+is_repeat p.Repeat = true
+is_repeat _ = false
 
-pub closes-record : (form : Form) → own_limit form ≡ None → role_at p.Record (piece_kind_of form) ≡ Some Closes → form ≡ (f.Keyword keyword.EndRecord)
+pub closes-word : (place : Place) (form : Form) → is_repeat place ≡ false → own_limit form ≡ None → role_at place (piece_kind_of form) ≡ Some Closes → form ≡ sample (end_kind place)
 unfolding role_at
-closes-record (f.Keyword keyword.EndRecord) o r = refl
-closes-record (f.Routine n fs None) o r = let no : ⊥ = cc in absurd no
-closes-record (f.Keyword keyword.Else) o r = let no : ⊥ = cc in absurd no
-closes-record (f.Guarded conditional.If x) o r = let no : ⊥ = cc in absurd no
-closes-record (f.Routine n fs (Some t)) o r = let no : ⊥ = cc in absurd no
-closes-record _ o r = let no : ⊥ = cc in absurd no
-
-pub closes-procedure : (form : Form) → own_limit form ≡ None → role_at p.Procedure (piece_kind_of form) ≡ Some Closes → form ≡ (f.Keyword keyword.EndProcedure)
-unfolding role_at
-closes-procedure (f.Keyword keyword.EndProcedure) o r = refl
-closes-procedure (f.Routine n fs None) o r = let no : ⊥ = cc in absurd no
-closes-procedure (f.Keyword keyword.Else) o r = let no : ⊥ = cc in absurd no
-closes-procedure (f.Guarded conditional.If x) o r = let no : ⊥ = cc in absurd no
-closes-procedure (f.Routine n fs (Some t)) o r = let no : ⊥ = cc in absurd no
-closes-procedure _ o r = let no : ⊥ = cc in absurd no
-
-pub closes-function : (form : Form) → own_limit form ≡ None → role_at p.Function (piece_kind_of form) ≡ Some Closes → form ≡ (f.Keyword keyword.EndFunction)
-unfolding role_at
-closes-function (f.Keyword keyword.EndFunction) o r = refl
-closes-function (f.Routine n fs None) o r = let no : ⊥ = cc in absurd no
-closes-function (f.Keyword keyword.Else) o r = let no : ⊥ = cc in absurd no
-closes-function (f.Guarded conditional.If x) o r = let no : ⊥ = cc in absurd no
-closes-function (f.Routine n fs (Some t)) o r = let no : ⊥ = cc in absurd no
-closes-function _ o r = let no : ⊥ = cc in absurd no
-
-pub closes-arm : (form : Form) → own_limit form ≡ None → role_at p.IfArm (piece_kind_of form) ≡ Some Closes → form ≡ (f.Keyword keyword.EndIf)
-unfolding role_at
-closes-arm (f.Keyword keyword.EndIf) o r = refl
-closes-arm (f.Routine n fs None) o r = let no : ⊥ = cc in absurd no
-closes-arm (f.Keyword keyword.Else) o r = let no : ⊥ = cc in absurd no
-closes-arm (f.Guarded conditional.If x) o r = let no : ⊥ = cc in absurd no
-closes-arm (f.Routine n fs (Some t)) o r = let no : ⊥ = cc in absurd no
-closes-arm _ o r = let no : ⊥ = cc in absurd no
-
-pub closes-otherwise : (form : Form) → own_limit form ≡ None → role_at p.IfElse (piece_kind_of form) ≡ Some Closes → form ≡ (f.Keyword keyword.EndIf)
-unfolding role_at
-closes-otherwise (f.Keyword keyword.EndIf) o r = refl
-closes-otherwise (f.Routine n fs None) o r = let no : ⊥ = cc in absurd no
-closes-otherwise (f.Keyword keyword.Else) o r = let no : ⊥ = cc in absurd no
-closes-otherwise (f.Guarded conditional.If x) o r = let no : ⊥ = cc in absurd no
-closes-otherwise (f.Routine n fs (Some t)) o r = let no : ⊥ = cc in absurd no
-closes-otherwise _ o r = let no : ⊥ = cc in absurd no
-
-pub closes-case : (form : Form) → own_limit form ≡ None → role_at p.Case (piece_kind_of form) ≡ Some Closes → form ≡ (f.Keyword keyword.EndCase)
-unfolding role_at
-closes-case (f.Keyword keyword.EndCase) o r = refl
-closes-case (f.Routine n fs None) o r = let no : ⊥ = cc in absurd no
-closes-case (f.Keyword keyword.Else) o r = let no : ⊥ = cc in absurd no
-closes-case (f.Guarded conditional.If x) o r = let no : ⊥ = cc in absurd no
-closes-case (f.Routine n fs (Some t)) o r = let no : ⊥ = cc in absurd no
-closes-case _ o r = let no : ⊥ = cc in absurd no
-
-pub closes-case-else : (form : Form) → own_limit form ≡ None → role_at p.CaseElse (piece_kind_of form) ≡ Some Closes → form ≡ (f.Keyword keyword.EndCase)
-unfolding role_at
-closes-case-else (f.Keyword keyword.EndCase) o r = refl
-closes-case-else (f.Routine n fs None) o r = let no : ⊥ = cc in absurd no
-closes-case-else (f.Keyword keyword.Else) o r = let no : ⊥ = cc in absurd no
-closes-case-else (f.Guarded conditional.If x) o r = let no : ⊥ = cc in absurd no
-closes-case-else (f.Routine n fs (Some t)) o r = let no : ⊥ = cc in absurd no
-closes-case-else _ o r = let no : ⊥ = cc in absurd no
-
-pub closes-do : (form : Form) → own_limit form ≡ None → role_at p.Do (piece_kind_of form) ≡ Some Closes → form ≡ (f.Keyword keyword.EndDo)
-unfolding role_at
-closes-do (f.Keyword keyword.EndDo) o r = refl
-closes-do (f.Routine n fs None) o r = let no : ⊥ = cc in absurd no
-closes-do (f.Keyword keyword.Else) o r = let no : ⊥ = cc in absurd no
-closes-do (f.Guarded conditional.If x) o r = let no : ⊥ = cc in absurd no
-closes-do (f.Routine n fs (Some t)) o r = let no : ⊥ = cc in absurd no
-closes-do _ o r = let no : ⊥ = cc in absurd no
-
-pub closes-initializations : (form : Form) → own_limit form ≡ None → role_at p.Initializations (piece_kind_of form) ≡ Some Closes → form ≡ (f.Keyword keyword.EndInitializations)
-unfolding role_at
-closes-initializations (f.Keyword keyword.EndInitializations) o r = refl
-closes-initializations (f.Routine n fs None) o r = let no : ⊥ = cc in absurd no
-closes-initializations (f.Keyword keyword.Else) o r = let no : ⊥ = cc in absurd no
-closes-initializations (f.Guarded conditional.If x) o r = let no : ⊥ = cc in absurd no
-closes-initializations (f.Routine n fs (Some t)) o r = let no : ⊥ = cc in absurd no
-closes-initializations _ o r = let no : ⊥ = cc in absurd no
+closes-word p.Start (f.Keyword keyword.Else) n o r = cc
+closes-word _ (f.Keyword keyword.Else) n o r = cc
+closes-word _ (f.Routine name formals None) n o r = cc
+closes-word _ (f.Routine name formals (Some typ)) n o r = cc
+closes-word _ (f.Guarded conditional.If x) n o r = cc
+closes-word _ _ n o r = cc
 
 pub closes-repeat : (form : Form) → own_limit form ≡ None → role_at p.Repeat (piece_kind_of form) ≡ Some Closes → (c : Expr) × (form ≡ f.Guarded conditional.Until c)
 unfolding role_at
 closes-repeat (f.Guarded conditional.Until c) o r = (c, refl)
 closes-repeat (f.Routine n fs None) o r = let no : ⊥ = cc in absurd no
-closes-repeat (f.Keyword keyword.Else) o r = let no : ⊥ = cc in absurd no
-closes-repeat (f.Guarded conditional.If x) o r = let no : ⊥ = cc in absurd no
 closes-repeat (f.Routine n fs (Some t)) o r = let no : ⊥ = cc in absurd no
+closes-repeat (f.Keyword keyword.Else) o r = let no : ⊥ = cc in absurd no
 closes-repeat _ o r = let no : ⊥ = cc in absurd no
 
 pub closes-routine : (typ : Option BaseType) (form : Form) → own_limit form ≡ None → role_at (routine_place typ) (piece_kind_of form) ≡ Some Closes → form ≡ end_form typ
-closes-routine None form o r = closes-procedure form o r
-closes-routine (Some t) form o r = closes-function form o r
+closes-routine None form o r = closes-word p.Procedure form refl o r
+closes-routine (Some t) form o r = closes-word p.Function form refl o r
+
+pub ends-routine : (typ : Option BaseType) → role_at (routine_place typ) (piece_kind_of (end_form typ)) ≡ Some Closes
+ends-routine None = ends p.Procedure refl
+ends-routine (Some t) = ends p.Function refl
+
+pub end-limit : (typ : Option BaseType) → own_limit (end_form typ) ≡ None
+end-limit None = refl
+end-limit (Some t) = refl
+
+-- ---- what goes on where
+
+abbrev pub goes_there : Place → Bool
+goes_there p.Heads = true
+goes_there p.Parameters = true
+goes_there p.Declarations = true
+goes_there p.Record = true
+goes_there p.IfArm = true
+goes_there p.Case = true
+goes_there p.Initializations = true
+goes_there _ = false
+
+pub none-goes : (place : Place) (x : PieceKind) → goes_there place ≡ false → role_at place x ≡ Some Continues → ⊥
+unfolding role_at
+none-goes p.Start m.Unknown n r = cc
+none-goes _ m.Unknown n r = cc
+none-goes _ _ n r = cc
+
+routine-goes : (typ : Option BaseType) → goes_there (routine_place typ) ≡ false
+routine-goes None = refl
+routine-goes (Some x) = refl
+
+-- the blocks that go on with the piece
+abbrev pub goes_on : Frame → Form → Bool
+goes_on (g.Heads at name xs) (f.Uses modules) = true
+goes_on (g.Heads at name xs) (f.Options x) = true
+goes_on (g.Parameters at xs) (f.Definition name value) = true
+goes_on (g.Declarations at xs) (f.Definition name value) = true
+goes_on (g.Declarations at xs) (f.Typed names typ) = true
+goes_on (g.Record at name xs) (f.Typed names typ) = true
+goes_on (g.IfArm first arms at c body) (f.Guarded conditional.Elif x) = true
+goes_on (g.IfArm first arms at c body) (f.Keyword keyword.Else) = true
+goes_on (g.Case at v xs) (f.Alternative x) = true
+goes_on (g.Case at v xs) (f.Keyword keyword.Else) = true
+goes_on (g.Initializations at d n xs) (f.Bare x) = true
+goes_on (g.Initializations at d n xs) (f.Labels x) = true
+goes_on _ _ = false
+
+pub goes-there : (frame : Frame) (form : Form) → own_limit form ≡ None → role_at (frame_place frame) (piece_kind_of form) ≡ Some Continues → goes_on frame form ≡ true
+unfolding role_at
+goes-there (g.Routine heading xs) form o r = absurd (none-goes (routine_place heading.result) (piece_kind_of form) (routine-goes heading.result) r)
+goes-there (g.Heads at name xs) (f.Routine x y None) o r = cc
+goes-there _ (f.Routine x y None) o r = cc
+goes-there _ (f.Routine x y (Some z)) o r = cc
+goes-there _ (f.Keyword keyword.EndIf) o r = cc
+goes-there _ (f.Guarded conditional.If x) o r = cc
+goes-there _ _ o r = cc

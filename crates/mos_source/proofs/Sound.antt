@@ -1,13 +1,15 @@
 -- What was read holds of a stack that is given a part.
 
-use Rattle.std.proofs.Common.{◌≡◌, ℕ, ◌+◌, ◌≤◌, List, [], ◌∷◌, ◌++◌, length, map, Option, Some, refl, sym, ◌∙◌, ap, subst, arith}
+use Rattle.std.proofs.Common.{◌≡◌, ℕ, ◌+◌, ◌≤◌, List, [], ◌∷◌, ◌++◌, length, map, true, refl, sym, ◌∙◌, ap, subst, arith}
 use Rattle.std.proofs.lemmas.List.{append_assoc}
+use Rattle.mos_tree.specs.declared.declaration.Item.{Item}
 use Rattle.mos_tree.specs.declared.declaration.Item.TheVariants as i
 use Rattle.mos_tree.specs.declared.declaration.FieldGroup.{FieldGroup}
 use Rattle.mos_tree.specs.declared.source.ModelName.{ModelName}
 use Rattle.mos_tree.specs.declared.source.Head.{Head}
 use Rattle.mos_tree.specs.declared.source.Top.{Top}
 use Rattle.mos_tree.specs.declared.source.Top.TheVariants as t
+use Rattle.mos_tree.specs.declared.statement.Statement.TheVariants as s
 use Rattle.mos_tree.specs.declared.source.RoutinePart.TheVariants as r
 use Rattle.mos_tree.specs.declared.form.Form.TheVariants as f
 use Rattle.mos_tree.specs.declared.form.ConditionKeyword.TheVariants as conditional
@@ -18,18 +20,11 @@ use Rattle.mos_source.specs.declared.frame.Frame.TheVariants as g
 use Rattle.mos_source.specs.declared.frame.Part.TheVariants as part
 use Rattle.mos_tree.specs.Forms.{piece}
 use Rattle.mos_source.specs.Statements.{Written, forall_, while_, then_one, alternative, arm_form, spell, spell_block, spell_arms, spell_alternatives, depth, alternative_of, tree}
-use Rattle.mos_source.specs.Sources.{Items, record_type, declares, states, Tops, no_top, declares_top, states_top, spell_field, spell_declarations, spell_tops, spell_head, depth_items, depth_tops, declaration_block, tops_of}
-use Rattle.mos_source.specs.Machine.{Stack, add_statement, add_other}
+use Rattle.mos_source.specs.Sources.{Items, record_type, declares, states, Tops, no_top, declares_top, states_top, spell_field, spell_declarations, spell_tops, spell_head, depth_items, depth_tops, items_of, tops_of}
+use Rattle.mos_source.specs.Places.{takes_statements}
+use Rattle.mos_source.specs.Machine.{Stack, place_of, add_statement, add_other}
 use Rattle.mos_source.proofs.Steps.{one-end}
-use Rattle.mos_source.proofs.Held.{HeldOwn, Holds}
-
-abbrev pub some_stack : Stack → Option Stack
-some_stack k = Some k
-
-pub moved : (deep : ℕ) (a b : Stack) (pieces : List PieceForm) → some_stack a ≡ some_stack b → Holds deep a pieces → Holds deep b pieces
-moved deep a b pieces e h =
-    let same : a ≡ b = cc in
-    subst (λ n. Holds deep n pieces) same h
+use Rattle.mos_source.proofs.Held.{is_model, takes_declarations, is_declarations, no-model, no-declarations, HeldOwn, Holds}
 
 pub respelled : (deep : ℕ) (k : Stack) (a b : List PieceForm) → a ≡ b → Holds deep k a → Holds deep k b
 respelled deep k a b e h = subst (λ ps. Holds deep k ps) e h
@@ -44,28 +39,24 @@ over-more deep frame next k pieces more h own = (h.0, h.1 ++ more, h.2, ap (λ z
 
 -- ---- a statement more
 
-pub added : (deep : ℕ) (k next : Stack) (before : List PieceForm) (w : Written) → Holds deep k before → depth w + length k ≤ deep + 1 → add_statement (tree w) k ≡ some_stack next → Holds deep next (before ++ spell w)
-added deep [] next before w h d e = let no : ⊥ = cc in absurd no
-added deep (g.Heads l name hs ∷ k) next before w h d e =
-    moved deep (g.Tops l name hs (t.Statement (tree w) ∷ []) ∷ k) next (before ++ spell w) e
-    (record { alone = h.alone; allowed = h.allowed; tops = states_top no_top w; are = refl; fits = omega (arith, d); exact = rw h.exact refl })
-added deep (g.Tops l name hs xs ∷ k) next before w h d e =
-    moved deep (g.Tops l name hs (xs ++ t.Statement (tree w) ∷ []) ∷ k) next (before ++ spell w) e
-    (record {
+pub added : (deep : ℕ) (k : Stack) (before : List PieceForm) (w : Written) → Holds deep k before → depth w + length k ≤ deep + 1 → takes_statements (place_of k) ≡ true → Holds deep (add_statement (tree w) k) (before ++ spell w)
+added deep [] before w h d e = let no : ⊥ = cc in absurd no
+added deep (g.Heads l name hs ∷ k) before w h d e =
+    record { alone = h.alone; allowed = h.allowed; tops = states_top no_top w; are = refl; fits = omega (arith, d); exact = rw h.exact refl }
+added deep (g.Tops l name hs xs ∷ k) before w h d e =
+    record {
       alone = h.alone;
       allowed = h.allowed;
       tops = states_top h.tops w;
       are = ap (λ z. z ++ t.Statement (tree w) ∷ []) h.are;
       fits = omega (arith, d, h.fits);
       exact = rw h.exact (ap (λ z. piece l (f.Model name) ∷ z) (append_assoc (map spell_head hs) (spell_tops h.tops) (spell w)));
-    })
-added deep (g.Routine heading xs ∷ k) next before w h d e =
-    moved deep (g.Routine heading (xs ++ r.Statement (tree w) ∷ []) ∷ k) next (before ++ spell w) e
-    (over-more deep (g.Routine heading xs) (g.Routine heading (xs ++ r.Statement (tree w) ∷ [])) k before (spell w) h
-    (record { there = h.4.there; parts = states h.4.parts w; are = ap (λ z. z ++ r.Statement (tree w) ∷ []) h.4.are; fits = omega (arith, d, h.4.fits); exact = rw h.4.exact refl }))
-added deep (g.IfArm first arms l c body ∷ k) next before w h d e =
-    moved deep (g.IfArm first arms l c (body ++ tree w ∷ []) ∷ k) next (before ++ spell w) e
-    (over-more deep (g.IfArm first arms l c body) (g.IfArm first arms l c (body ++ tree w ∷ [])) k before (spell w) h
+    }
+added deep (g.Routine heading xs ∷ k) before w h d e =
+    over-more deep (g.Routine heading xs) (g.Routine heading (xs ++ r.Statement (tree w) ∷ [])) k before (spell w) h
+    (record { there = h.4.there; parts = states h.4.parts w; are = ap (λ z. z ++ r.Statement (tree w) ∷ []) h.4.are; fits = omega (arith, d, h.4.fits); exact = rw h.4.exact refl })
+added deep (g.IfArm first arms l c body ∷ k) before w h d e =
+    over-more deep (g.IfArm first arms l c body) (g.IfArm first arms l c (body ++ tree w ∷ [])) k before (spell w) h
     (record {
       there = h.4.there;
       before = h.4.before;
@@ -76,10 +67,9 @@ added deep (g.IfArm first arms l c body ∷ k) next before w h d e =
       fits = h.4.fits;
       fits_body = omega (arith, d, h.4.fits_body);
       exact = rw h.4.exact (append_assoc (spell_arms h.4.before) (piece l (arm_form h.4.before c) ∷ spell_block h.4.block) (spell w));
-    }))
-added deep (g.IfElse first arms body ∷ k) next before w h d e =
-    moved deep (g.IfElse first arms (body ++ tree w ∷ []) ∷ k) next (before ++ spell w) e
-    (over-more deep (g.IfElse first arms body) (g.IfElse first arms (body ++ tree w ∷ [])) k before (spell w) h
+    })
+added deep (g.IfElse first arms body ∷ k) before w h d e =
+    over-more deep (g.IfElse first arms body) (g.IfElse first arms (body ++ tree w ∷ [])) k before (spell w) h
     (record {
       there = h.4.there;
       before = h.4.before;
@@ -95,20 +85,18 @@ added deep (g.IfElse first arms body ∷ k) next before w h d e =
       fits_guarded = h.4.fits_guarded;
       fits_body = omega (arith, d, h.4.fits_body);
       exact = rw h.4.exact (append_assoc (spell_arms h.4.before ++ piece h.4.last (arm_form h.4.before h.4.condition) ∷ spell_block h.4.guarded) (piece h.4.at (f.Keyword keyword.Else) ∷ spell_block h.4.block) (spell w));
-    }))
-added deep (g.CaseArm l v xs at labels ∷ k) next before w h d e =
-    moved deep (g.Case l v (xs ++ alternative_of at labels (tree w) ∷ []) ∷ k) next (before ++ spell w) e
-    (over-more deep (g.CaseArm l v xs at labels) (g.Case l v (xs ++ alternative_of at labels (tree w) ∷ [])) k before (spell w) h
+    })
+added deep (g.CaseArm l v xs at labels ∷ k) before w h d e =
+    over-more deep (g.CaseArm l v xs at labels) (g.Case l v (xs ++ alternative_of at labels (tree w) ∷ [])) k before (spell w) h
     (record {
       there = h.4.there;
       alternatives = alternative h.4.alternatives at labels w;
       are = ap (λ z. z ++ alternative_of at labels (tree w) ∷ []) h.4.are;
       fits = omega (arith, d, h.4.fits);
       exact = rw h.4.exact (ap (λ z. piece l (f.Guarded conditional.Case v) ∷ z) (one-end (spell_alternatives h.4.alternatives) (piece at (f.Alternative labels)) (spell w)));
-    }))
-added deep (g.CaseElse l v xs body ∷ k) next before w h d e =
-    moved deep (g.CaseElse l v xs (body ++ tree w ∷ []) ∷ k) next (before ++ spell w) e
-    (over-more deep (g.CaseElse l v xs body) (g.CaseElse l v xs (body ++ tree w ∷ [])) k before (spell w) h
+    })
+added deep (g.CaseElse l v xs body ∷ k) before w h d e =
+    over-more deep (g.CaseElse l v xs body) (g.CaseElse l v xs (body ++ tree w ∷ [])) k before (spell w) h
     (record {
       there = h.4.there;
       alternatives = h.4.alternatives;
@@ -119,24 +107,22 @@ added deep (g.CaseElse l v xs body ∷ k) next before w h d e =
       fits = h.4.fits;
       fits_body = omega (arith, d, h.4.fits_body);
       exact = rw h.4.exact (ap (λ z. piece l (f.Guarded conditional.Case v) ∷ z) (append_assoc (spell_alternatives h.4.alternatives) (piece h.4.at (f.Keyword keyword.Else) ∷ spell_block h.4.block) (spell w)));
-    }))
-added deep (g.Forall l index ∷ k) next before w h d e =
-    respelled deep next (h.0 ++ piece l (f.Forall index) ∷ spell w) (before ++ spell w)
+    })
+added deep (g.Forall l index ∷ k) before w h d e =
+    respelled deep (add_statement (s.Forall l index (tree w)) k) (h.0 ++ piece l (f.Forall index) ∷ spell w) (before ++ spell w)
     (sym (ap (λ z. z ++ spell w) (h.3 ∙ ap (λ o. h.0 ++ o) h.4.exact) ∙ one-end h.0 (piece l (f.Forall index)) (spell w)))
-    (added deep k next h.0 (forall_ l index w) h.2 (omega (arith, d)) e)
-added deep (g.While l c ∷ k) next before w h d e =
-    respelled deep next (h.0 ++ piece l (f.Guarded conditional.While c) ∷ spell w) (before ++ spell w)
+    (added deep k h.0 (forall_ l index w) h.2 (omega (arith, d)) h.4.there)
+added deep (g.While l c ∷ k) before w h d e =
+    respelled deep (add_statement (s.While l c (tree w)) k) (h.0 ++ piece l (f.Guarded conditional.While c) ∷ spell w) (before ++ spell w)
     (sym (ap (λ z. z ++ spell w) (h.3 ∙ ap (λ o. h.0 ++ o) h.4.exact) ∙ one-end h.0 (piece l (f.Guarded conditional.While c)) (spell w)))
-    (added deep k next h.0 (while_ l c w) h.2 (omega (arith, d)) e)
-added deep (g.Repeat l body ∷ k) next before w h d e =
-    moved deep (g.Repeat l (body ++ tree w ∷ []) ∷ k) next (before ++ spell w) e
-    (over-more deep (g.Repeat l body) (g.Repeat l (body ++ tree w ∷ [])) k before (spell w) h
-    (record { there = h.4.there; block = then_one h.4.block w; body_is = ap (λ z. z ++ tree w ∷ []) h.4.body_is; fits = omega (arith, d, h.4.fits); exact = rw h.4.exact refl }))
-added deep (g.Do l body ∷ k) next before w h d e =
-    moved deep (g.Do l (body ++ tree w ∷ []) ∷ k) next (before ++ spell w) e
-    (over-more deep (g.Do l body) (g.Do l (body ++ tree w ∷ [])) k before (spell w) h
-    (record { there = h.4.there; block = then_one h.4.block w; body_is = ap (λ z. z ++ tree w ∷ []) h.4.body_is; fits = omega (arith, d, h.4.fits); exact = rw h.4.exact refl }))
-added deep (_ ∷ k) next before w h d e = let no : ⊥ = cc in absurd no
+    (added deep k h.0 (while_ l c w) h.2 (omega (arith, d)) h.4.there)
+added deep (g.Repeat l body ∷ k) before w h d e =
+    over-more deep (g.Repeat l body) (g.Repeat l (body ++ tree w ∷ [])) k before (spell w) h
+    (record { there = h.4.there; block = then_one h.4.block w; body_is = ap (λ z. z ++ tree w ∷ []) h.4.body_is; fits = omega (arith, d, h.4.fits); exact = rw h.4.exact refl })
+added deep (g.Do l body ∷ k) before w h d e =
+    over-more deep (g.Do l body) (g.Do l (body ++ tree w ∷ [])) k before (spell w) h
+    (record { there = h.4.there; block = then_one h.4.block w; body_is = ap (λ z. z ++ tree w ∷ []) h.4.body_is; fits = omega (arith, d, h.4.fits); exact = rw h.4.exact refl })
+added deep (_ ∷ k) before w h d e = let no : ⊥ = cc in absurd no
 
 -- ---- another part more
 
@@ -166,33 +152,31 @@ first-topped deep l name hs k before make x ps is h = record {
   exact = rw h.exact (ap (λ z. piece l (f.Model name) ∷ (map spell_head hs ++ z)) (sym (is.spelled no_top)));
 }
 
-pub added-top : (deep : ℕ) (k next : Stack) (before : List PieceForm) (make : Tops → Tops) (x : Top) (ps : List PieceForm) → IsTop deep make x ps → Holds deep k before → add_other (part.Top x) k ≡ some_stack next → Holds deep next (before ++ ps)
-added-top deep [] next before make x ps is h e = let no : ⊥ = cc in absurd no
-added-top deep (g.Heads l name hs ∷ k) next before make x ps is h e = moved deep (g.Tops l name hs (x ∷ []) ∷ k) next (before ++ ps) e (first-topped deep l name hs k before make x ps is h)
-added-top deep (g.Tops l name hs xs ∷ k) next before make x ps is h e = moved deep (g.Tops l name hs (xs ++ x ∷ []) ∷ k) next (before ++ ps) e (topped deep l name hs xs k before make x ps is h)
-added-top deep (_ ∷ k) next before make x ps is h e = let no : ⊥ = cc in absurd no
+pub added-top : (deep : ℕ) (k : Stack) (before : List PieceForm) (make : Tops → Tops) (x : Top) (ps : List PieceForm) → IsTop deep make x ps → Holds deep k before → is_model (place_of k) ≡ true → Holds deep (add_other (part.Top x) k) (before ++ ps)
+added-top deep [] before make x ps is h e = let no : ⊥ = cc in absurd no
+added-top deep (g.Heads l name hs ∷ k) before make x ps is h e = first-topped deep l name hs k before make x ps is h
+added-top deep (g.Tops l name hs xs ∷ k) before make x ps is h e = topped deep l name hs xs k before make x ps is h
+added-top deep (g.Routine heading xs ∷ k) before make x ps is h e = absurd (no-model heading.result e)
+added-top deep (_ ∷ k) before make x ps is h e = let no : ⊥ = cc in absurd no
 
-is-declared : (deep line : ℕ) (items : Items) (end : ℕ) → 1 + depth_items items ≤ deep → IsTop deep (λ xs. declares_top xs line items end) (t.Declarations (declaration_block line items)) (spell_declarations line items end)
-is-declared deep line items end d = record { are = λ xs. refl; spelled = λ xs. refl; fits = λ xs h. omega (arith, h, d) }
+is-declared : (deep line : ℕ) (all : List Item) (items : Items) (end : ℕ) → all ≡ items_of items → 1 + depth_items items ≤ deep → IsTop deep (λ xs. declares_top xs line items end) (t.Declarations (record { line = line; items = all })) (spell_declarations line items end)
+is-declared deep line all items end are d = record { are = λ xs. rw are refl; spelled = λ xs. refl; fits = λ xs h. omega (arith, h, d) }
 
-pub added-declared : (deep : ℕ) (k next : Stack) (before : List PieceForm) (line : ℕ) (items : Items) (end : ℕ) → Holds deep k before → depth_items items + length k ≤ deep → add_other (part.Declared (declaration_block line items)) k ≡ some_stack next → Holds deep next (before ++ spell_declarations line items end)
-added-declared deep [] next before line items end h d e = let no : ⊥ = cc in absurd no
-added-declared deep (g.Heads l name hs ∷ k) next before line items end h d e =
-    moved deep (g.Tops l name hs (t.Declarations (declaration_block line items) ∷ []) ∷ k) next (before ++ spell_declarations line items end) e
-    (first-topped deep l name hs k before (λ xs. declares_top xs line items end) (t.Declarations (declaration_block line items)) (spell_declarations line items end) (is-declared deep line items end (omega (arith, d))) h)
-added-declared deep (g.Tops l name hs xs ∷ k) next before line items end h d e =
-    moved deep (g.Tops l name hs (xs ++ t.Declarations (declaration_block line items) ∷ []) ∷ k) next (before ++ spell_declarations line items end) e
-    (topped deep l name hs xs k before (λ xs. declares_top xs line items end) (t.Declarations (declaration_block line items)) (spell_declarations line items end) (is-declared deep line items end (omega (arith, d))) h)
-added-declared deep (g.Routine heading xs ∷ k) next before line items end h d e =
-    moved deep (g.Routine heading (xs ++ r.Declarations (declaration_block line items) ∷ []) ∷ k) next (before ++ spell_declarations line items end) e
-    (over-more deep (g.Routine heading xs) (g.Routine heading (xs ++ r.Declarations (declaration_block line items) ∷ [])) k before (spell_declarations line items end) h
-    (record { there = h.4.there; parts = declares h.4.parts line items end; are = ap (λ z. z ++ r.Declarations (declaration_block line items) ∷ []) h.4.are; fits = omega (arith, d, h.4.fits); exact = rw h.4.exact refl }))
-added-declared deep (_ ∷ k) next before line items end h d e = let no : ⊥ = cc in absurd no
+pub added-declared : (deep : ℕ) (k : Stack) (before : List PieceForm) (line : ℕ) (all : List Item) (items : Items) (end : ℕ) → all ≡ items_of items → Holds deep k before → depth_items items + length k ≤ deep → takes_declarations (place_of k) ≡ true → Holds deep (add_other (part.Declared (record { line = line; items = all })) k) (before ++ spell_declarations line items end)
+added-declared deep [] before line all items end are h d e = let no : ⊥ = cc in absurd no
+added-declared deep (g.Heads l name hs ∷ k) before line all items end are h d e =
+    first-topped deep l name hs k before (λ xs. declares_top xs line items end) (t.Declarations (record { line = line; items = all })) (spell_declarations line items end) (is-declared deep line all items end are (omega (arith, d))) h
+added-declared deep (g.Tops l name hs xs ∷ k) before line all items end are h d e =
+    topped deep l name hs xs k before (λ xs. declares_top xs line items end) (t.Declarations (record { line = line; items = all })) (spell_declarations line items end) (is-declared deep line all items end are (omega (arith, d))) h
+added-declared deep (g.Routine heading xs ∷ k) before line all items end are h d e =
+    over-more deep (g.Routine heading xs) (g.Routine heading (xs ++ r.Declarations (record { line = line; items = all }) ∷ [])) k before (spell_declarations line items end) h
+    (record { there = h.4.there; parts = declares h.4.parts line items end; are = rw (h.4.are, are) refl; fits = omega (arith, d, h.4.fits); exact = rw h.4.exact refl })
+added-declared deep (_ ∷ k) before line all items end are h d e = let no : ⊥ = cc in absurd no
 
-pub added-record : (deep : ℕ) (k next : Stack) (before : List PieceForm) (line : ℕ) (name : List ℕ) (fields : List FieldGroup) (end : ℕ) → Holds deep k before → length k ≤ deep → add_other (part.Record (i.Record line name fields)) k ≡ some_stack next → Holds deep next (before ++ piece line (f.RecordOf name) ∷ (map spell_field fields ++ piece end (f.Keyword keyword.EndRecord) ∷ []))
-added-record deep [] next before line name fields end h d e = let no : ⊥ = cc in absurd no
-added-record deep (g.Declarations l xs ∷ k) next before line name fields end h d e =
-    moved deep (g.Declarations l (xs ++ i.Record line name fields ∷ []) ∷ k) next (before ++ piece line (f.RecordOf name) ∷ (map spell_field fields ++ piece end (f.Keyword keyword.EndRecord) ∷ [])) e
-    (over-more deep (g.Declarations l xs) (g.Declarations l (xs ++ i.Record line name fields ∷ [])) k before (piece line (f.RecordOf name) ∷ (map spell_field fields ++ piece end (f.Keyword keyword.EndRecord) ∷ [])) h
-    (record { there = h.4.there; items = record_type h.4.items line name fields end; are = ap (λ z. z ++ i.Record line name fields ∷ []) h.4.are; fits = omega (arith, d, h.4.fits); exact = rw h.4.exact refl }))
-added-record deep (_ ∷ k) next before line name fields end h d e = let no : ⊥ = cc in absurd no
+pub added-record : (deep : ℕ) (k : Stack) (before : List PieceForm) (line : ℕ) (name : List ℕ) (fields : List FieldGroup) (end : ℕ) → Holds deep k before → length k ≤ deep → is_declarations (place_of k) ≡ true → Holds deep (add_other (part.Record (i.Record line name fields)) k) (before ++ piece line (f.RecordOf name) ∷ (map spell_field fields ++ piece end (f.Keyword keyword.EndRecord) ∷ []))
+added-record deep [] before line name fields end h d e = let no : ⊥ = cc in absurd no
+added-record deep (g.Declarations l xs ∷ k) before line name fields end h d e =
+    over-more deep (g.Declarations l xs) (g.Declarations l (xs ++ i.Record line name fields ∷ [])) k before (piece line (f.RecordOf name) ∷ (map spell_field fields ++ piece end (f.Keyword keyword.EndRecord) ∷ [])) h
+    (record { there = h.4.there; items = record_type h.4.items line name fields end; are = ap (λ z. z ++ i.Record line name fields ∷ []) h.4.are; fits = omega (arith, d, h.4.fits); exact = rw h.4.exact refl })
+added-record deep (g.Routine heading xs ∷ k) before line name fields end h d e = absurd (no-declarations heading.result e)
+added-record deep (_ ∷ k) before line name fields end h d e = let no : ⊥ = cc in absurd no

@@ -31,19 +31,23 @@ block-fits deep blocks h =
     rw small refl
 
 -- a piece without a limit of its own, in its role
-pub step-role : (deep : ℕ) (k : Stack) (x : PieceForm) (role : Role) (next : Stack) → role_at (place_of k) (piece_kind_of x.form) ≡ Some role → own_limit x.form ≡ None → block_limit deep role (length k) ≡ None → enter role x.line x.form k ≡ Some next → step deep k x ≡ Ok next
+pub step-role : (deep : ℕ) (k : Stack) (x : PieceForm) (role : Role) → role_at (place_of k) (piece_kind_of x.form) ≡ Some role → own_limit x.form ≡ None → block_limit deep role (length k) ≡ None → step deep k x ≡ Ok (enter role x.line x.form k)
 unfolding step step_as
-step-role deep k x role next r o b e = rw (r, o, b, e) refl
+step-role deep k x role r o b = rw (r, o, b) refl
 
 -- the run goes on behind a piece that is taken
 pub run-step : (deep : ℕ) (k next : Stack) (x : PieceForm) (xs : List PieceForm) → step deep k x ≡ Ok next → run deep k (x ∷ xs) ≡ run deep next xs
 run-step deep k next x xs e = rw e refl
 
+-- the run goes on behind a piece in its role
+pub run-role : (deep : ℕ) (k : Stack) (x : PieceForm) (role : Role) (xs : List PieceForm) → role_at (place_of k) (piece_kind_of x.form) ≡ Some role → own_limit x.form ≡ None → block_limit deep role (length k) ≡ None → run deep k (x ∷ xs) ≡ run deep (enter role x.line x.form k) xs
+run-role deep k x role xs r o b = run-step deep k (enter role x.line x.form k) x xs (step-role deep k x role r o b)
+
 -- a piece that opens a block
 pub run-open : (deep : ℕ) (k : Stack) (line : ℕ) (form : Form) (frame : Frame) (xs : List PieceForm) → role_at (place_of k) (piece_kind_of form) ≡ Some Opens → own_limit form ≡ None → opened_by line form ≡ Some frame → length k ≤ deep → run deep k (piece line form ∷ xs) ≡ run deep (frame ∷ k) xs
 run-open deep k line form frame xs r o e h =
-    let entered : enter Opens line form k ≡ Some (frame ∷ k) = ap (λ x. push_frame x k) e in
-    run-step deep k (frame ∷ k) (piece line form) xs (step-role deep k (piece line form) Opens (frame ∷ k) r o (block-fits deep (length k) h) entered)
+    run-role deep k (piece line form) Opens xs r o (block-fits deep (length k) h)
+    ∙ ap (λ x. run deep (push_frame x k) xs) e
 
 -- one piece behind others, and behind that the rest
 pub one-end : (xs : List PieceForm) (x : PieceForm) (rest : List PieceForm) → (xs ++ x ∷ []) ++ rest ≡ xs ++ x ∷ rest

@@ -27,7 +27,7 @@ use Rattle.mos_source.specs.Runs.{Answers}
 use Rattle.mos_source.proofs.Steps.{block-fits, run-step, one-end}
 use Rattle.mos_source.proofs.CompleteSource.{source-read}
 use Rattle.mos_source.proofs.Held.{Holds}
-use Rattle.mos_source.proofs.Sound.{some_stack, respelled}
+use Rattle.mos_source.proofs.Sound.{respelled}
 use Rattle.mos_source.proofs.SoundStep.{sound, goes-is, no-limit, fits-is}
 use Rattle.mos_source.proofs.Completing.{Closed, closing}
 use Rattle.mos_source.proofs.Naming.{named-step}
@@ -66,7 +66,7 @@ run-found deep (x ∷ xs) k ps tree held e = found-behind deep k x xs ps tree (s
 step-deeper-as : (deep deeper : ℕ) (role : Role) (line : ℕ) (form : Form) (k next : Stack) → deep ≤ deeper → step_as deep role line form k ≡ Ok next → step_as deeper role line form k ≡ Ok next
 unfolding step_as
 step-deeper-as deep deeper Opens line form k next h e =
-    let is : (or_block (own_limit form) (block_limit deep Opens (length k)) ≡ None) × (enter Opens line form k ≡ some_stack next) = goes-is (or_block (own_limit form) (block_limit deep Opens (length k))) (enter Opens line form k) next e in
+    let is : (or_block (own_limit form) (block_limit deep Opens (length k)) ≡ None) × (enter Opens line form k ≡ next) = goes-is (or_block (own_limit form) (block_limit deep Opens (length k))) (enter Opens line form k) next e in
     let limits : (own_limit form ≡ None) × (block_limit deep Opens (length k) ≡ None) = no-limit (own_limit form) (block_limit deep Opens (length k)) is.0 in
     let fits : length k ≤ deep = fits-is deep (length k) limits.1 in
     let room : block_limit deeper Opens (length k) ≡ None = block-fits deeper (length k) (omega (arith, fits, h)) in

@@ -16,7 +16,6 @@ use Rattle.mos_tree.specs.declared.statement.Arm.{Arm}
 use Rattle.mos_tree.specs.declared.statement.Alternative.{Alternative}
 use Rattle.mos_tree.specs.declared.statement.Label.{Label}
 use Rattle.mos_tree.specs.declared.statement.LabelGroup.{LabelGroup}
-use Rattle.mos_tree.specs.declared.statement.Direction.{Direction}
 use Rattle.mos_tree.specs.declared.source.ModelName.{ModelName}
 use Rattle.mos_tree.specs.declared.source.Head.{Head}
 use Rattle.mos_tree.specs.declared.source.Head.TheVariants as h
@@ -55,14 +54,9 @@ abbrev pub stack_of : List Frame → Stack
 stack_of frames = reverse frames
 
 -- one more block is open, where there is one
-abbrev pub push_frame : Option Frame → Stack → Option Stack
-push_frame None k = None
-push_frame (Some frame) k = Some (frame ∷ k)
-
--- the stack that a step leaves, where it was done
-abbrev pub kept_stack : Bool → Stack → Option Stack
-kept_stack true k = Some k
-kept_stack false k = None
+abbrev pub push_frame : Option Frame → Stack → Stack
+push_frame None k = k
+push_frame (Some frame) k = frame ∷ k
 
 -- ---- places
 
@@ -167,91 +161,50 @@ row_of line (f.Bare name) = Some (record { line = line; labels = labels_of name 
 row_of line (f.Labels labels) = Some (record { line = line; labels = labels })
 row_of line _ = None
 
--- a model with one head more
-abbrev pub with_head : ℕ → ModelName → List Head → Option Head → Option Frame
-with_head line name heads None = None
-with_head line name heads (Some x) = Some (g.Heads line name (heads ++ x ∷ []))
+-- the items with one behind them, where there is one
+abbrev pub more : {T : Type 0} → List T → Option T → List T
+more items None = items
+more items (Some x) = items ++ x ∷ []
 
--- `parameters` with one more
-abbrev pub with_parameter : ℕ → List Parameter → Option Parameter → Option Frame
-with_parameter line xs None = None
-with_parameter line xs (Some x) = Some (g.Parameters line (xs ++ x ∷ []))
+-- behind these arms: another one where the piece has a condition, or `else`
+abbrev pub arm_or_else : ℕ → Form → ℕ → List (Arm Statement) → Frame
+arm_or_else line (f.Guarded word condition) first arms = g.IfArm first arms line condition []
+arm_or_else line _ first arms = g.IfElse first arms []
 
--- `declarations` with one item more
-abbrev pub with_item : ℕ → List Item → Option Item → Option Frame
-with_item line xs None = None
-with_item line xs (Some x) = Some (g.Declarations line (xs ++ x ∷ []))
+-- behind the arm that is read: another one, or `else`
+abbrev pub next_arm : ℕ → Form → ℕ → List (Arm Statement) → Arm Statement → Frame
+next_arm line form first arms last = arm_or_else line form first (arms ++ last ∷ [])
 
--- a record with fields more
-abbrev pub with_field : ℕ → List ℕ → List FieldGroup → Option FieldGroup → Option Frame
-with_field line name xs None = None
-with_field line name xs (Some x) = Some (g.Record line name (xs ++ x ∷ []))
-
--- `initializations` with one row more
-abbrev pub with_row : ℕ → Direction → Expr → List LabelGroup → Option LabelGroup → Option Frame
-with_row line direction name xs None = None
-with_row line direction name xs (Some x) = Some (g.Initializations line direction name (xs ++ x ∷ []))
-
--- what parts an `if` or a `case`
-abbrev pub is_else : Keyword → Bool
-is_else keyword.Else = true
-is_else _ = false
-
--- the word parts an `if` by a condition
-abbrev pub is_elif : ConditionKeyword → Bool
-is_elif conditional.Elif = true
-is_elif _ = false
-
--- `elif` behind the arm that is read
-abbrev pub elif_arm : ℕ → Expr → ℕ → List (Arm Statement) → Arm Statement → Option Frame
-elif_arm line condition first arms last = Some (g.IfArm first (arms ++ last ∷ []) line condition [])
-
--- behind the arm that is read: another arm, or `else`
-abbrev pub next_arm : ℕ → Form → ℕ → List (Arm Statement) → Arm Statement → Option Frame
-next_arm line (f.Guarded word condition) first arms last = if is_elif word then elif_arm line condition first arms last else None
-next_arm line (f.Keyword word) first arms last = if is_else word then Some (g.IfElse first (arms ++ last ∷ []) []) else None
-next_arm line _ first arms last = None
-
--- `else` behind the alternatives
-abbrev pub case_else : Keyword → ℕ → Expr → List (Alternative Statement) → Option Frame
-case_else word line value xs = if is_else word then Some (g.CaseElse line value xs []) else None
-
--- behind an alternative: another one, or `else`
-abbrev pub next_alternative : ℕ → Form → ℕ → Expr → List (Alternative Statement) → Option Frame
-next_alternative at (f.Alternative labels) line value xs = Some (g.CaseArm line value xs at labels)
-next_alternative at (f.Keyword word) line value xs = case_else word line value xs
-next_alternative at _ line value xs = None
+-- behind an alternative: another one where the piece has labels, or `else`
+abbrev pub next_alternative : ℕ → Form → ℕ → Expr → List (Alternative Statement) → Frame
+next_alternative at (f.Alternative labels) line value xs = g.CaseArm line value xs at labels
+next_alternative at _ line value xs = g.CaseElse line value xs []
 
 -- the statement with the piece as a row of it, or parted by it
-abbrev pub continued_statement : ℕ → Form → Frame → Option Frame
+abbrev pub continued_statement : ℕ → Form → Frame → Frame
 continued_statement line form (g.IfArm first arms at condition body) = next_arm line form first arms (written.arm_of at condition body)
 continued_statement line form (g.Case at value xs) = next_alternative line form at value xs
-continued_statement line form (g.Initializations at direction name rows) = with_row at direction name rows (row_of line form)
-continued_statement line form _ = None
+continued_statement line form (g.Initializations at direction name rows) = g.Initializations at direction name (more rows (row_of line form))
+continued_statement line form frame = frame
 
 -- the block with the piece as a row of it, or parted by it
-abbrev pub continued_by : ℕ → Form → Frame → Option Frame
-continued_by line form (g.Heads at name heads) = with_head at name heads (head_of line form)
-continued_by line form (g.Parameters at xs) = with_parameter at xs (parameter_of line form)
-continued_by line form (g.Declarations at xs) = with_item at xs (item_of line form)
-continued_by line form (g.Record at name xs) = with_field at name xs (field_of line form)
+abbrev pub continued_by : ℕ → Form → Frame → Frame
+continued_by line form (g.Heads at name heads) = g.Heads at name (more heads (head_of line form))
+continued_by line form (g.Parameters at xs) = g.Parameters at (more xs (parameter_of line form))
+continued_by line form (g.Declarations at xs) = g.Declarations at (more xs (item_of line form))
+continued_by line form (g.Record at name xs) = g.Record at name (more xs (field_of line form))
 continued_by line form frame = continued_statement line form frame
 
 -- the innermost block goes on with the piece
-abbrev pub continue_block : ℕ → Form → Stack → Option Stack
-continue_block line form [] = None
-continue_block line form (frame ∷ k) = push_frame (continued_by line form frame) k
+abbrev pub continue_block : ℕ → Form → Stack → Stack
+continue_block line form [] = []
+continue_block line form (frame ∷ k) = continued_by line form frame ∷ k
 
 -- ---- the block that is closed
 
--- the word closes a `repeat`
-abbrev pub is_until : ConditionKeyword → Bool
-is_until conditional.Until = true
-is_until _ = false
-
 -- `repeat` with its condition
 abbrev pub until : ℕ → Form → ℕ → List Statement → Option Part
-until line (f.Guarded word condition) at body = if is_until word then Some (part.Statement (s.Repeat at body line condition)) else None
+until line (f.Guarded word condition) at body = Some (part.Statement (s.Repeat at body line condition))
 until line _ at body = None
 
 -- `if` with its arms and without `else`
@@ -306,44 +259,44 @@ abbrev pub next_part : Heading → List RoutinePart → RoutinePart → Frame
 next_part heading xs x = g.Routine heading (xs ++ x ∷ [])
 
 -- a model with one part more
-abbrev pub with_top : Top → Frame → Option Frame
-with_top x (g.Heads line name heads) = Some (first_top line name heads x)
-with_top x (g.Tops line name heads xs) = Some (next_top line name heads xs x)
-with_top x _ = None
+abbrev pub with_top : Top → Frame → Frame
+with_top x (g.Heads line name heads) = first_top line name heads x
+with_top x (g.Tops line name heads xs) = next_top line name heads xs x
+with_top x frame = frame
 
 -- a model or a routine with one block of `declarations` more
-abbrev pub with_declared : Declared → Frame → Option Frame
-with_declared x (g.Routine heading xs) = Some (next_part heading xs (r.Declarations x))
+abbrev pub with_declared : Declared → Frame → Frame
+with_declared x (g.Routine heading xs) = next_part heading xs (r.Declarations x)
 with_declared x frame = with_top (t.Declarations x) frame
 
 -- `declarations` with one record more
-abbrev pub with_record : Item → Frame → Option Frame
-with_record x (g.Declarations line xs) = Some (g.Declarations line (xs ++ x ∷ []))
-with_record x _ = None
+abbrev pub with_record : Item → Frame → Frame
+with_record x (g.Declarations line xs) = g.Declarations line (xs ++ x ∷ [])
+with_record x frame = frame
 
 -- an alternative of `case` with its statement
-abbrev pub case_with : ℕ → Expr → List (Alternative Statement) → Alternative Statement → Option Frame
-case_with line value xs x = Some (g.Case line value (xs ++ x ∷ []))
+abbrev pub case_with : ℕ → Expr → List (Alternative Statement) → Alternative Statement → Frame
+case_with line value xs x = g.Case line value (xs ++ x ∷ [])
 
 -- an arm of `if` with one statement more
-abbrev pub if_arm_with : ℕ → List (Arm Statement) → Arm Statement → Statement → Option Frame
-if_arm_with first arms arm x = Some (g.IfArm first arms arm.line arm.condition (arm.body ++ x ∷ []))
+abbrev pub if_arm_with : ℕ → List (Arm Statement) → Arm Statement → Statement → Frame
+if_arm_with first arms arm x = g.IfArm first arms arm.line arm.condition (arm.body ++ x ∷ [])
 
 -- the `else` of a `case` with one statement more
-abbrev pub case_else_with : ℕ → Expr → List (Alternative Statement) → List Statement → Statement → Option Frame
-case_else_with line value xs body x = Some (g.CaseElse line value xs (body ++ x ∷ []))
+abbrev pub case_else_with : ℕ → Expr → List (Alternative Statement) → List Statement → Statement → Frame
+case_else_with line value xs body x = g.CaseElse line value xs (body ++ x ∷ [])
 
 -- a block of statements with one statement more
-abbrev pub with_block_statement : Statement → Frame → Option Frame
-with_block_statement x (g.IfElse first arms body) = Some (g.IfElse first arms (body ++ x ∷ []))
+abbrev pub with_block_statement : Statement → Frame → Frame
+with_block_statement x (g.IfElse first arms body) = g.IfElse first arms (body ++ x ∷ [])
 with_block_statement x (g.CaseElse line value xs body) = case_else_with line value xs body x
-with_block_statement x (g.Repeat line body) = Some (g.Repeat line (body ++ x ∷ []))
-with_block_statement x (g.Do line body) = Some (g.Do line (body ++ x ∷ []))
+with_block_statement x (g.Repeat line body) = g.Repeat line (body ++ x ∷ [])
+with_block_statement x (g.Do line body) = g.Do line (body ++ x ∷ [])
 with_block_statement x frame = with_top (t.Statement x) frame
 
 -- the block with one statement more, where it takes one without being ended by it
-abbrev pub with_statement : Statement → Frame → Option Frame
-with_statement x (g.Routine heading xs) = Some (next_part heading xs (r.Statement x))
+abbrev pub with_statement : Statement → Frame → Frame
+with_statement x (g.Routine heading xs) = next_part heading xs (r.Statement x)
 with_statement x (g.IfArm first arms line condition body) = if_arm_with first arms (written.arm_of line condition body) x
 with_statement x (g.CaseArm line value xs at labels) = case_with line value xs (written.alternative_of at labels x)
 with_statement x frame = with_block_statement x frame
@@ -360,67 +313,53 @@ top_is_loop [] = false
 top_is_loop (frame ∷ k) = is_loop frame
 
 -- the loop with its body
-abbrev pub loop_with_body : Statement → Frame → Option Statement
-loop_with_body x (g.Forall line index) = Some (s.Forall line index x)
-loop_with_body x (g.While line condition) = Some (s.While line condition x)
-loop_with_body x _ = None
-
--- what follows a value, where there is one
-abbrev pub and_then : {A B : Type 0} → Option A → (A → Option B) → Option B
-and_then None go = None
-and_then (Some x) go = go x
+abbrev pub loop_with_body : Statement → Frame → Statement
+loop_with_body x (g.Forall line index) = s.Forall line index x
+loop_with_body x (g.While line condition) = s.While line condition x
+loop_with_body x frame = x
 
 -- the innermost block, which is no loop, takes the statement
-abbrev pub give_statement : Statement → Stack → Option Stack
-give_statement x [] = None
-give_statement x (frame ∷ k) = push_frame (with_statement x frame) k
+abbrev pub give_statement : Statement → Stack → Stack
+give_statement x [] = []
+give_statement x (frame ∷ k) = with_statement x frame ∷ k
 
 -- the innermost block that is no loop takes the statement, with the loops round it
-abbrev pub add_statement : Statement → Stack → Option Stack
-add_statement x [] = None
-add_statement x (frame ∷ k) = if is_loop frame then and_then (loop_with_body x frame) (λ outer. add_statement outer k) else push_frame (with_statement x frame) k
-
--- the loop that a statement ended goes on as a statement
-abbrev pub add_next : Option Statement → Stack → Option Stack
-add_next outer k = and_then outer (λ x. add_statement x k)
+abbrev pub add_statement : Statement → Stack → Stack
+add_statement x [] = []
+add_statement x (frame ∷ k) = if is_loop frame then add_statement (loop_with_body x frame) k else with_statement x frame ∷ k
 
 -- the block with one part more that is no statement
-abbrev pub with_part : Part → Frame → Option Frame
+abbrev pub with_part : Part → Frame → Frame
 with_part (part.Declared x) frame = with_declared x frame
 with_part (part.Top x) frame = with_top x frame
 with_part (part.Record x) frame = with_record x frame
-with_part _ frame = None
-
--- the source ends
-abbrev pub end : Tree → Stack → Option Stack
-end x [] = Some (g.End x ∷ [])
-end x (frame ∷ k) = None
+with_part _ frame = frame
 
 -- the innermost block takes a part that is no statement
-abbrev pub add_other : Part → Stack → Option Stack
-add_other x [] = None
-add_other x (frame ∷ k) = push_frame (with_part x frame) k
+abbrev pub add_other : Part → Stack → Stack
+add_other x [] = []
+add_other x (frame ∷ k) = with_part x frame ∷ k
 
 -- the blocks that are open take the part
-abbrev pub add_part : Part → Stack → Option Stack
+abbrev pub add_part : Part → Stack → Stack
 add_part (part.Statement x) k = add_statement x k
-add_part (part.Source x) k = end x k
+add_part (part.Source x) k = g.End x ∷ k
 add_part x k = add_other x k
 
 -- they take the part, where there is one
-abbrev pub add : Option Part → Stack → Option Stack
-add None k = None
+abbrev pub add : Option Part → Stack → Stack
+add None k = k
 add (Some x) k = add_part x k
 
 -- the piece closes the innermost block
-abbrev pub close : ℕ → Form → Stack → Option Stack
-close line form [] = None
+abbrev pub close : ℕ → Form → Stack → Stack
+close line form [] = []
 close line form (frame ∷ k) = add (closed_by line form frame) k
 
 -- ---- a piece
 
 -- what the piece does in its role
-abbrev pub enter : Role → ℕ → Form → Stack → Option Stack
+abbrev pub enter : Role → ℕ → Form → Stack → Stack
 enter Opens line form k = push_frame (opened_by line form) k
 enter Continues line form k = continue_block line form k
 enter StandsAlone line form k = add (stands_alone line form) k
@@ -445,19 +384,9 @@ abbrev pub outcome : Option Kind → Stack → Result Stack Kind
 outcome None k = Ok k
 outcome (Some kind) k = Err kind
 
--- a piece that fits nothing is a fault of syntax
-abbrev pub or_syntax : Option Stack → Result Stack Kind
-or_syntax None = Err wrong.Syntax
-or_syntax (Some k) = Ok k
-
--- what follows, unless a limit is broken
-abbrev pub unless : Option Kind → Option Stack → Result Stack Kind
-unless None next = or_syntax next
-unless (Some kind) next = Err kind
-
--- what follows the piece in its role
+-- what follows the piece in its role, unless it breaks a limit
 unfoldable pub step_as : ℕ → Role → ℕ → Form → Stack → Result Stack Kind
-step_as deep role line form k = unless (broken_limit deep role (length k) form) (enter role line form k)
+step_as deep role line form k = outcome (broken_limit deep role (length k) form) (enter role line form k)
 
 -- a piece without a role may not stand there
 abbrev pub step_in : ℕ → Option Role → ℕ → Form → Stack → Result Stack Kind

@@ -1,12 +1,13 @@
 //! How the block round a part takes it.
-ghost use Rattle.std.specs.Prelude.{◌≡◌, Some, IfOk};
+ghost use Rattle.std.specs.Prelude.{◌≡◌, IfOk};
 ghost use Rattle.mos_source.specs.Machine as spec;
 
 use crate::frame::{Frame, Part};
 use crate::growing::one_more;
 use mos_text::{NoMemory, let_go};
 use mos_tree::{
-    Alternative, Arm, Declared, Expr, Head, Heading, Item, ModelName, RoutinePart, Statement, Top,
+    Alternative, Arm, Declared, Expr, Head, Heading, Index, Item, ModelName, RoutinePart,
+    Statement, Top,
 };
 use sqlite_items::{Boxed, Items};
 use std::alloc::Global;
@@ -18,15 +19,15 @@ fn first_top(
     name: ModelName,
     heads: Items<Head>,
     top: Top,
-) -> Result<Option<Frame>, NoMemory>
-    ensures { IfOk result (λ frame. frame ≡ Some (spec.first_top line name heads top)) }
+) -> Result<Frame, NoMemory>
+    ensures { IfOk result (λ frame. frame ≡ spec.first_top line name heads top) }
 {
-    Ok(Some(Frame::Tops {
+    Ok(Frame::Tops {
         line,
         name,
         heads,
         tops: one_more(Items::new(alloc), top)?,
-    }))
+    })
 }
 
 fn next_top(
@@ -35,32 +36,32 @@ fn next_top(
     heads: Items<Head>,
     tops: Items<Top>,
     top: Top,
-) -> Result<Option<Frame>, NoMemory>
-    ensures { IfOk result (λ frame. frame ≡ Some (spec.next_top line name heads tops top)) }
+) -> Result<Frame, NoMemory>
+    ensures { IfOk result (λ frame. frame ≡ spec.next_top line name heads tops top) }
 {
-    Ok(Some(Frame::Tops {
+    Ok(Frame::Tops {
         line,
         name,
         heads,
         tops: one_more(tops, top)?,
-    }))
+    })
 }
 
 fn next_part(
     heading: Heading,
     parts: Items<RoutinePart>,
     part: RoutinePart,
-) -> Result<Option<Frame>, NoMemory>
-    ensures { IfOk result (λ frame. frame ≡ Some (spec.next_part heading parts part)) }
+) -> Result<Frame, NoMemory>
+    ensures { IfOk result (λ frame. frame ≡ spec.next_part heading parts part) }
 {
-    Ok(Some(Frame::Routine {
+    Ok(Frame::Routine {
         heading,
         parts: one_more(parts, part)?,
-    }))
+    })
 }
 
 /// A model with one part more.
-fn with_top(alloc: Global, frame: Frame, top: Top) -> Result<Option<Frame>, NoMemory>
+fn with_top(alloc: Global, frame: Frame, top: Top) -> Result<Frame, NoMemory>
     ensures { IfOk result (λ next. next ≡ spec.with_top top frame) }
 {
     match frame {
@@ -72,15 +73,14 @@ fn with_top(alloc: Global, frame: Frame, top: Top) -> Result<Option<Frame>, NoMe
             tops,
         } => next_top(line, name, heads, tops, top),
         other => {
-            let_go(other);
             let_go(top);
-            Ok(None)
+            Ok(other)
         }
     }
 }
 
 /// A model or a routine with one block of `declarations` more.
-fn with_declared(alloc: Global, frame: Frame, declared: Declared) -> Result<Option<Frame>, NoMemory>
+fn with_declared(alloc: Global, frame: Frame, declared: Declared) -> Result<Frame, NoMemory>
     ensures { IfOk result (λ next. next ≡ spec.with_declared declared frame) }
 {
     match frame {
@@ -92,20 +92,19 @@ fn with_declared(alloc: Global, frame: Frame, declared: Declared) -> Result<Opti
 }
 
 /// `declarations` with one record more.
-fn with_record(frame: Frame, item: Item) -> Result<Option<Frame>, NoMemory>
+fn with_record(frame: Frame, item: Item) -> Result<Frame, NoMemory>
     ensures { IfOk result (λ next. next ≡ spec.with_record item frame) }
 {
     match frame {
         Frame::Declarations { line, items } => {
-            Ok(Some(Frame::Declarations {
+            Ok(Frame::Declarations {
                 line,
                 items: one_more(items, item)?,
-            }))
+            })
         }
         other => {
-            let_go(other);
             let_go(item);
-            Ok(None)
+            Ok(other)
         }
     }
 }
@@ -116,15 +115,15 @@ fn case_with(
     value: Expr,
     alternatives: Items<Alternative<Statement>>,
     last: Alternative<Statement>,
-) -> Result<Option<Frame>, NoMemory>
+) -> Result<Frame, NoMemory>
     ensures { IfOk result (λ frame. frame ≡ spec.case_with line value alternatives last) }
 {
     match one_more(alternatives, last) {
-        Ok(alternatives) => Ok(Some(Frame::Case {
+        Ok(alternatives) => Ok(Frame::Case {
             line,
             value,
             alternatives,
-        })),
+        }),
         Err(refused) => {
             let_go(value);
             Err(refused)
@@ -138,7 +137,7 @@ fn if_arm_with(
     arms: Items<Arm<Statement>>,
     arm: Arm<Statement>,
     statement: Statement,
-) -> Result<Option<Frame>, NoMemory>
+) -> Result<Frame, NoMemory>
     ensures { IfOk result (λ frame. frame ≡ spec.if_arm_with first arms arm statement) }
 {
     let Arm {
@@ -147,13 +146,13 @@ fn if_arm_with(
         body,
     } = arm;
     match one_more(body, statement) {
-        Ok(body) => Ok(Some(Frame::IfArm {
+        Ok(body) => Ok(Frame::IfArm {
             first,
             arms,
             line,
             condition,
             body,
-        })),
+        }),
         Err(refused) => {
             let_go(arms);
             let_go(condition);
@@ -169,17 +168,17 @@ fn case_else_with(
     alternatives: Items<Alternative<Statement>>,
     body: Items<Statement>,
     statement: Statement,
-) -> Result<Option<Frame>, NoMemory>
+) -> Result<Frame, NoMemory>
     ensures { IfOk result (λ frame. frame
         ≡ spec.case_else_with line value alternatives body statement) }
 {
     match one_more(body, statement) {
-        Ok(body) => Ok(Some(Frame::CaseElse {
+        Ok(body) => Ok(Frame::CaseElse {
             line,
             value,
             alternatives,
             body,
-        })),
+        }),
         Err(refused) => {
             let_go(value);
             let_go(alternatives);
@@ -193,29 +192,29 @@ fn with_block_statement(
     alloc: Global,
     frame: Frame,
     statement: Statement,
-) -> Result<Option<Frame>, NoMemory>
+) -> Result<Frame, NoMemory>
     ensures { IfOk result (λ next. next ≡ spec.with_block_statement statement frame) }
 {
     match frame {
-        Frame::IfElse { first, arms, body } => Ok(Some(Frame::IfElse {
+        Frame::IfElse { first, arms, body } => Ok(Frame::IfElse {
             first,
             arms,
             body: one_more(body, statement)?,
-        })),
+        }),
         Frame::CaseElse {
             line,
             value,
             alternatives,
             body,
         } => case_else_with(line, value, alternatives, body, statement),
-        Frame::Repeat { line, body } => Ok(Some(Frame::Repeat {
+        Frame::Repeat { line, body } => Ok(Frame::Repeat {
             line,
             body: one_more(body, statement)?,
-        })),
-        Frame::Do { line, body } => Ok(Some(Frame::Do {
+        }),
+        Frame::Do { line, body } => Ok(Frame::Do {
             line,
             body: one_more(body, statement)?,
-        })),
+        }),
         other => with_top(alloc, other, Top::Statement(statement)),
     }
 }
@@ -225,7 +224,7 @@ pub(crate) fn with_statement(
     alloc: Global,
     frame: Frame,
     statement: Statement,
-) -> Result<Option<Frame>, NoMemory>
+) -> Result<Frame, NoMemory>
     ensures { IfOk result (λ next. next ≡ spec.with_statement statement frame) }
 {
     match frame {
@@ -274,35 +273,64 @@ pub(crate) fn is_loop(frame: &Frame) -> bool
     }
 }
 
+fn forall_with(
+    alloc: Global,
+    line: u32,
+    index: Index<Expr>,
+    body: Statement,
+) -> Result<Statement, NoMemory>
+    ensures { IfOk result (λ whole. whole ≡ spec.loop_with_body body (Frame.Forall line index)) }
+{
+    match Boxed::new(alloc, body) {
+        Ok(body) => Ok(Statement::Forall { line, index, body }),
+        Err(refused) => {
+            let_go(index);
+            Err(refused.into())
+        }
+    }
+}
+
+fn while_with(
+    alloc: Global,
+    line: u32,
+    condition: Expr,
+    body: Statement,
+) -> Result<Statement, NoMemory>
+    ensures { IfOk result (λ whole. whole ≡ spec.loop_with_body body (Frame.While line condition)) }
+{
+    match Boxed::new(alloc, body) {
+        Ok(body) => Ok(Statement::While {
+            line,
+            condition,
+            body,
+        }),
+        Err(refused) => {
+            let_go(condition);
+            Err(refused.into())
+        }
+    }
+}
+
 /// The loop with its body.
 pub(crate) fn loop_with_body(
     alloc: Global,
     frame: Frame,
     body: Statement,
-) -> Result<Option<Statement>, NoMemory>
+) -> Result<Statement, NoMemory>
     ensures { IfOk result (λ outer. outer ≡ spec.loop_with_body body frame) }
 {
     match frame {
-        Frame::Forall { line, index } => Ok(Some(Statement::Forall {
-            line,
-            index,
-            body: Boxed::new(alloc, body)?,
-        })),
-        Frame::While { line, condition } => Ok(Some(Statement::While {
-            line,
-            condition,
-            body: Boxed::new(alloc, body)?,
-        })),
+        Frame::Forall { line, index } => forall_with(alloc, line, index, body),
+        Frame::While { line, condition } => while_with(alloc, line, condition, body),
         other => {
             let_go(other);
-            let_go(body);
-            Ok(None)
+            Ok(body)
         }
     }
 }
 
 /// The block with one part more that is no statement.
-pub(crate) fn with_part(alloc: Global, frame: Frame, part: Part) -> Result<Option<Frame>, NoMemory>
+pub(crate) fn with_part(alloc: Global, frame: Frame, part: Part) -> Result<Frame, NoMemory>
     ensures { IfOk result (λ next. next ≡ spec.with_part part frame) }
 {
     match part {
@@ -310,9 +338,8 @@ pub(crate) fn with_part(alloc: Global, frame: Frame, part: Part) -> Result<Optio
         Part::Top(top) => with_top(alloc, frame, top),
         Part::Record(item) => with_record(frame, item),
         other => {
-            let_go(frame);
             let_go(other);
-            Ok(None)
+            Ok(frame)
         }
     }
 }

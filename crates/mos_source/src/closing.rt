@@ -5,52 +5,21 @@ ghost use Rattle.mos_source.specs.Machine as spec;
 use crate::frame::{Frame, Part};
 use crate::growing::one_more;
 use mos_text::{NoMemory, let_go};
-use mos_tree::{
-    Arm, ConditionKeyword, Declared, Expr, Form, Head, Item, ModelName, Routine, Statement, Top,
-    Tree,
-};
+use mos_tree::{Arm, Declared, Form, Head, Item, ModelName, Routine, Statement, Top, Tree};
 use sqlite_items::Items;
 use std::alloc::Global;
-
-fn is_until(word: ConditionKeyword) -> bool
-    ensures { result ≡ spec.is_until word }
-{
-    match word {
-        ConditionKeyword::Until => true,
-        _ => false,
-    }
-}
-
-/// `repeat` with its condition, where the word is `until`.
-fn repeat_until(
-    line: u32,
-    word: ConditionKeyword,
-    condition: Expr,
-    at: u32,
-    body: Items<Statement>,
-) -> Option<Part>
-    ensures { result ≡ spec.until line (Form.Guarded word condition) at body }
-{
-    if is_until(word) {
-        Some(Part::Statement(Statement::Repeat {
-            line: at,
-            body,
-            until_line: line,
-            condition,
-        }))
-    } else {
-        let_go(condition);
-        let_go(body);
-        None
-    }
-}
 
 /// `repeat` with its `until`.
 fn until(line: u32, form: Form, at: u32, body: Items<Statement>) -> Option<Part>
     ensures { result ≡ spec.until line form at body }
 {
     match form {
-        Form::Guarded(word, condition) => repeat_until(line, word, condition, at, body),
+        Form::Guarded(_, condition) => Some(Part::Statement(Statement::Repeat {
+            line: at,
+            body,
+            until_line: line,
+            condition,
+        })),
         other => {
             let_go(other);
             let_go(body);

@@ -3,11 +3,11 @@ ghost use Rattle.std.specs.Prelude.{◌≡◌, [], ◌∷◌, ◌++◌, IfOk};
 ghost use Rattle.mos_source.specs.Machine as spec;
 
 use crate::frame::Frame;
-use crate::growing::one_more;
+use crate::growing::{more, one_more};
 use mos_text::{NoMemory, SourceText, let_go};
 use mos_tree::{
-    Alternative, Arm, ConditionKeyword, Direction, Expr, FieldGroup, Form, Head, Item, Keyword,
-    Label, LabelGroup, ModelName, Parameter, Statement,
+    Alternative, Arm, Direction, Expr, FieldGroup, Form, Head, Item, Label, LabelGroup, Parameter,
+    Statement,
 };
 use sqlite_items::Items;
 use std::alloc::Global;
@@ -91,189 +91,57 @@ fn row_of(alloc: Global, line: u32, form: Form) -> Result<Option<LabelGroup>, No
     }
 }
 
-fn with_head(
-    line: u32,
-    name: ModelName,
-    heads: Items<Head>,
-    head: Option<Head>,
-) -> Result<Option<Frame>, NoMemory>
-    ensures { IfOk result (λ frame. frame ≡ spec.with_head line name heads head) }
-{
-    match head {
-        Some(head) => Ok(Some(Frame::Heads {
-            line,
-            name,
-            heads: one_more(heads, head)?,
-        })),
-        None => Ok(None),
-    }
-}
-
-fn with_parameter(
-    line: u32,
-    parameters: Items<Parameter>,
-    parameter: Option<Parameter>,
-) -> Result<Option<Frame>, NoMemory>
-    ensures { IfOk result (λ frame. frame ≡ spec.with_parameter line parameters parameter) }
-{
-    match parameter {
-        Some(parameter) => Ok(Some(Frame::Parameters {
-            line,
-            parameters: one_more(parameters, parameter)?,
-        })),
-        None => Ok(None),
-    }
-}
-
-fn with_item(line: u32, items: Items<Item>, item: Option<Item>) -> Result<Option<Frame>, NoMemory>
-    ensures { IfOk result (λ frame. frame ≡ spec.with_item line items item) }
-{
-    match item {
-        Some(item) => Ok(Some(Frame::Declarations {
-            line,
-            items: one_more(items, item)?,
-        })),
-        None => Ok(None),
-    }
-}
-
-fn with_field(
-    line: u32,
-    name: SourceText,
-    fields: Items<FieldGroup>,
-    field: Option<FieldGroup>,
-) -> Result<Option<Frame>, NoMemory>
-    ensures { IfOk result (λ frame. frame ≡ spec.with_field line name fields field) }
-{
-    match field {
-        Some(field) => Ok(Some(Frame::Record {
-            line,
-            name,
-            fields: one_more(fields, field)?,
-        })),
-        None => Ok(None),
-    }
-}
-
+/// `initializations` with a row more.
 fn with_row(
     line: u32,
     direction: Direction,
     name: Expr,
     rows: Items<LabelGroup>,
     row: Option<LabelGroup>,
-) -> Result<Option<Frame>, NoMemory>
-    ensures { IfOk result (λ frame. frame ≡ spec.with_row line direction name rows row) }
+) -> Result<Frame, NoMemory>
+    ensures { IfOk result (λ frame. frame
+        ≡ Frame.Initializations line direction name (spec.more rows row)) }
 {
-    match row {
-        Some(row) => match one_more(rows, row) {
-            Ok(rows) => Ok(Some(Frame::Initializations {
-                line,
-                direction,
-                name,
-                rows,
-            })),
-            Err(refused) => {
-                let_go(name);
-                Err(refused)
-            }
-        },
-        None => {
-            let_go(name);
-            let_go(rows);
-            Ok(None)
-        }
-    }
-}
-
-fn is_else(word: Keyword) -> bool
-    ensures { result ≡ spec.is_else word }
-{
-    match word {
-        Keyword::Else => true,
-        _ => false,
-    }
-}
-
-fn is_elif(word: ConditionKeyword) -> bool
-    ensures { result ≡ spec.is_elif word }
-{
-    match word {
-        ConditionKeyword::Elif => true,
-        _ => false,
-    }
-}
-
-/// `elif` behind the arm that is read.
-fn elif_arm(
-    alloc: Global,
-    line: u32,
-    condition: Expr,
-    first: u32,
-    arms: Items<Arm<Statement>>,
-    last: Arm<Statement>,
-) -> Result<Option<Frame>, NoMemory>
-    ensures { IfOk result (λ frame. frame ≡ spec.elif_arm line condition first arms last) }
-{
-    match one_more(arms, last) {
-        Ok(arms) => Ok(Some(Frame::IfArm {
-            first,
-            arms,
+    match more(rows, row) {
+        Ok(rows) => Ok(Frame::Initializations {
             line,
-            condition,
-            body: Items::new(alloc),
-        })),
+            direction,
+            name,
+            rows,
+        }),
         Err(refused) => {
-            let_go(condition);
+            let_go(name);
             Err(refused)
         }
     }
 }
 
-/// Another arm behind the arm that is read, where the word is that of one.
-fn another_arm(
+/// Another arm where the piece has a condition, or `else`.
+fn arm_or_else(
     alloc: Global,
     line: u32,
-    word: ConditionKeyword,
-    condition: Expr,
+    form: Form,
     first: u32,
     arms: Items<Arm<Statement>>,
-    last: Arm<Statement>,
-) -> Result<Option<Frame>, NoMemory>
-    ensures { IfOk result (λ frame. frame
-        ≡ spec.next_arm line (Form.Guarded word condition) first arms last) }
+) -> Frame
+    ensures { result ≡ spec.arm_or_else line form first arms }
 {
-    if is_elif(word) {
-        elif_arm(alloc, line, condition, first, arms, last)
-    } else {
-        let_go(condition);
-        let_go(arms);
-        let_go(last);
-        Ok(None)
-    }
-}
-
-/// `else` behind the arm that is read, where the word is this one.
-fn else_arm(
-    alloc: Global,
-    word: Keyword,
-    line: u32,
-    first: u32,
-    arms: Items<Arm<Statement>>,
-    last: Arm<Statement>,
-) -> Result<Option<Frame>, NoMemory>
-    ensures { IfOk result (λ frame. frame
-        ≡ spec.next_arm line (Form.Keyword word) first arms last) }
-{
-    if is_else(word) {
-        Ok(Some(Frame::IfElse {
+    match form {
+        Form::Guarded(_, condition) => Frame::IfArm {
             first,
-            arms: one_more(arms, last)?,
+            arms,
+            line,
+            condition,
             body: Items::new(alloc),
-        }))
-    } else {
-        let_go(arms);
-        let_go(last);
-        Ok(None)
+        },
+        other => {
+            let_go(other);
+            Frame::IfElse {
+                first,
+                arms,
+                body: Items::new(alloc),
+            }
+        }
     }
 }
 
@@ -285,48 +153,19 @@ fn next_arm(
     first: u32,
     arms: Items<Arm<Statement>>,
     last: Arm<Statement>,
-) -> Result<Option<Frame>, NoMemory>
+) -> Result<Frame, NoMemory>
     ensures { IfOk result (λ frame. frame ≡ spec.next_arm line form first arms last) }
 {
-    match form {
-        Form::Guarded(word, condition) => {
-            another_arm(alloc, line, word, condition, first, arms, last)
-        }
-        Form::Keyword(word) => else_arm(alloc, word, line, first, arms, last),
-        other => {
-            let_go(other);
-            let_go(arms);
-            let_go(last);
-            Ok(None)
+    match one_more(arms, last) {
+        Ok(arms) => Ok(arm_or_else(alloc, line, form, first, arms)),
+        Err(refused) => {
+            let_go(form);
+            Err(refused)
         }
     }
 }
 
-/// `else` behind the alternatives, where the word is this one.
-fn case_else(
-    alloc: Global,
-    word: Keyword,
-    line: u32,
-    value: Expr,
-    alternatives: Items<Alternative<Statement>>,
-) -> Option<Frame>
-    ensures { result ≡ spec.case_else word line value alternatives }
-{
-    if is_else(word) {
-        Some(Frame::CaseElse {
-            line,
-            value,
-            alternatives,
-            body: Items::new(alloc),
-        })
-    } else {
-        let_go(value);
-        let_go(alternatives);
-        None
-    }
-}
-
-/// Behind an alternative: another one, or `else`.
+/// Behind an alternative: another one where the piece has labels, or `else`.
 fn next_alternative(
     alloc: Global,
     at: u32,
@@ -334,23 +173,25 @@ fn next_alternative(
     line: u32,
     value: Expr,
     alternatives: Items<Alternative<Statement>>,
-) -> Option<Frame>
+) -> Frame
     ensures { result ≡ spec.next_alternative at form line value alternatives }
 {
     match form {
-        Form::Alternative(labels) => Some(Frame::CaseArm {
+        Form::Alternative(labels) => Frame::CaseArm {
             line,
             value,
             alternatives,
             at,
             labels,
-        }),
-        Form::Keyword(word) => case_else(alloc, word, line, value, alternatives),
+        },
         other => {
             let_go(other);
-            let_go(value);
-            let_go(alternatives);
-            None
+            Frame::CaseElse {
+                line,
+                value,
+                alternatives,
+                body: Items::new(alloc),
+            }
         }
     }
 }
@@ -361,7 +202,7 @@ fn continued_statement(
     line: u32,
     form: Form,
     frame: Frame,
-) -> Result<Option<Frame>, NoMemory>
+) -> Result<Frame, NoMemory>
     ensures { IfOk result (λ next. next ≡ spec.continued_statement line form frame) }
 {
     match frame {
@@ -399,8 +240,7 @@ fn continued_statement(
         },
         other => {
             let_go(form);
-            let_go(other);
-            Ok(None)
+            Ok(other)
         }
     }
 }
@@ -411,7 +251,7 @@ pub(crate) fn continued_by(
     line: u32,
     form: Form,
     frame: Frame,
-) -> Result<Option<Frame>, NoMemory>
+) -> Result<Frame, NoMemory>
     ensures { IfOk result (λ next. next ≡ spec.continued_by line form frame) }
 {
     match frame {
@@ -419,17 +259,31 @@ pub(crate) fn continued_by(
             line: at,
             name,
             heads,
-        } => with_head(at, name, heads, head_of(line, form)),
+        } => Ok(Frame::Heads {
+            line: at,
+            name,
+            heads: more(heads, head_of(line, form))?,
+        }),
         Frame::Parameters {
             line: at,
             parameters,
-        } => with_parameter(at, parameters, parameter_of(line, form)),
-        Frame::Declarations { line: at, items } => with_item(at, items, item_of(line, form)),
+        } => Ok(Frame::Parameters {
+            line: at,
+            parameters: more(parameters, parameter_of(line, form))?,
+        }),
+        Frame::Declarations { line: at, items } => Ok(Frame::Declarations {
+            line: at,
+            items: more(items, item_of(line, form))?,
+        }),
         Frame::Record {
             line: at,
             name,
             fields,
-        } => with_field(at, name, fields, field_of(line, form)),
+        } => Ok(Frame::Record {
+            line: at,
+            name,
+            fields: more(fields, field_of(line, form))?,
+        }),
         other => continued_statement(alloc, line, form, other),
     }
 }

@@ -11,7 +11,7 @@ use mos_tree::{
 use sqlite_items::Items;
 
 /// A block that is open, with what is read of it.
-#[derive(Debug, Drop)]
+#[derive(Drop)]
 pub(crate) enum Frame {
     /// A model, behind its heads.
     Heads {
@@ -107,7 +107,7 @@ pub(crate) enum Frame {
 }
 
 /// A whole part of a tree, which the block round it takes.
-#[derive(Debug, Drop)]
+#[derive(Drop)]
 pub(crate) enum Part {
     Statement(Statement),
     Declared(Declared),

@@ -32,16 +32,13 @@ fn pop(stack: &mut Vec<Frame>) -> Option<Frame>
 }
 
 /// Opens the block, if there is one.
-fn push_frame(stack: &mut Vec<Frame>, frame: Option<Frame>) -> Result<bool, NoMemory>
-    ensures { IfOk result (λ done. spec.push_frame frame (spec.stack_of stack.old.items)
-        ≡ spec.kept_stack done (spec.stack_of stack.new.items)) }
+fn push_frame(stack: &mut Vec<Frame>, frame: Option<Frame>) -> Result<(), NoMemory>
+    ensures { OnOk result (spec.stack_of stack.new.items
+        ≡ spec.push_frame frame (spec.stack_of stack.old.items)) }
 {
     match frame {
-        Some(frame) => {
-            push(stack, frame)?;
-            Ok(true)
-        }
-        None => Ok(false),
+        Some(frame) => push(stack, frame),
+        None => Ok(()),
     }
 }
 
@@ -60,18 +57,18 @@ fn give_statement(
     alloc: Global,
     stack: &mut Vec<Frame>,
     statement: Statement,
-) -> Result<bool, NoMemory>
-    ensures { IfOk result (λ done. spec.give_statement statement (spec.stack_of stack.old.items)
-        ≡ spec.kept_stack done (spec.stack_of stack.new.items)) }
+) -> Result<(), NoMemory>
+    ensures { OnOk result (spec.stack_of stack.new.items
+        ≡ spec.give_statement statement (spec.stack_of stack.old.items)) }
 {
     match pop(stack) {
         Some(frame) => {
             let next = with_statement(alloc, frame, statement)?;
-            push_frame(stack, next)
+            push(stack, next)
         }
         None => {
             let_go(statement);
-            Ok(false)
+            Ok(())
         }
     }
 }
@@ -81,20 +78,17 @@ fn end_loop(
     alloc: Global,
     stack: &mut Vec<Frame>,
     statement: Statement,
-) -> Result<Option<Statement>, NoMemory>
+) -> Result<Statement, NoMemory>
     requires { spec.top_is_loop (spec.stack_of stack.old.items) ≡ true }
     ensures value { IfOk result (λ outer.
         spec.add_statement statement (spec.stack_of stack.old.items)
-        ≡ spec.add_next outer (spec.stack_of stack.new.items)) }
+        ≡ spec.add_statement outer (spec.stack_of stack.new.items)) }
     ensures lower { length (spec.stack_of stack.new.items)
         < length (spec.stack_of stack.old.items) }
 {
     match pop(stack) {
         Some(frame) => loop_with_body(alloc, frame, statement),
-        None => {
-            let_go(statement);
-            Ok(None)
-        }
+        None => Ok(statement),
     }
 }
 
@@ -103,64 +97,43 @@ fn add_statement(
     alloc: Global,
     stack: &mut Vec<Frame>,
     statement: Statement,
-) -> Result<bool, NoMemory>
-    ensures { IfOk result (λ done. spec.add_statement statement (spec.stack_of stack.old.items)
-        ≡ spec.kept_stack done (spec.stack_of stack.new.items)) }
+) -> Result<(), NoMemory>
+    ensures { OnOk result (spec.stack_of stack.new.items
+        ≡ spec.add_statement statement (spec.stack_of stack.old.items)) }
 {
     let mut statement = statement;
     while top_is_loop(stack) {
-        match end_loop(alloc, stack, statement)? {
-            None => return Ok(false),
-            Some(outer) => statement = outer,
-        }
+        statement = end_loop(alloc, stack, statement)?;
     }
     give_statement(alloc, stack, statement)
 }
 
-/// Ends the source.
-fn end(stack: &mut Vec<Frame>, tree: Tree) -> Result<bool, NoMemory>
-    ensures { IfOk result (λ done. spec.end tree (spec.stack_of stack.old.items)
-        ≡ spec.kept_stack done (spec.stack_of stack.new.items)) }
-{
-    match pop(stack) {
-        None => {
-            push(stack, Frame::End(tree))?;
-            Ok(true)
-        }
-        Some(frame) => {
-            let_go(tree);
-            let_go(frame);
-            Ok(false)
-        }
-    }
-}
-
 /// Gives a part that is no statement to the innermost block.
-fn add_other(alloc: Global, stack: &mut Vec<Frame>, part: Part) -> Result<bool, NoMemory>
-    ensures { IfOk result (λ done. spec.add_other part (spec.stack_of stack.old.items)
-        ≡ spec.kept_stack done (spec.stack_of stack.new.items)) }
+fn add_other(alloc: Global, stack: &mut Vec<Frame>, part: Part) -> Result<(), NoMemory>
+    ensures { OnOk result (spec.stack_of stack.new.items
+        ≡ spec.add_other part (spec.stack_of stack.old.items)) }
 {
     match pop(stack) {
         Some(frame) => {
             let next = with_part(alloc, frame, part)?;
-            push_frame(stack, next)
+            push(stack, next)
         }
         None => {
             let_go(part);
-            Ok(false)
+            Ok(())
         }
     }
 }
 
 /// Gives the part, if there is one, to the innermost block.
-fn add(alloc: Global, stack: &mut Vec<Frame>, part: Option<Part>) -> Result<bool, NoMemory>
-    ensures { IfOk result (λ done. spec.add part (spec.stack_of stack.old.items)
-        ≡ spec.kept_stack done (spec.stack_of stack.new.items)) }
+fn add(alloc: Global, stack: &mut Vec<Frame>, part: Option<Part>) -> Result<(), NoMemory>
+    ensures { OnOk result (spec.stack_of stack.new.items
+        ≡ spec.add part (spec.stack_of stack.old.items)) }
 {
     match part {
-        None => Ok(false),
+        None => Ok(()),
         Some(Part::Statement(statement)) => add_statement(alloc, stack, statement),
-        Some(Part::Source(tree)) => end(stack, tree),
+        Some(Part::Source(tree)) => push(stack, Frame::End(tree)),
         Some(other) => add_other(alloc, stack, other),
     }
 }
@@ -170,25 +143,25 @@ fn continue_block(
     stack: &mut Vec<Frame>,
     line: u32,
     form: Form,
-) -> Result<bool, NoMemory>
-    ensures { IfOk result (λ done. spec.continue_block line form (spec.stack_of stack.old.items)
-        ≡ spec.kept_stack done (spec.stack_of stack.new.items)) }
+) -> Result<(), NoMemory>
+    ensures { OnOk result (spec.stack_of stack.new.items
+        ≡ spec.continue_block line form (spec.stack_of stack.old.items)) }
 {
     match pop(stack) {
         Some(frame) => {
             let next = continued_by(alloc, line, form, frame)?;
-            push_frame(stack, next)
+            push(stack, next)
         }
         None => {
             let_go(form);
-            Ok(false)
+            Ok(())
         }
     }
 }
 
-fn close(alloc: Global, stack: &mut Vec<Frame>, line: u32, form: Form) -> Result<bool, NoMemory>
-    ensures { IfOk result (λ done. spec.close line form (spec.stack_of stack.old.items)
-        ≡ spec.kept_stack done (spec.stack_of stack.new.items)) }
+fn close(alloc: Global, stack: &mut Vec<Frame>, line: u32, form: Form) -> Result<(), NoMemory>
+    ensures { OnOk result (spec.stack_of stack.new.items
+        ≡ spec.close line form (spec.stack_of stack.old.items)) }
 {
     match pop(stack) {
         Some(frame) => {
@@ -197,7 +170,7 @@ fn close(alloc: Global, stack: &mut Vec<Frame>, line: u32, form: Form) -> Result
         }
         None => {
             let_go(form);
-            Ok(false)
+            Ok(())
         }
     }
 }
@@ -209,9 +182,9 @@ fn enter(
     role: Role,
     line: u32,
     form: Form,
-) -> Result<bool, NoMemory>
-    ensures { IfOk result (λ done. spec.enter role line form (spec.stack_of stack.old.items)
-        ≡ spec.kept_stack done (spec.stack_of stack.new.items)) }
+) -> Result<(), NoMemory>
+    ensures { OnOk result (spec.stack_of stack.new.items
+        ≡ spec.enter role line form (spec.stack_of stack.old.items)) }
 {
     match role {
         Role::Opens => {
@@ -294,25 +267,6 @@ fn broken(alloc: Global, role: Role, blocks: usize, form: &Form) -> Result<Optio
     }
 }
 
-/// Takes the piece in this role, which breaks no limit.
-fn take(
-    alloc: Global,
-    stack: &mut Vec<Frame>,
-    role: Role,
-    line: u32,
-    form: Form,
-) -> Result<Option<Kind>, NoMemory>
-    ensures { IfOk result (λ wrong.
-        spec.or_syntax (spec.enter role line form (spec.stack_of stack.old.items))
-        ≡ spec.outcome wrong (spec.stack_of stack.new.items)) }
-{
-    if enter(alloc, stack, role, line, form)? {
-        Ok(None)
-    } else {
-        Ok(Some(Kind::Syntax))
-    }
-}
-
 /// Takes the piece in this role, unless it breaks this limit.
 fn take_unless(
     alloc: Global,
@@ -323,7 +277,7 @@ fn take_unless(
     form: Form,
 ) -> Result<Option<Kind>, NoMemory>
     ensures { IfOk result (λ wrong.
-        spec.unless found (spec.enter role line form (spec.stack_of stack.old.items))
+        spec.outcome found (spec.enter role line form (spec.stack_of stack.old.items))
         ≡ spec.outcome wrong (spec.stack_of stack.new.items)) }
 {
     match found {
@@ -331,7 +285,10 @@ fn take_unless(
             let_go(form);
             Ok(Some(kind))
         }
-        None => take(alloc, stack, role, line, form),
+        None => {
+            enter(alloc, stack, role, line, form)?;
+            Ok(None)
+        }
     }
 }
 

@@ -27,7 +27,10 @@ fn opened_by_condition(alloc: Global, line: u32, word: ConditionKeyword, x: Expr
             alternatives: Items::new(alloc),
         }),
         ConditionKeyword::While => Some(Frame::While { line, condition: x }),
-        _ => None,
+        _ => {
+            let_go(x);
+            None
+        }
     }
 }
 

@@ -5,7 +5,7 @@ ghost use Rattle.mos_source.specs.Places as spec;
 use mos_tree::PieceKind;
 
 /// Where a piece stands: behind what is read, in the innermost block that is open.
-#[derive(Clone, Copy, Debug, PartialEq, Eq)]
+#[derive(Clone, Copy)]
 pub(crate) enum Place {
     /// Before everything.
     Start,
@@ -40,7 +40,7 @@ pub(crate) enum Place {
 }
 
 /// What a piece does that may stand at a place.
-#[derive(Clone, Copy, Debug, PartialEq, Eq)]
+#[derive(Clone, Copy)]
 pub(crate) enum Role {
     /// It opens a block.
     Opens,
@@ -90,162 +90,33 @@ fn top_role(kind: PieceKind) -> Option<Role>
     }
 }
 
-fn head_role(kind: PieceKind) -> Option<Role>
-    ensures { result ≡ spec.head_role kind }
-{
-    match kind {
-        PieceKind::Uses | PieceKind::Options => Some(Role::Continues),
-        other => top_role(other),
-    }
-}
-
-fn start_role(kind: PieceKind) -> Option<Role>
-    ensures { result ≡ spec.start_role kind }
-{
-    match kind {
-        PieceKind::Model => Some(Role::Opens),
-        _ => None,
-    }
-}
-
-fn parameters_role(kind: PieceKind) -> Option<Role>
-    ensures { result ≡ spec.parameters_role kind }
-{
-    match kind {
-        PieceKind::Definition => Some(Role::Continues),
-        PieceKind::EndParameters => Some(Role::Closes),
-        _ => None,
-    }
-}
-
-fn declarations_role(kind: PieceKind) -> Option<Role>
-    ensures { result ≡ spec.declarations_role kind }
-{
-    match kind {
-        PieceKind::Definition | PieceKind::Typed => Some(Role::Continues),
-        PieceKind::RecordOf => Some(Role::Opens),
-        PieceKind::EndDeclarations => Some(Role::Closes),
-        _ => None,
-    }
-}
-
-fn record_role(kind: PieceKind) -> Option<Role>
-    ensures { result ≡ spec.record_role kind }
-{
-    match kind {
-        PieceKind::Typed => Some(Role::Continues),
-        PieceKind::EndRecord => Some(Role::Closes),
-        _ => None,
-    }
-}
-
-fn procedure_role(kind: PieceKind) -> Option<Role>
-    ensures { result ≡ spec.procedure_role kind }
-{
-    match kind {
-        PieceKind::Declarations => Some(Role::Opens),
-        PieceKind::EndProcedure => Some(Role::Closes),
-        _ => None,
-    }
-}
-
-fn function_role(kind: PieceKind) -> Option<Role>
-    ensures { result ≡ spec.function_role kind }
-{
-    match kind {
-        PieceKind::Declarations => Some(Role::Opens),
-        PieceKind::EndFunction => Some(Role::Closes),
-        _ => None,
-    }
-}
-
-fn if_arm_role(kind: PieceKind) -> Option<Role>
-    ensures { result ≡ spec.if_arm_role kind }
-{
-    match kind {
-        PieceKind::Elif | PieceKind::Else => Some(Role::Continues),
-        PieceKind::EndIf => Some(Role::Closes),
-        _ => None,
-    }
-}
-
-fn if_else_role(kind: PieceKind) -> Option<Role>
-    ensures { result ≡ spec.if_else_role kind }
-{
-    match kind {
-        PieceKind::EndIf => Some(Role::Closes),
-        _ => None,
-    }
-}
-
-fn case_role(kind: PieceKind) -> Option<Role>
-    ensures { result ≡ spec.case_role kind }
-{
-    match kind {
-        PieceKind::Alternative | PieceKind::Else => Some(Role::Continues),
-        PieceKind::EndCase => Some(Role::Closes),
-        _ => None,
-    }
-}
-
-fn case_else_role(kind: PieceKind) -> Option<Role>
-    ensures { result ≡ spec.case_else_role kind }
-{
-    match kind {
-        PieceKind::EndCase => Some(Role::Closes),
-        _ => None,
-    }
-}
-
-fn repeat_role(kind: PieceKind) -> Option<Role>
-    ensures { result ≡ spec.repeat_role kind }
-{
-    match kind {
-        PieceKind::Until => Some(Role::Closes),
-        _ => None,
-    }
-}
-
-fn do_role(kind: PieceKind) -> Option<Role>
-    ensures { result ≡ spec.do_role kind }
-{
-    match kind {
-        PieceKind::EndDo => Some(Role::Closes),
-        _ => None,
-    }
-}
-
-fn initializations_role(kind: PieceKind) -> Option<Role>
-    ensures { result ≡ spec.initializations_role kind }
-{
-    match kind {
-        PieceKind::Bare | PieceKind::Labels => Some(Role::Continues),
-        PieceKind::EndInitializations => Some(Role::Closes),
-        _ => None,
-    }
-}
-
 /// What the piece does at the place, statements aside.
 fn own_role(place: Place, kind: PieceKind) -> Option<Role>
     ensures { result ≡ spec.own_role place kind }
 {
-    match place {
-        Place::Start => start_role(kind),
-        Place::Heads => head_role(kind),
-        Place::Tops => top_role(kind),
-        Place::Parameters => parameters_role(kind),
-        Place::Declarations => declarations_role(kind),
-        Place::Record => record_role(kind),
-        Place::Procedure => procedure_role(kind),
-        Place::Function => function_role(kind),
-        Place::IfArm => if_arm_role(kind),
-        Place::IfElse => if_else_role(kind),
-        Place::Case => case_role(kind),
-        Place::CaseArm | Place::LoopBody | Place::End => None,
-        Place::CaseElse => case_else_role(kind),
-        Place::Repeat => repeat_role(kind),
-        Place::Do => do_role(kind),
-        Place::Initializations => initializations_role(kind),
+    match (place, kind) {
+        (Place::Start, PieceKind::Model) => Some(Role::Opens),
+        (Place::Heads, PieceKind::Uses | PieceKind::Options) => Some(Role::Continues),
+        (Place::Heads | Place::Tops, other) => top_role(other),
+        (Place::Parameters, PieceKind::Definition) => Some(Role::Continues),
+        (Place::Parameters, PieceKind::EndParameters) => Some(Role::Closes),
+        (Place::Declarations, PieceKind::Definition | PieceKind::Typed) => Some(Role::Continues),
+        (Place::Declarations, PieceKind::RecordOf) => Some(Role::Opens),
+        (Place::Declarations, PieceKind::EndDeclarations) => Some(Role::Closes),
+        (Place::Record, PieceKind::Typed) => Some(Role::Continues),
+        (Place::Record, PieceKind::EndRecord) => Some(Role::Closes),
+        (Place::Procedure | Place::Function, PieceKind::Declarations) => Some(Role::Opens),
+        (Place::Procedure, PieceKind::EndProcedure) => Some(Role::Closes),
+        (Place::Function, PieceKind::EndFunction) => Some(Role::Closes),
+        (Place::IfArm, PieceKind::Elif | PieceKind::Else) => Some(Role::Continues),
+        (Place::IfArm | Place::IfElse, PieceKind::EndIf) => Some(Role::Closes),
+        (Place::Case, PieceKind::Alternative | PieceKind::Else) => Some(Role::Continues),
+        (Place::Case | Place::CaseElse, PieceKind::EndCase) => Some(Role::Closes),
+        (Place::Repeat, PieceKind::Until) => Some(Role::Closes),
+        (Place::Do, PieceKind::EndDo) => Some(Role::Closes),
+        (Place::Initializations, PieceKind::Bare | PieceKind::Labels) => Some(Role::Continues),
+        (Place::Initializations, PieceKind::EndInitializations) => Some(Role::Closes),
+        _ => None,
     }
 }
 

@@ -3,6 +3,7 @@
 use Rattle.std.specs.Prelude.{ℕ, ◌+◌, ◌-◌, ◌^◌, List, min, Contains, refl}
 use Rattle.std.specs.Coded.{Coded, code_by, coded×, coded_ℕ, coded_list}
 
+-- how many calls there were, and which are to fail
 pub record Calls : Type 0 where
   -- how many there were
   pub made : ℕ
@@ -13,18 +14,18 @@ pub record Calls : Type 0 where
 abbrev pub calls_code : Coded Calls
 calls_code = code_by (ℕ × List ℕ) (coded× coded_ℕ (coded_list coded_ℕ)) (λ c. (c.made, c.failing)) (λ p. record { made = p.0; failing = p.1 }) (λ _. refl)
 
--- None made yet.
+-- none made yet
 abbrev pub calls_of : List ℕ → Calls
 calls_of failing = record { made = 0; failing = failing }
 
--- One more; a 64-bit counter stays at its last value.
+-- one more; a 64-bit counter stays at its last value
 abbrev pub one_more : ℕ → ℕ
 one_more n = min (n + 1) (2 ^ 64 - 1)
 
--- The next call is to fail.
+-- the next call is to fail
 abbrev pub FailsNext : Calls → Type 0
 FailsNext calls = Contains calls.failing (one_more calls.made)
 
--- The calls after one more.
+-- the calls after one more
 abbrev pub after_one : Calls → Calls
 after_one calls = record calls { made = one_more calls.made }

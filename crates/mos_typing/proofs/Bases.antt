@@ -1,43 +1,28 @@
 -- A word is a type exactly where a type is spelled by it.
 
-use Rattle.std.proofs.Common.{◌≡◌, ℕ, [], ◌∷◌, Option, Some, None, Result, refl, sym, ◌∙◌, ap, subst, arith}
+use Rattle.std.proofs.Common.{◌≡◌, ℕ, Option, Some, None, Result, refl, sym, ◌∙◌, ap, arith}
 use Rattle.mos_tree.specs.declared.declaration.BaseType.{BaseType}
 use Rattle.mos_tree.specs.declared.declaration.BaseType.TheVariants as base
 use Rattle.mos_scan.specs.declared.token.TokenKind.TheVariants as t
 use Rattle.mos_scan.specs.declared.reading.Word.{Word}
 use Rattle.mos_scan.specs.declared.reading.Word.TheVariants as w
-use Rattle.mos_typing.specs.Typing.{base_words}
+use Rattle.mos_typing.specs.Typing.{base_word}
 use Rattle.mos_expr.specs.Said.{Gives, Says}
 use Rattle.mos_expr.specs.declared.fault.ExprFault.{ExprFault}
 use Rattle.mos_typing.specs.Joining.{or_nothing}
 use Rattle.mos_typing.specs.Reader.{base_of}
 use Rattle.mos_typing.proofs.Saying.{says_nothing, says_made, says_gives}
 
-pub base_known : (x : Word) (b : BaseType) → base_of x ≡ Some b → base_words b ≡ x ∷ []
-base_known (w.Key t.Integer) b e = let p : base.Integer ≡ b = cc in subst (λ z. base_words z ≡ w.Key t.Integer ∷ []) p refl
-base_known (w.Key t.Boolean) b e = let p : base.Boolean ≡ b = cc in subst (λ z. base_words z ≡ w.Key t.Boolean ∷ []) p refl
-base_known (w.Key t.StringWord) b e = let p : base.Text ≡ b = cc in subst (λ z. base_words z ≡ w.Key t.StringWord ∷ []) p refl
-base_known (w.Name n) b e = let p : base.Named n ≡ b = cc in subst (λ z. base_words z ≡ w.Name n ∷ []) p refl
+pub base_known : (x : Word) (b : BaseType) → base_of x ≡ Some b → x ≡ base_word b
+base_known (w.Key t.Integer) b e = let p : base.Integer ≡ b = cc in ap base_word p
+base_known (w.Key t.Boolean) b e = let p : base.Boolean ≡ b = cc in ap base_word p
+base_known (w.Key t.StringWord) b e = let p : base.Text ≡ b = cc in ap base_word p
+base_known (w.Name n) b e = let p : base.Named n ≡ b = cc in ap base_word p
 base_known _ b e = cc
 
-pub base_read : (b : BaseType) (x : Word) → base_words b ≡ x ∷ [] → base_of x ≡ Some b
-base_read base.Integer x e = let p : x ≡ w.Key t.Integer = cc in ap base_of p
-base_read base.Boolean x e = let p : x ≡ w.Key t.Boolean = cc in ap base_of p
-base_read base.Text x e = let p : x ≡ w.Key t.StringWord = cc in ap base_of p
-base_read (base.Named n) x e = let p : x ≡ w.Name n = cc in ap base_of p
-
--- the word of a type
-abbrev pub base_word : BaseType → Word
-base_word base.Integer = w.Key t.Integer
-base_word base.Boolean = w.Key t.Boolean
-base_word base.Text = w.Key t.StringWord
-base_word (base.Named n) = w.Name n
-
-pub base_is : (b : BaseType) → base_words b ≡ base_word b ∷ []
-base_is base.Integer = refl
-base_is base.Boolean = refl
-base_is base.Text = refl
-base_is (base.Named n) = refl
+pub base_read : (b : BaseType) → base_of (base_word b) ≡ Some b
+base_read base.Integer = refl
+base_read _ = refl
 
 -- the word is this type, which has no height
 pub record IsBase (x : Word) (made : BaseType) (high : ℕ) : Type 0 where

@@ -1,8 +1,11 @@
--- No expression is cut: brackets in it are closed, and commas in it stand inside brackets.
+-- No expression is cut: brackets in it are closed, and commas in it stand inside brackets; and no word that parts a piece
+-- stands in it.
 
 use Rattle.std.proofs.Common.{◌≡◌, ℕ, ◌+◌, ◌-◌, Bool, true, false, ◌&&◌, nat_eq, List, [], ◌∷◌, ◌++◌, Some, None, refl, sym, ◌∙◌, ap, subst, arith, append_assoc}
 use Rattle.std.proofs.lemmas.Bool.{ne_eqb}
+use Rattle.std.specs.List.{list_all}
 use Rattle.std.proofs.lemmas.List.{append-nil}
+use Rattle.std.proofs.lemmas.List.Folds.{list_all-append}
 use Rattle.mos_tree.specs.declared.expr.UnaryOperator.{UnaryOperator}
 use Rattle.mos_tree.specs.declared.expr.UnaryOperator.TheVariants as u
 use Rattle.mos_tree.specs.declared.expr.BinaryOperator.{BinaryOperator}
@@ -14,13 +17,28 @@ use Rattle.mos_tree.specs.declared.expr.Conversion.TheVariants as c
 use Rattle.mos_scan.specs.declared.token.TokenKind.TheVariants as t
 use Rattle.mos_scan.specs.declared.reading.Word.{Word}
 use Rattle.mos_scan.specs.declared.reading.Word.TheVariants as w
-use Rattle.mos_expr.specs.Grammar.{Leaf, number, text, truth, name, returned, field, Names, one_name, and_name, Syntax, leaf, call, call_field, set, list, bracket, if_expr, convert, before, between, aggregate, counted, Written, no_more, one_more, Over, last_set, such_that, another, spell_leaf, spell_before, spell_between, spell_aggregate, spell_conversion, spell_names, spell, spell_list, spell_rest, spell_over}
+use Rattle.mos_expr.specs.Grammar.{Leaf, truth, field, Names, one_name, and_name, Syntax, leaf, call, call_field, set, list, bracket, if_expr, convert, before, between, aggregate, counted, Written, no_more, one_more, Over, last_set, such_that, another, spell_leaf, spell_before, spell_between, spell_aggregate, spell_conversion, spell_names, spell, spell_list, spell_rest, spell_over}
 use Rattle.mos_typing.proofs.Cases.{on_bool}
-use Rattle.mos_typing.specs.Cutting.{Halves, ahead, cut, depth_behind, is_comma, is_colon, cut_at_colon}
+use Rattle.mos_typing.specs.Words.{is_plain}
+use Rattle.mos_typing.specs.declared.cut.Mark.{Mark}
+use Rattle.mos_typing.specs.declared.cut.Mark.TheVariants as marks
+use Rattle.mos_typing.specs.Cutting.{Halves, ahead, cut, depth_behind, token_at, is_mark}
 
--- the words are not cut; so many brackets are open before them, and so many behind them
-pub record Goes (from : ℕ) (words : List Word) (to : ℕ) : Type 0 where
-  pub on : (rest : List Word) → cut from (words ++ rest) ≡ ahead words (cut to rest)
+-- the words are not cut, and are all of this kind; so many brackets are open before them, and so many behind them
+pub record Goes (kind : Word → Bool) (from : ℕ) (words : List Word) (to : ℕ) : Type 0 where
+  pub on : (rest : List Word) → cut marks.Comma from (words ++ rest) ≡ ahead words (cut marks.Comma to rest)
+  pub all : list_all kind words ≡ true
+
+-- any word
+abbrev pub any : Word → Bool
+any x = true
+
+all_any : (words : List Word) → list_all any words ≡ true
+all_any [] = refl
+all_any (x ∷ xs) = all_any xs
+
+pub loose : (d e : ℕ) (words : List Word) → Goes is_plain d words e → Goes any d words e
+loose d e words g = record { on = g.on; all = all_any words }
 
 ahead_ahead : (xs ys : List Word) (q : Halves) → ahead xs (ahead ys q) ≡ ahead (xs ++ ys) q
 ahead_ahead xs ys None = refl
@@ -30,144 +48,119 @@ ahead_none : (q : Halves) → ahead [] q ≡ q
 ahead_none None = refl
 ahead_none (Some q) = refl
 
-pub nothing : (d : ℕ) → Goes d [] d
-nothing d = record { on = λ rest. sym (ahead_none (cut d rest)) }
+pub nothing : {p : Word → Bool} (d : ℕ) → Goes p d [] d
+nothing d = record { on = λ rest. sym (ahead_none (cut marks.Comma d rest)); all = refl }
 
-pub joined : (d e f : ℕ) (xs ys : List Word) → Goes d xs e → Goes e ys f → Goes d (xs ++ ys) f
-joined d e f xs ys h k = record {
-  on = λ rest. ap (cut d) (append_assoc xs ys rest) ∙ h.on (ys ++ rest) ∙ ap (ahead xs) (k.on rest) ∙ ahead_ahead xs ys (cut f rest);
+pub joined : {p : Word → Bool} (d e f : ℕ) (xs ys : List Word) → Goes p d xs e → Goes p e ys f → Goes p d (xs ++ ys) f
+joined {p = p} d e f xs ys h k = record {
+  on = λ rest. ap (cut marks.Comma d) (append_assoc xs ys rest) ∙ h.on (ys ++ rest) ∙ ap (ahead xs) (k.on rest) ∙ ahead_ahead xs ys (cut marks.Comma f rest);
+  all = list_all-append p xs ys ∙ rw (h.all, k.all) refl;
 }
 
-pub led : (d e f : ℕ) (x : Word) (xs : List Word) → Goes d (x ∷ []) e → Goes e xs f → Goes d (x ∷ xs) f
+pub led : {p : Word → Bool} (d e f : ℕ) (x : Word) (xs : List Word) → Goes p d (x ∷ []) e → Goes p e xs f → Goes p d (x ∷ xs) f
 led d e f x xs h k = joined d e f (x ∷ []) xs h k
 
 -- words inside a bracket that is closed then
-pub closed : (d : ℕ) (x : Word) (xs ys : List Word) → Goes d (x ∷ []) (d + 1) → Goes (d + 1) xs (d + 1) → Goes (d + 1) ys d → Goes d (x ∷ (xs ++ ys)) d
+pub closed : {p : Word → Bool} (d : ℕ) (x : Word) (xs ys : List Word) → Goes p d (x ∷ []) (d + 1) → Goes p (d + 1) xs (d + 1) → Goes p (d + 1) ys d → Goes p d (x ∷ (xs ++ ys)) d
 closed d x xs ys o h k = led d (d + 1) d x (xs ++ ys) o (joined (d + 1) (d + 1) d xs ys h k)
 
-pub comma : (d : ℕ) → Goes (d + 1) (w.Key t.Comma ∷ []) (d + 1)
-comma d = let e : nat_eq (d + 1) 0 ≡ false = ne_eqb (d + 1) 0 (omega arith) in record { on = λ rest. rw e refl }
+pub comma : {p : Word → Bool} (d : ℕ) → p (w.Key t.Comma) ≡ true → Goes p (d + 1) (w.Key t.Comma ∷ []) (d + 1)
+comma d k = let e : nat_eq (d + 1) 0 ≡ false = ne_eqb (d + 1) 0 (omega arith) in record { on = λ rest. rw e refl; all = rw k refl }
 
 -- a word that is no comma
-pub other : (d : ℕ) (x : Word) → is_comma x ≡ false → Goes d (x ∷ []) (depth_behind x d)
-other d x h = record { on = λ rest. on_bool (nat_eq d 0) (λ e. rw (e, h) refl) (λ e. rw e refl) }
+pub other : {p : Word → Bool} (d : ℕ) (x : Word) → is_mark marks.Comma x ≡ false → p x ≡ true → Goes p d (x ∷ []) (depth_behind x d)
+other d x h k = record { on = λ rest. on_bool (nat_eq d 0) (λ e. rw (e, h) refl) (λ e. rw e refl); all = rw k refl }
 
-pub open_round : (d : ℕ) → Goes d (w.Key t.OpenRound ∷ []) (d + 1)
-open_round d = other d (w.Key t.OpenRound) refl
+pub open_round : {p : Word → Bool} (d : ℕ) → p (w.Key t.OpenRound) ≡ true → Goes p d (w.Key t.OpenRound ∷ []) (d + 1)
+open_round d k = other d (w.Key t.OpenRound) refl k
 
-pub close : (d : ℕ) (x : Word) → is_comma x ≡ false → depth_behind x (d + 1) ≡ d + 1 - 1 → Goes (d + 1) (x ∷ []) d
-close d x h k = let e : depth_behind x (d + 1) ≡ d = k ∙ omega arith in subst (λ to. Goes (d + 1) (x ∷ []) to) e (other (d + 1) x h)
+pub close : {p : Word → Bool} (d : ℕ) (x : Word) → is_mark marks.Comma x ≡ false → depth_behind x (d + 1) ≡ d + 1 - 1 → p x ≡ true → Goes p (d + 1) (x ∷ []) d
+close {p = p} d x h k l = let e : depth_behind x (d + 1) ≡ d = k ∙ omega arith in subst (λ to. Goes p (d + 1) (x ∷ []) to) e (other (d + 1) x h l)
 
 -- a word that is neither a comma nor a bracket
-pub same : (d : ℕ) (x : Word) → is_comma x ≡ false → depth_behind x d ≡ d → Goes d (x ∷ []) d
-same d x h k = subst (λ to. Goes d (x ∷ []) to) k (other d x h)
+pub same : {p : Word → Bool} (d : ℕ) (x : Word) → is_mark marks.Comma x ≡ false → depth_behind x d ≡ d → p x ≡ true → Goes p d (x ∷ []) d
+same {p = p} d x h k l = subst (λ to. Goes p d (x ∷ []) to) k (other d x h l)
 
 -- ---- the parts of an expression
 
-name_goes : (d : ℕ) (n : List ℕ) → Goes d (w.Name n ∷ []) d
-name_goes d n = same d (w.Name n) refl refl
+name_goes : (d : ℕ) (n : List ℕ) → Goes is_plain d (w.Name n ∷ []) d
+name_goes d n = same d (w.Name n) refl refl refl
 
-leaf_goes : (d : ℕ) (x : Leaf) → Goes d (spell_leaf x) d
-leaf_goes d (number n) = same d (w.Number n) refl refl
-leaf_goes d (text x) = same d (w.Text x) refl refl
-leaf_goes d (truth true) = same d (w.Key t.True) refl refl
-leaf_goes d (truth false) = same d (w.Key t.False) refl refl
-leaf_goes d (name n) = name_goes d n
-leaf_goes d returned = same d (w.Key t.Returned) refl refl
-leaf_goes d (field n f) = led d d d (w.Name n) _ (name_goes d n) (led d d d (w.Key t.Dot) (w.Name f ∷ []) (same d (w.Key t.Dot) refl refl) (name_goes d f))
+leaf_goes : (d : ℕ) (x : Leaf) → Goes is_plain d (spell_leaf x) d
+leaf_goes d (truth false) = same d (w.Key t.False) refl refl refl
+leaf_goes d (field n f) = led d d d (w.Name n) _ (name_goes d n) (led d d d (w.Key t.Dot) (w.Name f ∷ []) (same d (w.Key t.Dot) refl refl refl) (name_goes d f))
+leaf_goes d _ = same d _ refl refl refl
 
-before_goes : (d : ℕ) (p : UnaryOperator) → Goes d (spell_before p ∷ []) d
-before_goes d u.Minus = same d (w.Key t.Minus) refl refl
-before_goes d u.Plus = same d (w.Key t.Plus) refl refl
-before_goes d u.Not = same d (w.Key t.Not) refl refl
+before_goes : (d : ℕ) (p : UnaryOperator) → Goes is_plain d (spell_before p ∷ []) d
+before_goes d u.Minus = same d _ refl refl refl
+before_goes d _ = same d _ refl refl refl
 
-between_goes : (d : ℕ) (p : BinaryOperator) → Goes d (spell_between p) d
-between_goes d b.Times = same d (w.Key t.Times) refl refl
-between_goes d b.Div = same d (w.Key t.Div) refl refl
-between_goes d b.Mod = same d (w.Key t.Mod) refl refl
-between_goes d b.Inter = same d (w.Key t.Inter) refl refl
-between_goes d b.Plus = same d (w.Key t.Plus) refl refl
-between_goes d b.Minus = same d (w.Key t.Minus) refl refl
-between_goes d b.Union = same d (w.Key t.Union) refl refl
-between_goes d b.Range = same d (w.Key t.DotDot) refl refl
-between_goes d b.Equal = same d (w.Key t.Equal) refl refl
-between_goes d b.NotEqual = same d (w.Key t.NotEqual) refl refl
-between_goes d b.Less = same d (w.Key t.Less) refl refl
-between_goes d b.AtMost = same d (w.Key t.AtMost) refl refl
-between_goes d b.Greater = same d (w.Key t.Greater) refl refl
-between_goes d b.AtLeast = same d (w.Key t.AtLeast) refl refl
-between_goes d b.In = same d (w.Key t.In) refl refl
-between_goes d b.NotIn = led d d d (w.Key t.Not) (w.Key t.In ∷ []) (same d (w.Key t.Not) refl refl) (same d (w.Key t.In) refl refl)
-between_goes d b.And = same d (w.Key t.And) refl refl
-between_goes d b.Or = same d (w.Key t.Or) refl refl
+between_goes : (d : ℕ) (p : BinaryOperator) → Goes is_plain d (spell_between p) d
+between_goes d b.NotIn = led d d d (w.Key t.Not) (w.Key t.In ∷ []) (same d (w.Key t.Not) refl refl refl) (same d (w.Key t.In) refl refl refl)
+between_goes d _ = same d _ refl refl refl
 
-aggregate_goes : (d : ℕ) (p : AggregateOperator) → Goes d (spell_aggregate p ∷ []) d
-aggregate_goes d g.Sum = same d (w.Key t.Sum) refl refl
-aggregate_goes d g.Prod = same d (w.Key t.Prod) refl refl
-aggregate_goes d g.Min = same d (w.Key t.Min) refl refl
-aggregate_goes d g.Max = same d (w.Key t.Max) refl refl
-aggregate_goes d g.Union = same d (w.Key t.Union) refl refl
-aggregate_goes d g.And = same d (w.Key t.And) refl refl
-aggregate_goes d g.Or = same d (w.Key t.Or) refl refl
+aggregate_goes : (d : ℕ) (p : AggregateOperator) → Goes is_plain d (spell_aggregate p ∷ []) d
+aggregate_goes d g.Sum = same d _ refl refl refl
+aggregate_goes d _ = same d _ refl refl refl
 
-conversion_goes : (d : ℕ) (p : Conversion) → Goes d (spell_conversion p ∷ []) d
-conversion_goes d c.Integer = same d (w.Key t.Integer) refl refl
-conversion_goes d c.Text = same d (w.Key t.StringWord) refl refl
+conversion_goes : (d : ℕ) (p : Conversion) → Goes is_plain d (spell_conversion p ∷ []) d
+conversion_goes d c.Integer = same d (w.Key t.Integer) refl refl refl
+conversion_goes d c.Text = same d (w.Key t.StringWord) refl refl refl
 
-pub names_go : (d : ℕ) (ns : Names) → Goes (d + 1) (spell_names ns) (d + 1)
+pub names_go : (d : ℕ) (ns : Names) → Goes is_plain (d + 1) (spell_names ns) (d + 1)
 names_go d (one_name n) = name_goes (d + 1) n
-names_go d (and_name n ns) = led (d + 1) (d + 1) (d + 1) (w.Name n) _ (name_goes (d + 1) n) (led (d + 1) (d + 1) (d + 1) (w.Key t.Comma) (spell_names ns) (comma d) (names_go d ns))
+names_go d (and_name n ns) = led (d + 1) (d + 1) (d + 1) (w.Name n) _ (name_goes (d + 1) n) (led (d + 1) (d + 1) (d + 1) (w.Key t.Comma) (spell_names ns) (comma d refl) (names_go d ns))
 
 -- words in round brackets, and what stands behind them
-round : (d : ℕ) (xs ys : List Word) → Goes (d + 1) xs (d + 1) → Goes d ys d → Goes d (w.Key t.OpenRound ∷ (xs ++ w.Key t.CloseRound ∷ ys)) d
-round d xs ys h k = closed d (w.Key t.OpenRound) xs (w.Key t.CloseRound ∷ ys) (open_round d) h (led (d + 1) d d (w.Key t.CloseRound) ys (close d (w.Key t.CloseRound) refl refl) k)
+round : (d : ℕ) (xs ys : List Word) → Goes is_plain (d + 1) xs (d + 1) → Goes is_plain d ys d → Goes is_plain d (w.Key t.OpenRound ∷ (xs ++ w.Key t.CloseRound ∷ ys)) d
+round d xs ys h k = closed d (w.Key t.OpenRound) xs (w.Key t.CloseRound ∷ ys) (open_round d refl) h (led (d + 1) d d (w.Key t.CloseRound) ys (close d (w.Key t.CloseRound) refl refl refl) k)
 
 -- words, a comma, and more words, inside brackets
-with_comma : (d : ℕ) (xs ys : List Word) → Goes (d + 1) xs (d + 1) → Goes (d + 1) ys (d + 1) → Goes (d + 1) (xs ++ w.Key t.Comma ∷ ys) (d + 1)
-with_comma d xs ys h k = joined (d + 1) (d + 1) (d + 1) xs (w.Key t.Comma ∷ ys) h (led (d + 1) (d + 1) (d + 1) (w.Key t.Comma) ys (comma d) k)
+with_comma : (d : ℕ) (xs ys : List Word) → Goes is_plain (d + 1) xs (d + 1) → Goes is_plain (d + 1) ys (d + 1) → Goes is_plain (d + 1) (xs ++ w.Key t.Comma ∷ ys) (d + 1)
+with_comma d xs ys h k = joined (d + 1) (d + 1) (d + 1) xs (w.Key t.Comma ∷ ys) h (led (d + 1) (d + 1) (d + 1) (w.Key t.Comma) ys (comma d refl) k)
 
-choice_goes : (d : ℕ) (xs ys zs : List Word) → Goes (d + 1) xs (d + 1) → Goes (d + 1) ys (d + 1) → Goes (d + 1) zs (d + 1) → Goes (d + 1) (xs ++ w.Key t.Comma ∷ (ys ++ w.Key t.Comma ∷ (zs ++ w.Key t.CloseRound ∷ []))) d
+choice_goes : (d : ℕ) (xs ys zs : List Word) → Goes is_plain (d + 1) xs (d + 1) → Goes is_plain (d + 1) ys (d + 1) → Goes is_plain (d + 1) zs (d + 1) → Goes is_plain (d + 1) (xs ++ w.Key t.Comma ∷ (ys ++ w.Key t.Comma ∷ (zs ++ w.Key t.CloseRound ∷ []))) d
 choice_goes d xs ys zs h k l =
-    let last : Goes (d + 1) (zs ++ w.Key t.CloseRound ∷ []) d = joined (d + 1) (d + 1) d zs (w.Key t.CloseRound ∷ []) l (close d (w.Key t.CloseRound) refl refl) in
-    let more : Goes (d + 1) (ys ++ w.Key t.Comma ∷ (zs ++ w.Key t.CloseRound ∷ [])) d = joined (d + 1) (d + 1) d ys _ k (led (d + 1) (d + 1) d (w.Key t.Comma) _ (comma d) last) in
-    joined (d + 1) (d + 1) d xs _ h (led (d + 1) (d + 1) d (w.Key t.Comma) _ (comma d) more)
+    let last : Goes is_plain (d + 1) (zs ++ w.Key t.CloseRound ∷ []) d = joined (d + 1) (d + 1) d zs (w.Key t.CloseRound ∷ []) l (close d (w.Key t.CloseRound) refl refl refl) in
+    let more : Goes is_plain (d + 1) (ys ++ w.Key t.Comma ∷ (zs ++ w.Key t.CloseRound ∷ [])) d = joined (d + 1) (d + 1) d ys _ k (led (d + 1) (d + 1) d (w.Key t.Comma) _ (comma d refl) last) in
+    joined (d + 1) (d + 1) d xs _ h (led (d + 1) (d + 1) d (w.Key t.Comma) _ (comma d refl) more)
 
 mutual
-  pub syntax_goes : (d : ℕ) (s : Syntax) → Goes d (spell s) d
+  pub syntax_goes : (d : ℕ) (s : Syntax) → Goes is_plain d (spell s) d
   syntax_goes d (leaf x) = leaf_goes d x
   syntax_goes d (call n xs) = led d d d (w.Name n) _ (name_goes d n) (round d (spell_list xs) [] (list_goes d xs) (nothing d))
   syntax_goes d (call_field n xs f) =
       led d d d (w.Name n) _ (name_goes d n)
-      (round d (spell_list xs) (w.Key t.Dot ∷ w.Name f ∷ []) (list_goes d xs) (led d d d (w.Key t.Dot) (w.Name f ∷ []) (same d (w.Key t.Dot) refl refl) (name_goes d f)))
-  syntax_goes d (set xs) = closed d (w.Key t.OpenCurly) (spell_list xs) (w.Key t.CloseCurly ∷ []) (other d (w.Key t.OpenCurly) refl) (list_goes d xs) (close d (w.Key t.CloseCurly) refl refl)
-  syntax_goes d (list xs) = closed d (w.Key t.OpenSquare) (spell_list xs) (w.Key t.CloseSquare ∷ []) (other d (w.Key t.OpenSquare) refl) (list_goes d xs) (close d (w.Key t.CloseSquare) refl refl)
+      (round d (spell_list xs) (w.Key t.Dot ∷ w.Name f ∷ []) (list_goes d xs) (led d d d (w.Key t.Dot) (w.Name f ∷ []) (same d (w.Key t.Dot) refl refl refl) (name_goes d f)))
+  syntax_goes d (set xs) = closed d (w.Key t.OpenCurly) (spell_list xs) (w.Key t.CloseCurly ∷ []) (other d (w.Key t.OpenCurly) refl refl) (list_goes d xs) (close d (w.Key t.CloseCurly) refl refl refl)
+  syntax_goes d (list xs) = closed d (w.Key t.OpenSquare) (spell_list xs) (w.Key t.CloseSquare ∷ []) (other d (w.Key t.OpenSquare) refl refl) (list_goes d xs) (close d (w.Key t.CloseSquare) refl refl refl)
   syntax_goes d (bracket s) = round d (spell s) [] (syntax_goes (d + 1) s) (nothing d)
   syntax_goes d (if_expr x y z) =
-      led d d d (w.Key t.If) _ (same d (w.Key t.If) refl refl)
-      (led d (d + 1) d (w.Key t.OpenRound) _ (open_round d) (choice_goes d (spell x) (spell y) (spell z) (syntax_goes (d + 1) x) (syntax_goes (d + 1) y) (syntax_goes (d + 1) z)))
+      led d d d (w.Key t.If) _ (same d (w.Key t.If) refl refl refl)
+      (led d (d + 1) d (w.Key t.OpenRound) _ (open_round d refl) (choice_goes d (spell x) (spell y) (spell z) (syntax_goes (d + 1) x) (syntax_goes (d + 1) y) (syntax_goes (d + 1) z)))
   syntax_goes d (convert p s) = led d d d (spell_conversion p) _ (conversion_goes d p) (round d (spell s) [] (syntax_goes (d + 1) s) (nothing d))
   syntax_goes d (before p s) = led d d d (spell_before p) (spell s) (before_goes d p) (syntax_goes d s)
   syntax_goes d (between p x y) = joined d d d (spell x) (spell_between p ++ spell y) (syntax_goes d x) (joined d d d (spell_between p) (spell y) (between_goes d p) (syntax_goes d y))
   syntax_goes d (aggregate p i s) = led d d d (spell_aggregate p) _ (aggregate_goes d p) (round d (spell_over i) (spell s) (over_goes d i) (syntax_goes d s))
-  syntax_goes d (counted i) = led d d d (w.Key t.Count) _ (same d (w.Key t.Count) refl refl) (round d (spell_over i) [] (over_goes d i) (nothing d))
+  syntax_goes d (counted i) = led d d d (w.Key t.Count) _ (same d (w.Key t.Count) refl refl refl) (round d (spell_over i) [] (over_goes d i) (nothing d))
 
-  list_goes : (d : ℕ) (ss : Written) → Goes (d + 1) (spell_list ss) (d + 1)
+  pub list_goes : (d : ℕ) (ss : Written) → Goes is_plain (d + 1) (spell_list ss) (d + 1)
   list_goes d no_more = nothing (d + 1)
   list_goes d (one_more s ss) = joined (d + 1) (d + 1) (d + 1) (spell s) (spell_rest ss) (syntax_goes (d + 1) s) (rest_goes d ss)
 
-  rest_goes : (d : ℕ) (ss : Written) → Goes (d + 1) (spell_rest ss) (d + 1)
+  rest_goes : (d : ℕ) (ss : Written) → Goes is_plain (d + 1) (spell_rest ss) (d + 1)
   rest_goes d no_more = nothing (d + 1)
-  rest_goes d (one_more s ss) = led (d + 1) (d + 1) (d + 1) (w.Key t.Comma) _ (comma d) (joined (d + 1) (d + 1) (d + 1) (spell s) (spell_rest ss) (syntax_goes (d + 1) s) (rest_goes d ss))
+  rest_goes d (one_more s ss) = led (d + 1) (d + 1) (d + 1) (w.Key t.Comma) _ (comma d refl) (joined (d + 1) (d + 1) (d + 1) (spell s) (spell_rest ss) (syntax_goes (d + 1) s) (rest_goes d ss))
 
-  over_goes : (d : ℕ) (i : Over) → Goes (d + 1) (spell_over i) (d + 1)
-  over_goes d (last_set ns s) = joined (d + 1) (d + 1) (d + 1) (spell_names ns) _ (names_go d ns) (led (d + 1) (d + 1) (d + 1) (w.Key t.In) (spell s) (same (d + 1) (w.Key t.In) refl refl) (syntax_goes (d + 1) s))
+  pub over_goes : (d : ℕ) (i : Over) → Goes is_plain (d + 1) (spell_over i) (d + 1)
+  over_goes d (last_set ns s) = joined (d + 1) (d + 1) (d + 1) (spell_names ns) _ (names_go d ns) (led (d + 1) (d + 1) (d + 1) (w.Key t.In) (spell s) (same (d + 1) (w.Key t.In) refl refl refl) (syntax_goes (d + 1) s))
   over_goes d (such_that ns s k) =
       joined (d + 1) (d + 1) (d + 1) (spell_names ns) _ (names_go d ns)
-      (led (d + 1) (d + 1) (d + 1) (w.Key t.In) _ (same (d + 1) (w.Key t.In) refl refl)
-      (joined (d + 1) (d + 1) (d + 1) (spell s) _ (syntax_goes (d + 1) s) (led (d + 1) (d + 1) (d + 1) (w.Key t.Bar) (spell k) (same (d + 1) (w.Key t.Bar) refl refl) (syntax_goes (d + 1) k))))
+      (led (d + 1) (d + 1) (d + 1) (w.Key t.In) _ (same (d + 1) (w.Key t.In) refl refl refl)
+      (joined (d + 1) (d + 1) (d + 1) (spell s) _ (syntax_goes (d + 1) s) (led (d + 1) (d + 1) (d + 1) (w.Key t.Bar) (spell k) (same (d + 1) (w.Key t.Bar) refl refl refl) (syntax_goes (d + 1) k))))
   over_goes d (another ns s i) =
       joined (d + 1) (d + 1) (d + 1) (spell_names ns) _ (names_go d ns)
-      (led (d + 1) (d + 1) (d + 1) (w.Key t.In) _ (same (d + 1) (w.Key t.In) refl refl) (with_comma d (spell s) (spell_over i) (syntax_goes (d + 1) s) (over_goes d i)))
+      (led (d + 1) (d + 1) (d + 1) (w.Key t.In) _ (same (d + 1) (w.Key t.In) refl refl refl) (with_comma d (spell s) (spell_over i) (syntax_goes (d + 1) s) (over_goes d i)))
 
 -- ---- what is cut
 
@@ -175,58 +168,37 @@ and_true : (a b : Bool) → (a && b) ≡ true → b ≡ true
 and_true true b e = e
 and_true false b e = cc
 
-comma_is : (x : Word) → is_comma x ≡ true → x ≡ w.Key t.Comma
-comma_is (w.Key t.Comma) e = refl
-comma_is _ e = cc
+mark_is : (mark : Mark) (x : Word) → is_mark mark x ≡ true → x ≡ w.Key (token_at mark)
+mark_is marks.Comma (w.Key t.Comma) e = refl
+mark_is marks.Colon (w.Key t.Colon) e = refl
+mark_is _ _ e = cc
 
-cut_more : (x : Word) (xs : List Word) (q : Halves) (first rest : List Word) → ((a b : List Word) → q ≡ Some (a, b) → xs ≡ a ++ w.Key t.Comma ∷ b) → ahead (x ∷ []) q ≡ Some (first, rest) → x ∷ xs ≡ first ++ w.Key t.Comma ∷ rest
-cut_more x xs None first rest known e = cc
-cut_more x xs (Some (a, b)) first rest known e =
+cut_more : (y x : Word) (xs : List Word) (q : Halves) (first rest : List Word) → ((a b : List Word) → q ≡ Some (a, b) → xs ≡ a ++ y ∷ b) → ahead (x ∷ []) q ≡ Some (first, rest) → x ∷ xs ≡ first ++ y ∷ rest
+cut_more y x xs None first rest known e = cc
+cut_more y x xs (Some (a, b)) first rest known e =
     let p : List Word × List Word = (x ∷ a, b) in
     let o : p ≡ (first, rest) = cc in
-    ap (λ z. x ∷ z) (known a b refl) ∙ ap (λ (z : List Word × List Word). z.0 ++ w.Key t.Comma ∷ z.1) o
+    ap (λ z. x ∷ z) (known a b refl) ∙ ap (λ (z : List Word × List Word). z.0 ++ y ∷ z.1) o
 
 -- the parts of what is cut
-pub cut_sound : (d : ℕ) (words first rest : List Word) → cut d words ≡ Some (first, rest) → words ≡ first ++ w.Key t.Comma ∷ rest
-cut_sound d [] first rest e = cc
-cut_sound d (x ∷ xs) first rest e = on_bool (nat_eq d 0 && is_comma x)
+pub cut_sound : (mark : Mark) (d : ℕ) (words first rest : List Word) → cut mark d words ≡ Some (first, rest) → words ≡ first ++ w.Key (token_at mark) ∷ rest
+cut_sound mark d [] first rest e = cc
+cut_sound mark d (x ∷ xs) first rest e = on_bool (nat_eq d 0 && is_mark mark x)
     (λ h.
     let p : Some ([], xs) ≡ Some (first, rest) = rw h at e in
     let l : List Word × List Word = ([], xs) in
     let o : l ≡ (first, rest) = cc in
-    rw (comma_is x (and_true (nat_eq d 0) (is_comma x) h)) (ap (λ (z : List Word × List Word). z.0 ++ w.Key t.Comma ∷ z.1) o))
-    (λ h. cut_more x xs (cut (depth_behind x d) xs) first rest (cut_sound (depth_behind x d) xs) (rw h at e))
+    rw (mark_is mark x (and_true (nat_eq d 0) (is_mark mark x) h)) (ap (λ (z : List Word × List Word). z.0 ++ w.Key (token_at mark) ∷ z.1) o))
+    (λ h. cut_more (w.Key (token_at mark)) x xs (cut mark (depth_behind x d) xs) first rest (cut_sound mark (depth_behind x d) xs) (rw h at e))
 
 -- words that are not cut, alone and before a comma
-pub cut_none : (words : List Word) → Goes 0 words 0 → cut 0 words ≡ None
-cut_none words g = ap (cut 0) (sym (append-nil words)) ∙ g.on []
+pub cut_none : (words : List Word) → Goes any 0 words 0 → cut marks.Comma 0 words ≡ None
+cut_none words g = ap (cut marks.Comma 0) (sym (append-nil words)) ∙ g.on []
 
-pub cut_at : (words rest : List Word) → Goes 0 words 0 → cut 0 (words ++ w.Key t.Comma ∷ rest) ≡ Some (words, rest)
+pub cut_at : (words rest : List Word) → Goes any 0 words 0 → cut marks.Comma 0 (words ++ w.Key t.Comma ∷ rest) ≡ Some (words, rest)
 cut_at words rest g = g.on (w.Key t.Comma ∷ rest) ∙ ap (λ z. Some (z, rest)) (append-nil words)
 
--- ---- the cut at a colon
-
-colon_is : (x : Word) → is_colon x ≡ true → x ≡ w.Key t.Colon
-colon_is (w.Key t.Colon) e = refl
-colon_is _ e = cc
-
-colon_more : (x : Word) (xs : List Word) (q : Halves) (first rest : List Word) → ((a b : List Word) → q ≡ Some (a, b) → xs ≡ a ++ w.Key t.Colon ∷ b) → ahead (x ∷ []) q ≡ Some (first, rest) → x ∷ xs ≡ first ++ w.Key t.Colon ∷ rest
-colon_more x xs None first rest known e = cc
-colon_more x xs (Some (a, b)) first rest known e =
-    let p : List Word × List Word = (x ∷ a, b) in
-    let o : p ≡ (first, rest) = cc in
-    ap (λ z. x ∷ z) (known a b refl) ∙ ap (λ (z : List Word × List Word). z.0 ++ w.Key t.Colon ∷ z.1) o
-
-pub colon_sound : (words first rest : List Word) → cut_at_colon words ≡ Some (first, rest) → words ≡ first ++ w.Key t.Colon ∷ rest
-colon_sound [] first rest e = cc
-colon_sound (x ∷ xs) first rest e = on_bool (is_colon x)
-    (λ h.
-    let p : Some ([], xs) ≡ Some (first, rest) = rw h at e in
-    let l : List Word × List Word = ([], xs) in
-    let o : l ≡ (first, rest) = cc in
-    rw (colon_is x h) (ap (λ (z : List Word × List Word). z.0 ++ w.Key t.Colon ∷ z.1) o))
-    (λ h. colon_more x xs (cut_at_colon xs) first rest (colon_sound xs) (rw h at e))
-
-pub colon_at : (ns : Names) (rest : List Word) → cut_at_colon (spell_names ns ++ w.Key t.Colon ∷ rest) ≡ Some (spell_names ns, rest)
+-- the names before a colon
+pub colon_at : (ns : Names) (rest : List Word) → cut marks.Colon 0 (spell_names ns ++ w.Key t.Colon ∷ rest) ≡ Some (spell_names ns, rest)
 colon_at (one_name n) rest = refl
 colon_at (and_name n ns) rest = ap (λ z. ahead (w.Name n ∷ []) (ahead (w.Key t.Comma ∷ []) z)) (colon_at ns rest)

@@ -11,23 +11,23 @@ use Rattle.mos_scan.specs.declared.reading.Word.{Word}
 use Rattle.mos_scan.specs.declared.reading.Word.TheVariants as w
 use Rattle.mos_expr.specs.Grammar.{Syntax, spell, tree, limit}
 use Rattle.mos_expr.specs.declared.fault.ExprFault.{ExprFault}
-use Rattle.mos_typing.specs.Typing.{Dim, any_range, any_set, within, Dims, last_dim, and_dim, base_words, dim_words, dims_words, dimension_of, dimensions_of, tallest_dim, tallest_dims, DimIsGrouped, DimsAreGrouped}
+use Rattle.mos_typing.specs.Typing.{Dim, any_range, any_set, within, Dims, last_dim, and_dim, base_word, base_words, dim_words, dims_words, dimension_of, dimensions_of, tallest_dim, tallest_dims, DimIsGrouped, DimsAreGrouped}
 use Rattle.mos_typing.specs.Words.{ArePlain}
+use Rattle.mos_typing.specs.declared.cut.Mark.TheVariants as marks
 use Rattle.mos_typing.specs.Cutting.{cut}
 use Rattle.mos_typing.specs.Joining.{on_ok, or_nothing, both, alone, first_of}
 use Rattle.mos_typing.specs.Reader.{base_of}
 use Rattle.mos_typing.specs.Shapes.{is_range, set_of}
 use Rattle.mos_expr.specs.Said.{IsExpression, Says, Gives}
 use Rattle.mos_typing.specs.Spellings.{IsDimension, AreDimensions}
-use Rattle.mos_typing.proofs.Plain.{plain_syntax}
-use Rattle.mos_typing.proofs.Bases.{base_known, base_read, base_word, base_is, IsBase, says_base}
+use Rattle.mos_typing.proofs.Bases.{base_known, base_read, IsBase, says_base}
 use Rattle.mos_typing.proofs.Cases.{none_some, some_same}
-use Rattle.mos_typing.proofs.Cuts.{Goes, joined, led, same, comma, syntax_goes, cut_sound, cut_none, cut_at}
+use Rattle.mos_typing.proofs.Cuts.{Goes, any, loose, joined, led, same, comma, syntax_goes, cut_sound, cut_none, cut_at}
 use Rattle.mos_typing.proofs.Saying.{says_made, says_on_ok, Parts, says_both}
 
 -- the words of an expression are plain
 plain : (s : Syntax) (words : List Word) → words ≡ spell s → ArePlain words
-plain s words e = subst ArePlain (sym e) (plain_syntax s)
+plain s words e = subst ArePlain (sym e) (syntax_goes 0 s).all
 
 range_is : (words : List Word) → is_range words ≡ true → words ≡ w.Key t.Range ∷ []
 range_is (w.Key t.Range ∷ []) e = refl
@@ -50,14 +50,14 @@ says_range words e =
 
 set_back : (b : Word) (d : Dimension) (h : ℕ) (x : Dim) → set_of b ≡ dim_words x → d ≡ dimension_of x → h ≡ tallest_dim x → (s : BaseType) × IsBase b s h × (d ≡ dimension.Set s)
 set_back b d h any_range e i k = cc
-set_back b d h (any_set s) e i k = let p : base_words s ≡ b ∷ [] = cc in (s, record { is = base_read s b p; high_is = k }, i)
+set_back b d h (any_set s) e i k = let p : b ≡ base_word s = cc in (s, record { is = ap base_of p ∙ base_read s; high_is = k }, i)
 set_back b d h (within s) e i k = let p : ArePlain (set_of b) = plain s _ e in cc
 
 pub says_set : (words : List Word) (b : Word) (r : Result BaseType ExprFault) (s : Result Dimension ExprFault) → words ≡ set_of b → Gives r (or_nothing (base_of b)) → s ≡ on_ok dimension.Set r → Says (IsDimension words) s
 says_set words b r s e g i =
     subst (Says (IsDimension words)) (sym i)
     (says_on_ok (IsBase b) (IsDimension words) dimension.Set r
-    (λ c h k. record { written = any_set c; grouped = tt; exact = e ∙ ap (λ z. w.Key t.Set ∷ w.Key t.Of ∷ z) (sym (base_known b c k.is)); is = refl; high_is = k.high_is })
+    (λ c h k. record { written = any_set c; grouped = tt; exact = e ∙ ap set_of (base_known b c k.is); is = refl; high_is = k.high_is })
     (λ d h k. set_back b d h k.written (sym e ∙ k.exact) k.is k.high_is)
     (says_base b r g))
 
@@ -65,7 +65,7 @@ says_set words b r s e g i =
 
 over_back : (words : List Word) → is_range words ≡ false → ((b : Word) → words ≡ set_of b → ⊥) → (d : Dimension) (h : ℕ) (x : Dim) → DimIsGrouped x → words ≡ dim_words x → d ≡ dimension_of x → h ≡ tallest_dim x → (s : Expr) × IsExpression words s h × (d ≡ dimension.Over s)
 over_back words r n d h any_range g e i k = let p : is_range words ≡ true = ap is_range e in let o : false ≡ true = sym r ∙ p in cc
-over_back words r n d h (any_set b) g e i k = absurd (n (base_word b) (e ∙ ap (λ z. w.Key t.Set ∷ w.Key t.Of ∷ z) (base_is b)))
+over_back words r n d h (any_set b) g e i k = absurd (n (base_word b) e)
 over_back words r n d h (within s) g e i k = (tree s, record { written = s; grouped = g; exact = e; is = refl; high_is = k }, i)
 
 pub says_over : (words : List Word) (r : Result Expr ExprFault) (s : Result Dimension ExprFault) → is_range words ≡ false → ((b : Word) → words ≡ set_of b → ⊥) → Says (IsExpression words) r → s ≡ on_ok dimension.Over r → Says (IsDimension words) s
@@ -78,31 +78,29 @@ says_over words r s e n said i =
 
 -- ---- no index is cut
 
-pub base_goes : (d : ℕ) (b : BaseType) → Goes d (base_words b) d
-base_goes d base.Integer = same d (w.Key t.Integer) refl refl
-base_goes d base.Boolean = same d (w.Key t.Boolean) refl refl
-base_goes d base.Text = same d (w.Key t.StringWord) refl refl
-base_goes d (base.Named n) = same d (w.Name n) refl refl
+pub base_goes : (d : ℕ) (b : BaseType) → Goes any d (base_words b) d
+base_goes d base.Integer = same d _ refl refl refl
+base_goes d _ = same d _ refl refl refl
 
-pub member_goes : (d : ℕ) (x : Word) (b : BaseType) → Goes d (x ∷ []) d → Goes d (x ∷ w.Key t.Of ∷ base_words b) d
-member_goes d x b g = led d d d x _ g (led d d d (w.Key t.Of) (base_words b) (same d (w.Key t.Of) refl refl) (base_goes d b))
+pub member_goes : (d : ℕ) (x : Word) (b : BaseType) → Goes any d (x ∷ []) d → Goes any d (x ∷ w.Key t.Of ∷ base_words b) d
+member_goes d x b g = led d d d x _ g (led d d d (w.Key t.Of) (base_words b) (same d (w.Key t.Of) refl refl refl) (base_goes d b))
 
-dim_goes : (d : ℕ) (x : Dim) → Goes d (dim_words x) d
-dim_goes d any_range = same d (w.Key t.Range) refl refl
-dim_goes d (any_set b) = member_goes d (w.Key t.Set) b (same d (w.Key t.Set) refl refl)
-dim_goes d (within s) = syntax_goes d s
+pub dim_goes : (d : ℕ) (x : Dim) → Goes any d (dim_words x) d
+dim_goes d any_range = same d (w.Key t.Range) refl refl refl
+dim_goes d (any_set b) = member_goes d (w.Key t.Set) b (same d (w.Key t.Set) refl refl refl)
+dim_goes d (within s) = loose d d (spell s) (syntax_goes d s)
 
-pub dims_go : (d : ℕ) (ds : Dims) → Goes (d + 1) (dims_words ds) (d + 1)
+pub dims_go : (d : ℕ) (ds : Dims) → Goes any (d + 1) (dims_words ds) (d + 1)
 dims_go d (last_dim x) = dim_goes (d + 1) x
-dims_go d (and_dim x ds) = joined (d + 1) (d + 1) (d + 1) (dim_words x) _ (dim_goes (d + 1) x) (led (d + 1) (d + 1) (d + 1) (w.Key t.Comma) (dims_words ds) (comma d) (dims_go d ds))
+dims_go d (and_dim x ds) = joined (d + 1) (d + 1) (d + 1) (dim_words x) _ (dim_goes (d + 1) x) (led (d + 1) (d + 1) (d + 1) (w.Key t.Comma) (dims_words ds) (comma d refl) (dims_go d ds))
 
 -- ---- indexes with commas between them
 
-last_back : (words : List Word) → cut 0 words ≡ None → (all : List Dimension) (h : ℕ) (ds : Dims) → DimsAreGrouped ds → words ≡ dims_words ds → all ≡ dimensions_of ds → h ≡ tallest_dims ds → (d : Dimension) × IsDimension words d h × (all ≡ alone d)
+last_back : (words : List Word) → cut marks.Comma 0 words ≡ None → (all : List Dimension) (h : ℕ) (ds : Dims) → DimsAreGrouped ds → words ≡ dims_words ds → all ≡ dimensions_of ds → h ≡ tallest_dims ds → (d : Dimension) × IsDimension words d h × (all ≡ alone d)
 last_back words n all h (last_dim x) g e i k = (dimension_of x, record { written = x; grouped = g; exact = e; is = refl; high_is = k }, i)
-last_back words n all h (and_dim x ds) g e i k = none_some (cut 0 words) (dim_words x, dims_words ds) n (ap (cut 0) e ∙ cut_at (dim_words x) (dims_words ds) (dim_goes 0 x))
+last_back words n all h (and_dim x ds) g e i k = none_some (cut marks.Comma 0 words) (dim_words x, dims_words ds) n (ap (cut marks.Comma 0) e ∙ cut_at (dim_words x) (dims_words ds) (dim_goes 0 x))
 
-pub says_last : (words : List Word) (r : Result Dimension ExprFault) → cut 0 words ≡ None → Says (IsDimension words) r → Says (AreDimensions words) (on_ok alone r)
+pub says_last : (words : List Word) (r : Result Dimension ExprFault) → cut marks.Comma 0 words ≡ None → Says (IsDimension words) r → Says (AreDimensions words) (on_ok alone r)
 says_last words r n k =
     says_on_ok (IsDimension words) (AreDimensions words) alone r
     (λ d h s. record { written = last_dim s.written; grouped = s.grouped; exact = s.exact; is = ap alone s.is; high_is = s.high_is })
@@ -111,11 +109,11 @@ says_last words r n k =
 abbrev TwoParts : List Word → List Word → List Dimension → ℕ → Type 0
 TwoParts first rest = Parts (IsDimension first) (AreDimensions rest) first_of
 
-more_back : (words first rest : List Word) → cut 0 words ≡ Some (first, rest) → (all : List Dimension) (h : ℕ) (ds : Dims) → DimsAreGrouped ds → words ≡ dims_words ds → all ≡ dimensions_of ds → h ≡ tallest_dims ds → TwoParts first rest all h
-more_back words first rest c all h (last_dim x) g e i k = none_some (cut 0 words) (first, rest) (ap (cut 0) e ∙ cut_none (dim_words x) (dim_goes 0 x)) c
+more_back : (words first rest : List Word) → cut marks.Comma 0 words ≡ Some (first, rest) → (all : List Dimension) (h : ℕ) (ds : Dims) → DimsAreGrouped ds → words ≡ dims_words ds → all ≡ dimensions_of ds → h ≡ tallest_dims ds → TwoParts first rest all h
+more_back words first rest c all h (last_dim x) g e i k = none_some (cut marks.Comma 0 words) (first, rest) (ap (cut marks.Comma 0) e ∙ cut_none (dim_words x) (dim_goes 0 x)) c
 more_back words first rest c all h (and_dim x ds) g e i k =
     let l : List Word × List Word = (first, rest) in
-    let o : l ≡ (dim_words x, dims_words ds) = some_same (cut 0 words) l (dim_words x, dims_words ds) c (ap (cut 0) e ∙ cut_at (dim_words x) (dims_words ds) (dim_goes 0 x)) in
+    let o : l ≡ (dim_words x, dims_words ds) = some_same (cut marks.Comma 0 words) l (dim_words x, dims_words ds) c (ap (cut marks.Comma 0) e ∙ cut_at (dim_words x) (dims_words ds) (dim_goes 0 x)) in
     record {
       first = dimension_of x;
       first_high = tallest_dim x;
@@ -127,13 +125,13 @@ more_back words first rest c all h (and_dim x ds) g e i k =
       high_is = k;
     }
 
-pub says_more : (words first rest : List Word) (p : Result Dimension ExprFault) → cut 0 words ≡ Some (first, rest) → Says (IsDimension first) p → (r : Result (List Dimension) ExprFault) → Says (AreDimensions rest) r → Says (AreDimensions words) (both first_of p r)
+pub says_more : (words first rest : List Word) (p : Result Dimension ExprFault) → cut marks.Comma 0 words ≡ Some (first, rest) → Says (IsDimension first) p → (r : Result (List Dimension) ExprFault) → Says (AreDimensions rest) r → Says (AreDimensions words) (both first_of p r)
 says_more words first rest p c k r l =
     says_both (IsDimension first) (AreDimensions rest) (AreDimensions words) first_of
     (λ d h all m s more. record {
       written = and_dim s.written more.written;
       grouped = (s.grouped, more.grouped);
-      exact = cut_sound 0 words first rest c ∙ ap (λ z. z ++ w.Key t.Comma ∷ rest) s.exact ∙ ap (λ z. dim_words s.written ++ w.Key t.Comma ∷ z) more.exact;
+      exact = cut_sound marks.Comma 0 words first rest c ∙ ap (λ z. z ++ w.Key t.Comma ∷ rest) s.exact ∙ ap (λ z. dim_words s.written ++ w.Key t.Comma ∷ z) more.exact;
       is = ap (λ z. z ∷ all) s.is ∙ ap (λ z. dimension_of s.written ∷ z) more.is;
       high_is = ap (λ z. max z m) s.high_is ∙ ap (λ z. max (tallest_dim s.written) z) more.high_is;
     })

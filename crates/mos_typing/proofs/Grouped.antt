@@ -12,13 +12,14 @@ use Rattle.mos_expr.specs.Grammar.{Names, one_name, and_name, spell_names, list_
 use Rattle.mos_expr.specs.declared.fault.ExprFault.{ExprFault}
 use Rattle.mos_expr.specs.declared.fault.ExprFault.TheVariants as x
 use Rattle.mos_typing.specs.Typing.{Typing, of_base, a_range, a_set, a_list, an_array, Groups, last_group, and_group, Formals, no_brackets, empty_brackets, formals, in_brackets, dynamic_words, base_words, dims_words, typing_words, group_words, formal_words, type_of, groups_of, formals_of, tallest_type, tallest_groups, tallest_formals, GroupsAreGrouped, FormalsAreGrouped}
-use Rattle.mos_typing.specs.Cutting.{Halves, Group, cut, cut_at_colon, first_group, typed_cut, group_cut}
+use Rattle.mos_typing.specs.declared.cut.Mark.TheVariants as marks
+use Rattle.mos_typing.specs.Cutting.{Halves, Group, cut, first_group, typed_cut, group_cut}
 use Rattle.mos_typing.specs.Joining.{on_ok, both, alone, first_of}
 use Rattle.mos_typing.specs.Reader.{names_of, group_of}
 use Rattle.mos_expr.specs.Said.{Says}
 use Rattle.mos_typing.specs.Spellings.{IsTypeForm, AreGroups, IsGroup, IsOnlyGroup, AreFormalGroups}
 use Rattle.mos_typing.proofs.Cases.{none_some, some_same}
-use Rattle.mos_typing.proofs.Cuts.{Goes, nothing, joined, led, same, open_round, close, closed, cut_sound, cut_none, cut_at, colon_sound, colon_at}
+use Rattle.mos_typing.proofs.Cuts.{Goes, any, nothing, joined, led, same, open_round, close, closed, cut_sound, cut_none, cut_at, colon_at}
 use Rattle.mos_typing.proofs.Dimensioned.{base_goes, member_goes, dims_go}
 use Rattle.mos_typing.proofs.Ended.{SameEnd, one_end}
 use Rattle.mos_typing.proofs.Listed.{AreNames, names_known, names_read}
@@ -26,21 +27,21 @@ use Rattle.mos_typing.proofs.Saying.{says_nothing, says_made, says_on_ok, says_s
 
 -- ---- no type is cut
 
-dynamic_goes : (d : ℕ) (dynamic : _) → Goes d (dynamic_words dynamic) d
-dynamic_goes d true = same d (w.Key t.Dynamic) refl refl
+dynamic_goes : (d : ℕ) (dynamic : _) → Goes any d (dynamic_words dynamic) d
+dynamic_goes d true = same d (w.Key t.Dynamic) refl refl refl
 dynamic_goes d false = nothing d
 
-typing_goes : (d : ℕ) (x : Typing) → Goes d (typing_words x) d
+typing_goes : (d : ℕ) (x : Typing) → Goes any d (typing_words x) d
 typing_goes d (of_base b) = base_goes d b
-typing_goes d a_range = same d (w.Key t.Range) refl refl
-typing_goes d (a_set b) = member_goes d (w.Key t.Set) b (same d (w.Key t.Set) refl refl)
-typing_goes d (a_list b) = member_goes d (w.Key t.List) b (same d (w.Key t.List) refl refl)
+typing_goes d a_range = same d (w.Key t.Range) refl refl refl
+typing_goes d (a_set b) = member_goes d (w.Key t.Set) b (same d (w.Key t.Set) refl refl refl)
+typing_goes d (a_list b) = member_goes d (w.Key t.List) b (same d (w.Key t.List) refl refl refl)
 typing_goes d (an_array dynamic ds b) =
     joined d d d (dynamic_words dynamic) _ (dynamic_goes d dynamic)
-    (led d d d (w.Key t.Array) _ (same d (w.Key t.Array) refl refl)
+    (led d d d (w.Key t.Array) _ (same d (w.Key t.Array) refl refl refl)
     (joined d d d (in_brackets (dims_words ds)) (w.Key t.Of ∷ base_words b)
-    (closed d (w.Key t.OpenRound) (dims_words ds) (w.Key t.CloseRound ∷ []) (open_round d) (dims_go d ds) (close d (w.Key t.CloseRound) refl refl))
-    (led d d d (w.Key t.Of) (base_words b) (same d (w.Key t.Of) refl refl) (base_goes d b))))
+    (closed d (w.Key t.OpenRound) (dims_words ds) (w.Key t.CloseRound ∷ []) (open_round d refl) (dims_go d ds) (close d (w.Key t.CloseRound) refl refl refl))
+    (led d d d (w.Key t.Of) (base_words b) (same d (w.Key t.Of) refl refl refl) (base_goes d b))))
 
 -- ---- one group
 
@@ -74,35 +75,35 @@ one_words ns x = spell_names ns ++ w.Key t.Colon ∷ typing_words x
 abbrev more_words : Names → Typing → Groups → List Word
 more_words ns x gs = spell_names ns ++ w.Key t.Colon ∷ (typing_words x ++ w.Key t.Comma ∷ group_words gs)
 
-one_first : (ns : Names) (x : Typing) → first_group (one_words ns x) ≡ None
+pub one_first : (ns : Names) (x : Typing) → first_group (one_words ns x) ≡ None
 one_first ns x = ap typed_cut (colon_at ns (typing_words x)) ∙ ap (group_cut (spell_names ns)) (cut_none (typing_words x) (typing_goes 0 x))
 
 abbrev cut_of : Names → Typing → Groups → Group
 cut_of ns x gs = (spell_names ns, typing_words x, group_words gs)
 
-more_first : (ns : Names) (x : Typing) (gs : Groups) → first_group (more_words ns x gs) ≡ Some (cut_of ns x gs)
+pub more_first : (ns : Names) (x : Typing) (gs : Groups) → first_group (more_words ns x gs) ≡ Some (cut_of ns x gs)
 more_first ns x gs =
     ap typed_cut (colon_at ns (typing_words x ++ w.Key t.Comma ∷ group_words gs))
     ∙ ap (group_cut (spell_names ns)) (cut_at (typing_words x) (group_words gs) (typing_goes 0 x))
 
-groups_colon : (gs : Groups) (words : List Word) → words ≡ group_words gs → cut_at_colon words ≡ None → ⊥
-groups_colon (last_group ns x) words e n = none_some (cut_at_colon words) (spell_names ns, typing_words x) n (ap cut_at_colon e ∙ colon_at ns (typing_words x))
+groups_colon : (gs : Groups) (words : List Word) → words ≡ group_words gs → cut marks.Colon 0 words ≡ None → ⊥
+groups_colon (last_group ns x) words e n = none_some (cut marks.Colon 0 words) (spell_names ns, typing_words x) n (ap (cut marks.Colon 0) e ∙ colon_at ns (typing_words x))
 groups_colon (and_group ns x gs) words e n =
-    none_some (cut_at_colon words) (spell_names ns, typing_words x ++ w.Key t.Comma ∷ group_words gs) n (ap cut_at_colon e ∙ colon_at ns (typing_words x ++ w.Key t.Comma ∷ group_words gs))
+    none_some (cut marks.Colon 0 words) (spell_names ns, typing_words x ++ w.Key t.Comma ∷ group_words gs) n (ap (cut marks.Colon 0) e ∙ colon_at ns (typing_words x ++ w.Key t.Comma ∷ group_words gs))
 
 -- ---- the last group
 
-pub says_no_colon : (words : List Word) → cut_at_colon words ≡ None → Says (IsOnlyGroup words) (Err x.NoExpr)
+pub says_no_colon : (words : List Word) → cut marks.Colon 0 words ≡ None → Says (IsOnlyGroup words) (Err x.NoExpr)
 says_no_colon words n = says_nothing (IsOnlyGroup words) (λ made h k. groups_colon k.written words k.exact n)
 
 some_groups : {P : Type 0} (gs : Groups) → [] ≡ groups_of gs → P
 some_groups (last_group ns x) e = cc
 some_groups (and_group ns x gs) e = cc
 
-only_back : (words names typ : List Word) → cut_at_colon words ≡ Some (names, typ) → (made : FormalGroup) (h : ℕ) (gs : Groups) → GroupsAreGrouped gs → words ≡ group_words gs → alone made ≡ groups_of gs → h ≡ tallest_groups gs → IsGroup names typ made h
+only_back : (words names typ : List Word) → cut marks.Colon 0 words ≡ Some (names, typ) → (made : FormalGroup) (h : ℕ) (gs : Groups) → GroupsAreGrouped gs → words ≡ group_words gs → alone made ≡ groups_of gs → h ≡ tallest_groups gs → IsGroup names typ made h
 only_back words names typ c made h (last_group ns x) g e i k =
     let l : List Word × List Word = (names, typ) in
-    let o : l ≡ (spell_names ns, typing_words x) = some_same (cut_at_colon words) l (spell_names ns, typing_words x) c (ap cut_at_colon e ∙ colon_at ns (typing_words x)) in
+    let o : l ≡ (spell_names ns, typing_words x) = some_same (cut marks.Colon 0 words) l (spell_names ns, typing_words x) c (ap (cut marks.Colon 0) e ∙ colon_at ns (typing_words x)) in
     record {
       listed = ns;
       typing = x;
@@ -114,13 +115,13 @@ only_back words names typ c made h (last_group ns x) g e i k =
     }
 only_back words names typ c made h (and_group ns x gs) g e i k = let p : [] ≡ groups_of gs = cc in some_groups gs p
 
-pub says_only : (words names typ : List Word) (r : Result FormalGroup ExprFault) → cut_at_colon words ≡ Some (names, typ) → Says (IsGroup names typ) r → Says (IsOnlyGroup words) r
+pub says_only : (words names typ : List Word) (r : Result FormalGroup ExprFault) → cut marks.Colon 0 words ≡ Some (names, typ) → Says (IsGroup names typ) r → Says (IsOnlyGroup words) r
 says_only words names typ r c k =
     says_same (IsGroup names typ) (IsOnlyGroup words) r
     (λ made h q. record {
       written = last_group q.listed q.typing;
       grouped = q.grouped;
-      exact = colon_sound words names typ c ∙ ap (λ z. z ++ w.Key t.Colon ∷ typ) q.names_exact ∙ ap (λ z. spell_names q.listed ++ w.Key t.Colon ∷ z) q.exact;
+      exact = cut_sound marks.Colon 0 words names typ c ∙ ap (λ z. z ++ w.Key t.Colon ∷ typ) q.names_exact ∙ ap (λ z. spell_names q.listed ++ w.Key t.Colon ∷ z) q.exact;
       is = ap alone q.is;
       high_is = q.high_is;
     })
@@ -148,7 +149,7 @@ typed_is names rest (Some (a, b)) ns typ after known e =
 
 first_is : (words : List Word) (q : Halves) (names typ after : List Word) → ((a b : List Word) → q ≡ Some (a, b) → words ≡ a ++ w.Key t.Colon ∷ b) → typed_cut q ≡ Some (names, typ, after) → words ≡ names ++ w.Key t.Colon ∷ (typ ++ w.Key t.Comma ∷ after)
 first_is words None names typ after known e = none_some {A = Group} None (names, typ, after) refl e
-first_is words (Some (a, b)) names typ after known e = known a b refl ∙ typed_is a b (cut 0 b) names typ after (cut_sound 0 b) e
+first_is words (Some (a, b)) names typ after known e = known a b refl ∙ typed_is a b (cut marks.Comma 0 b) names typ after (cut_sound marks.Comma 0 b) e
 
 more_back : (words names typ after : List Word) → first_group words ≡ Some (names, typ, after) → (all : List FormalGroup) (h : ℕ) (gs : Groups) → GroupsAreGrouped gs → words ≡ group_words gs → all ≡ groups_of gs → h ≡ tallest_groups gs → Parts (IsGroup names typ) (AreGroups after) first_of all h
 more_back words names typ after c all h (last_group ns x) g e i k = none_some (first_group words) (names, typ, after) (ap first_group e ∙ one_first ns x) c
@@ -181,7 +182,7 @@ says_more words names typ after p c k r l =
       written = and_group q.listed q.typing more.written;
       grouped = (q.grouped, more.grouped);
       exact =
-          first_is words (cut_at_colon words) names typ after (colon_sound words) c
+          first_is words (cut marks.Colon 0 words) names typ after (cut_sound marks.Colon 0 words) c
           ∙ ap (λ z. z ++ w.Key t.Colon ∷ (typ ++ w.Key t.Comma ∷ after)) q.names_exact
           ∙ ap (λ z. spell_names q.listed ++ w.Key t.Colon ∷ (z ++ w.Key t.Comma ∷ after)) q.exact
           ∙ ap (λ z. spell_names q.listed ++ w.Key t.Colon ∷ (typing_words q.typing ++ w.Key t.Comma ∷ z)) more.exact;
@@ -192,7 +193,7 @@ says_more words names typ after p c k r l =
 
 -- ---- brackets
 
-no_groups : {P : Type 0} (gs : Groups) → [] ≡ group_words gs → P
+pub no_groups : {P : Type 0} (gs : Groups) → [] ≡ group_words gs → P
 no_groups (last_group (one_name n) x) e = cc
 no_groups (last_group (and_name n ns) x) e = cc
 no_groups (and_group (one_name n) x gs) e = cc
@@ -216,7 +217,7 @@ no_words_back all h no_brackets e i k = (i, omega arith)
 no_words_back all h empty_brackets e i k = cc
 no_words_back all h (formals gs) e i k = cc
 
-none_read : (words : List Word) → words ≡ [] → Says (AreFormalGroups words) (Ok [])
+pub none_read : (words : List Word) → words ≡ [] → Says (AreFormalGroups words) (Ok [])
 none_read words e =
     says_made (AreFormalGroups words) [] 0 (record { written = no_brackets; grouped = tt; exact = e; is = refl; high_is = refl }) (omega arith)
     (λ all h k. no_words_back all h k.written (sym e ∙ k.exact) k.is k.high_is)
@@ -229,7 +230,7 @@ empty_back all h no_brackets e i k = cc
 empty_back all h empty_brackets e i k = (i, omega arith)
 empty_back all h (formals gs) e i k = no_groups gs (same_inside [] (group_words gs) e)
 
-empty_read : (inside : List Word) → inside ≡ [] → Says (AreFormalGroups (in_brackets inside)) (Ok [])
+pub empty_read : (inside : List Word) → inside ≡ [] → Says (AreFormalGroups (in_brackets inside)) (Ok [])
 empty_read inside e =
     says_made (AreFormalGroups (in_brackets inside)) [] 0 (record { written = empty_brackets; grouped = tt; exact = ap in_brackets e; is = refl; high_is = refl }) (omega arith)
     (λ all h k. empty_back all h k.written (ap in_brackets (sym e) ∙ k.exact) k.is k.high_is)

@@ -8,7 +8,7 @@ pub mod Ended
 pub mod Grouped
 pub mod Joins
 pub mod Listed
-pub mod Plain
+pub mod OneWay
 pub mod Saying
 pub mod Shaped
 pub mod Sizes

@@ -15,6 +15,10 @@ pub says_made : {T : Type 0} (Is : T → ℕ → Type 0) (made : T) (high : ℕ)
 unfolding Says
 says_made Is made high i l o = record { high = high; is = i; low = l; only = o }
 
+pub says_high : {T : Type 0} (Is : T → ℕ → Type 0) (made : T) (high : ℕ) → Is made high → limit < high → ((t : T) (h : ℕ) → Is t h → limit < h) → Says Is (Err x.Deep)
+unfolding Says
+says_high Is made high i a o = record { made = made; high = high; is = i; above = a; only = o }
+
 pub says_want : {T : Type 0} (Is : T → ℕ → Type 0) → Says Is (Err x.NoMemory)
 unfolding Says
 says_want Is = tt

@@ -10,7 +10,7 @@ use Rattle.mos_scan.specs.declared.reading.Word.TheVariants as w
 use Rattle.mos_expr.specs.Grammar.{spell, tree, height, spell_names, list_of_names}
 use Rattle.mos_expr.specs.Sizes.{ExpressionIsSmall}
 use Rattle.mos_typing.specs.Typing.{Dim, any_range, any_set, within, Dims, last_dim, and_dim, Typing, of_base, a_range, a_set, a_list, an_array, Groups, last_group, and_group, Formals, no_brackets, empty_brackets, formals, base_words, dynamic_words, dim_words, dims_words, typing_words, group_words, formal_words, in_brackets, dimension_of, dimensions_of, type_of, groups_of, formals_of, DimIsGrouped, DimsAreGrouped, TypeIsGrouped, GroupsAreGrouped, FormalsAreGrouped}
-use Rattle.mos_typing.specs.Sizes.{TypeIsSmall, FormalsAreSmall}
+use Rattle.mos_typing.specs.Laws.{TypeIsSmall, FormalsAreSmall}
 
 -- words behind others, the first of them named
 appended : (xs : List Word) (y : Word) (ys : List Word) → length (xs ++ y ∷ ys) ≡ length xs + (length ys + 1)

@@ -12,34 +12,31 @@ use Rattle.mos_scan.specs.declared.reading.Word.TheVariants as w
 use Rattle.mos_expr.specs.Said.{Gives, Says}
 use Rattle.mos_expr.specs.declared.fault.ExprFault.{ExprFault}
 use Rattle.mos_expr.specs.declared.fault.ExprFault.TheVariants as x
-use Rattle.mos_typing.specs.Typing.{Dims, Typing, of_base, a_range, a_set, a_list, an_array, base_words, dynamic_words, dims_words, typing_words, dimensions_of, type_of, tallest_type, TypeIsGrouped}
+use Rattle.mos_typing.specs.Typing.{Dims, Typing, of_base, a_range, a_set, a_list, an_array, base_word, base_words, dynamic_words, dims_words, typing_words, dimensions_of, type_of, tallest_type, TypeIsGrouped}
 use Rattle.mos_typing.specs.Joining.{on_ok, or_nothing}
 use Rattle.mos_typing.specs.Reader.{base_of, plain_type}
 use Rattle.mos_typing.specs.Shapes.{set_of, array_of}
 use Rattle.mos_typing.specs.Spellings.{AreDimensions, IsTypeForm}
-use Rattle.mos_typing.proofs.Bases.{base_known, base_read, base_word, base_is}
+use Rattle.mos_typing.proofs.Bases.{base_known, base_read}
 use Rattle.mos_typing.proofs.Cases.{some_same, none_some}
 use Rattle.mos_typing.proofs.Ended.{SameEnd, behind_same}
 use Rattle.mos_typing.proofs.Saying.{says_nothing, says_made, says_gives, says_on_ok}
 
 -- ---- arrays
 
-abbrev words_of_array : Bool → List Word → Word → List Word
+abbrev pub words_of_array : Bool → List Word → Word → List Word
 words_of_array dynamic ds b = dynamic_words dynamic ++ array_of ds b
 
-array_words : (dynamic : Bool) (ds : Dims) (b : BaseType) → typing_words (an_array dynamic ds b) ≡ words_of_array dynamic (dims_words ds) (base_word b)
-array_words dynamic ds b =
-    ap (λ z. dynamic_words dynamic ++ w.Key t.Array ∷ w.Key t.OpenRound ∷ z)
-    (append_assoc (dims_words ds) (w.Key t.CloseRound ∷ []) (w.Key t.Of ∷ base_words b)
-    ∙ ap (λ z. dims_words ds ++ w.Key t.CloseRound ∷ w.Key t.Of ∷ z) (base_is b))
+pub array_words : (dynamic : Bool) (ds : Dims) (b : BaseType) → typing_words (an_array dynamic ds b) ≡ words_of_array dynamic (dims_words ds) (base_word b)
+array_words dynamic ds b = ap (λ z. dynamic_words dynamic ++ w.Key t.Array ∷ w.Key t.OpenRound ∷ z) (append_assoc (dims_words ds) (w.Key t.CloseRound ∷ []) (w.Key t.Of ∷ base_words b))
 
 -- the type is this array
-record IsArray (dynamic : Bool) (ds : List Word) (b : Word) (x : Typing) : Type 0 where
-  dims : Dims
-  cell : BaseType
-  is : x ≡ an_array dynamic dims cell
-  inside : ds ≡ dims_words dims
-  cell_is : b ≡ base_word cell
+pub record IsArray (dynamic : Bool) (ds : List Word) (b : Word) (x : Typing) : Type 0 where
+  pub dims : Dims
+  pub cell : BaseType
+  pub is : x ≡ an_array dynamic dims cell
+  pub inside : ds ≡ dims_words dims
+  pub cell_is : b ≡ base_word cell
 
 same_array : (dynamic : Bool) (ds : List Word) (b : Word) (dims : Dims) (cell : BaseType) → array_of ds b ≡ array_of (dims_words dims) (base_word cell) → IsArray dynamic ds b (an_array dynamic dims cell)
 same_array dynamic ds b dims cell e =
@@ -48,25 +45,18 @@ same_array dynamic ds b dims cell e =
     let k : SameEnd ds (dims_words dims) b (base_word cell) = behind_same ds (dims_words dims) more b (base_word cell) p in
     record { dims = dims; cell = cell; is = refl; inside = k.fronts; cell_is = k.lasts }
 
-array_back : (dynamic : Bool) (ds : List Word) (b : Word) (x : Typing) → words_of_array dynamic ds b ≡ typing_words x → IsArray dynamic ds b x
-array_back true ds b (of_base c) e = let p : w.Key t.Dynamic ∷ array_of ds b ≡ base_word c ∷ [] = e ∙ base_is c in cc
-array_back false ds b (of_base c) e = let p : array_of ds b ≡ base_word c ∷ [] = e ∙ base_is c in cc
-array_back true ds b a_range e = cc
-array_back false ds b a_range e = cc
-array_back true ds b (a_set c) e = cc
-array_back false ds b (a_set c) e = cc
-array_back true ds b (a_list c) e = cc
-array_back false ds b (a_list c) e = cc
+pub array_back : (dynamic : Bool) (ds : List Word) (b : Word) (x : Typing) → words_of_array dynamic ds b ≡ typing_words x → IsArray dynamic ds b x
 array_back true ds b (an_array true dims cell) e =
     let p : w.Key t.Dynamic ∷ array_of ds b ≡ w.Key t.Dynamic ∷ array_of (dims_words dims) (base_word cell) = e ∙ array_words true dims cell in
     let q : array_of ds b ≡ array_of (dims_words dims) (base_word cell) = cc in
     same_array true ds b dims cell q
-array_back true ds b (an_array false dims cell) e = cc
-array_back false ds b (an_array true dims cell) e = cc
 array_back false ds b (an_array false dims cell) e = same_array false ds b dims cell (e ∙ array_words false dims cell)
+array_back true ds b (of_base base.Integer) e = cc
+array_back false ds b (of_base base.Integer) e = cc
+array_back _ ds b _ e = cc
 
 cell_read : (b : Word) (cell : BaseType) → b ≡ base_word cell → base_of b ≡ Some cell
-cell_read b cell e = base_read cell b (base_is cell ∙ ap (λ z. z ∷ []) (sym e))
+cell_read b cell e = ap base_of e ∙ base_read cell
 
 pub says_no_cell : (dynamic : Bool) (ds : List Word) (b : Word) → None ≡ base_of b → Says (IsTypeForm (words_of_array dynamic ds b)) (Err x.NoExpr)
 says_no_cell dynamic ds b e =
@@ -75,8 +65,7 @@ says_no_cell dynamic ds b e =
 
 pub says_array : (dynamic : Bool) (ds : List Word) (b : Word) (cell : BaseType) (r : Result (List Dimension) ExprFault) (s : Result TypeForm ExprFault) → Some cell ≡ base_of b → Says (AreDimensions ds) r → s ≡ on_ok (λ z. typ.Array dynamic z cell) r → Says (IsTypeForm (words_of_array dynamic ds b)) s
 says_array dynamic ds b cell r s e k i =
-    let word_is : b ∷ [] ≡ base_word cell ∷ [] = sym (base_known b cell (sym e)) ∙ base_is cell in
-    let word : b ≡ base_word cell = cc in
+    let word : b ≡ base_word cell = base_known b cell (sym e) in
     subst (Says (IsTypeForm (words_of_array dynamic ds b))) (sym i)
     (says_on_ok (AreDimensions ds) (IsTypeForm (words_of_array dynamic ds b)) (λ z. typ.Array dynamic z cell) r
     (λ made h q. record {
@@ -110,46 +99,14 @@ base_fault : (f : BaseType → TypeForm) (q : Option BaseType) (fault : ExprFaul
 base_fault f None fault e = cc
 base_fault f (Some b) fault e = cc
 
--- a type that is no array
-record IsPlain (words : List Word) (made : TypeForm) : Type 0 where
-  written : Typing
-  grouped : TypeIsGrouped written
-  exact : words ≡ typing_words written
-  is : made ≡ type_of written
-  high_is : 0 ≡ tallest_type written
-
-set_known : (b : Word) (made : TypeForm) → (s : BaseType) × (base_of b ≡ Some s) × (made ≡ typ.Set s) → IsPlain (set_of b) made
-set_known b made k = record {
-  written = a_set k.0;
-  grouped = tt;
-  exact = ap (λ z. w.Key t.Set ∷ w.Key t.Of ∷ z) (sym (base_known b k.0 k.1));
-  is = k.2;
-  high_is = refl;
-}
-
-list_known : (b : Word) (made : TypeForm) → (s : BaseType) × (base_of b ≡ Some s) × (made ≡ typ.List s) → IsPlain (w.Key t.List ∷ w.Key t.Of ∷ b ∷ []) made
-list_known b made k = record {
-  written = a_list k.0;
-  grouped = tt;
-  exact = ap (λ z. w.Key t.List ∷ w.Key t.Of ∷ z) (sym (base_known b k.0 k.1));
-  is = k.2;
-  high_is = refl;
-}
-
-word_known : (b : Word) (made : TypeForm) → (s : BaseType) × (base_of b ≡ Some s) × (made ≡ typ.Base s) → IsPlain (b ∷ []) made
-word_known b made k = record {
-  written = of_base k.0;
-  grouped = tt;
-  exact = sym (base_known b k.0 k.1);
-  is = k.2;
-  high_is = refl;
-}
-
-plain_known : (words : List Word) (made : TypeForm) → plain_type words ≡ Ok made → IsPlain words made
+plain_known : (words : List Word) (made : TypeForm) → plain_type words ≡ Ok made → IsTypeForm words made 0
 plain_known (w.Key t.Range ∷ []) made e = record { written = a_range; grouped = tt; exact = refl; is = cc; high_is = refl }
-plain_known (w.Key t.Set ∷ w.Key t.Of ∷ b ∷ []) made e = set_known b made (base_made typ.Set (base_of b) made e)
-plain_known (w.Key t.List ∷ w.Key t.Of ∷ b ∷ []) made e = list_known b made (base_made typ.List (base_of b) made e)
-plain_known (b ∷ []) made e = word_known b made (base_made typ.Base (base_of b) made e)
+plain_known (w.Key t.Set ∷ w.Key t.Of ∷ b ∷ []) made e =
+    let k = base_made typ.Set (base_of b) made e in record { written = a_set k.0; grouped = tt; exact = ap set_of (base_known b k.0 k.1); is = k.2; high_is = refl }
+plain_known (w.Key t.List ∷ w.Key t.Of ∷ b ∷ []) made e =
+    let k = base_made typ.List (base_of b) made e in record { written = a_list k.0; grouped = tt; exact = ap (λ z. w.Key t.List ∷ w.Key t.Of ∷ z ∷ []) (base_known b k.0 k.1); is = k.2; high_is = refl }
+plain_known (b ∷ []) made e =
+    let k = base_made typ.Base (base_of b) made e in record { written = of_base k.0; grouped = tt; exact = ap (λ z. z ∷ []) (base_known b k.0 k.1); is = k.2; high_is = refl }
 plain_known _ made e = cc
 
 plain_fault : (words : List Word) (fault : ExprFault) → plain_type words ≡ Err fault → fault ≡ x.NoExpr
@@ -159,7 +116,7 @@ plain_fault (w.Key t.List ∷ w.Key t.Of ∷ b ∷ []) fault e = base_fault typ.
 plain_fault (b ∷ []) fault e = base_fault typ.Base (base_of b) fault e
 plain_fault _ fault e = cc
 
-abbrev NoArray : List Word → Type 0
+abbrev pub NoArray : List Word → Type 0
 NoArray words = (dynamic : Bool) (ds : List Word) (b : Word) → words ≡ words_of_array dynamic ds b → ⊥
 
 no_array : (words : List Word) → ((rest : List Word) → words ≡ w.Key t.Dynamic ∷ rest → ⊥) → ((ds : List Word) (b : Word) → words ≡ array_of ds b → ⊥) → NoArray words
@@ -167,30 +124,20 @@ no_array words n m true ds b e = n (array_of ds b) e
 no_array words n m false ds b e = m ds b e
 
 -- what is said of any type that is no array
-record IsRead (x : Typing) : Type 0 where
-  value : plain_type (typing_words x) ≡ Ok (type_of x)
-  high_is : tallest_type x ≡ 0
+pub record IsRead (x : Typing) : Type 0 where
+  pub value : plain_type (typing_words x) ≡ Ok (type_of x)
+  pub high_is : tallest_type x ≡ 0
 
-plain_read : (words : List Word) → NoArray words → (x : Typing) → words ≡ typing_words x → IsRead x
-plain_read words n (of_base base.Integer) e = record { value = refl; high_is = refl }
-plain_read words n (of_base base.Boolean) e = record { value = refl; high_is = refl }
-plain_read words n (of_base base.Text) e = record { value = refl; high_is = refl }
-plain_read words n (of_base (base.Named s)) e = record { value = refl; high_is = refl }
-plain_read words n a_range e = record { value = refl; high_is = refl }
-plain_read words n (a_set base.Integer) e = record { value = refl; high_is = refl }
-plain_read words n (a_set base.Boolean) e = record { value = refl; high_is = refl }
-plain_read words n (a_set base.Text) e = record { value = refl; high_is = refl }
-plain_read words n (a_set (base.Named s)) e = record { value = refl; high_is = refl }
-plain_read words n (a_list base.Integer) e = record { value = refl; high_is = refl }
-plain_read words n (a_list base.Boolean) e = record { value = refl; high_is = refl }
-plain_read words n (a_list base.Text) e = record { value = refl; high_is = refl }
-plain_read words n (a_list (base.Named s)) e = record { value = refl; high_is = refl }
+pub plain_read : (words : List Word) → NoArray words → (x : Typing) → words ≡ typing_words x → IsRead x
 plain_read words n (an_array dynamic dims cell) e = absurd (n dynamic (dims_words dims) (base_word cell) (e ∙ array_words dynamic dims cell))
+plain_read words n (of_base base.Integer) e = record { value = refl; high_is = refl }
+plain_read words n (a_set base.Integer) e = record { value = refl; high_is = refl }
+plain_read words n (a_list base.Integer) e = record { value = refl; high_is = refl }
+plain_read words n _ e = record { value = refl; high_is = refl }
 
-plain_says : (words : List Word) (y : Result TypeForm ExprFault) → NoArray words → plain_type words ≡ y → Says (IsTypeForm words) y
+pub plain_says : (words : List Word) (y : Result TypeForm ExprFault) → NoArray words → plain_type words ≡ y → Says (IsTypeForm words) y
 plain_says words (Ok made) n e =
-    let p : IsPlain words made = plain_known words made e in
-    says_made (IsTypeForm words) made 0 (record { written = p.written; grouped = p.grouped; exact = p.exact; is = p.is; high_is = p.high_is }) (omega arith)
+    says_made (IsTypeForm words) made 0 (plain_known words made e) (omega arith)
     (λ other h k.
     let r : IsRead k.written = plain_read words n k.written k.exact in
     let q : Ok (type_of k.written) ≡ Ok made = sym (ap plain_type k.exact ∙ r.value) ∙ e in
@@ -211,17 +158,11 @@ says_plain words r n m g = says_gives (IsTypeForm words) r (plain_type words) g 
 -- ---- the word `dynamic`
 
 no_dynamic : (words : List Word) → ((ds : List Word) (b : Word) → words ≡ array_of ds b → ⊥) → (x : Typing) → w.Key t.Dynamic ∷ words ≡ typing_words x → ⊥
-no_dynamic words n (of_base base.Integer) e = cc
-no_dynamic words n (of_base base.Boolean) e = cc
-no_dynamic words n (of_base base.Text) e = cc
-no_dynamic words n (of_base (base.Named s)) e = cc
-no_dynamic words n a_range e = cc
-no_dynamic words n (a_set b) e = cc
-no_dynamic words n (a_list b) e = cc
 no_dynamic words n (an_array true dims cell) e =
     let p : w.Key t.Dynamic ∷ words ≡ w.Key t.Dynamic ∷ array_of (dims_words dims) (base_word cell) = e ∙ array_words true dims cell in
     n (dims_words dims) (base_word cell) cc
-no_dynamic words n (an_array false dims cell) e = cc
+no_dynamic words n (of_base base.Integer) e = cc
+no_dynamic words n _ e = cc
 
 pub says_no_dynamic : (words : List Word) → ((ds : List Word) (b : Word) → words ≡ array_of ds b → ⊥) → Says (IsTypeForm (w.Key t.Dynamic ∷ words)) (Err x.NoExpr)
 says_no_dynamic words n = says_nothing (IsTypeForm (w.Key t.Dynamic ∷ words)) (λ made h k. no_dynamic words n k.written k.exact)

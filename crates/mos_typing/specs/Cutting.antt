@@ -1,20 +1,24 @@
--- As the code reads, apart from what the public clauses say: where words are cut: at a comma
--- outside brackets, and at a colon.
+-- As the code reads, apart from what the public clauses say: where words are cut outside brackets:
+-- at a comma or at a colon.
 
 use Rattle.std.specs.Prelude.{◌≡◌, ℕ, ◌+◌, ◌-◌, Bool, true, false, ◌&&◌, if◌then◌else◌, nat_eq, List, [], ◌∷◌, ◌++◌, Option, Some, None}
+use Rattle.mos_scan.specs.declared.token.TokenKind.{TokenKind}
 use Rattle.mos_scan.specs.declared.token.TokenKind.TheVariants as t
 use Rattle.mos_scan.specs.declared.reading.Word.{Word}
 use Rattle.mos_scan.specs.declared.reading.Word.TheVariants as w
+use Rattle.mos_typing.specs.declared.cut.Mark.{Mark}
+use Rattle.mos_typing.specs.declared.cut.Mark.TheVariants as marks
 
--- the word is a comma
-abbrev pub is_comma : Word → Bool
-is_comma (w.Key t.Comma) = true
-is_comma _ = false
+-- the token that words are cut at
+abbrev pub token_at : Mark → TokenKind
+token_at marks.Comma = t.Comma
+token_at marks.Colon = t.Colon
 
--- the word is a colon
-abbrev pub is_colon : Word → Bool
-is_colon (w.Key t.Colon) = true
-is_colon _ = false
+-- the word is that token
+abbrev pub is_mark : Mark → Word → Bool
+is_mark marks.Comma (w.Key t.Comma) = true
+is_mark marks.Colon (w.Key t.Colon) = true
+is_mark _ _ = false
 
 -- how many brackets are open behind the word
 abbrev pub depth_behind : Word → ℕ → ℕ
@@ -35,23 +39,14 @@ abbrev pub ahead : List Word → Halves → Halves
 ahead words None = None
 ahead words (Some halves) = Some (words ++ halves.0, halves.1)
 
--- the cut at the first comma outside brackets, of which so many are open
-abbrev pub cut : ℕ → List Word → Halves
-cut depth [] = None
-cut depth (x ∷ xs) = if nat_eq depth 0 && is_comma x then Some ([], xs) else ahead (x ∷ []) (cut (depth_behind x depth) xs)
+-- the cut at the first such token outside brackets, of which so many are open
+abbrev pub cut : Mark → ℕ → List Word → Halves
+cut mark depth [] = None
+cut mark depth (x ∷ xs) = if nat_eq depth 0 && is_mark mark x then Some ([], xs) else ahead (x ∷ []) (cut mark (depth_behind x depth) xs)
 
--- these are the words before the first comma outside brackets, and behind it
-abbrev pub IsCommaCut : List Word → List Word → List Word → Type 0
-IsCommaCut words front behind = cut 0 words ≡ Some (front, behind)
-
--- the cut at the first colon
-abbrev pub cut_at_colon : List Word → Halves
-cut_at_colon [] = None
-cut_at_colon (x ∷ xs) = if is_colon x then Some ([], xs) else ahead (x ∷ []) (cut_at_colon xs)
-
--- these are the words before the first colon, and behind it
-abbrev pub IsColonCut : List Word → List Word → List Word → Type 0
-IsColonCut words front behind = cut_at_colon words ≡ Some (front, behind)
+-- these are the words before the first such token outside brackets, and behind it
+abbrev pub IsCut : Mark → List Word → List Word → List Word → Type 0
+IsCut mark words front behind = cut mark 0 words ≡ Some (front, behind)
 
 -- names, a type, and what stands behind the comma behind it
 abbrev pub Group : Type 0
@@ -65,11 +60,11 @@ group_cut names (Some halves) = Some (names, halves.0, halves.1)
 -- what is cut at a colon, with what stands behind it cut at a comma
 abbrev pub typed_cut : Halves → Option Group
 typed_cut None = None
-typed_cut (Some halves) = group_cut halves.0 (cut 0 halves.1)
+typed_cut (Some halves) = group_cut halves.0 (cut marks.Comma 0 halves.1)
 
 -- the first group of formals, None where no other stands behind it
 abbrev pub first_group : List Word → Option Group
-first_group words = typed_cut (cut_at_colon words)
+first_group words = typed_cut (cut marks.Colon 0 words)
 
 -- these are the names of the first group, its type, and what stands behind it
 abbrev pub IsFirstGroup : List Word → List Word → List Word → List Word → Type 0

@@ -1,8 +1,8 @@
 pub mod Cutting
 pub mod Joining
+pub mod Laws
 pub mod Reader
 pub mod Shapes
-pub mod Sizes
 pub mod Spellings
 pub mod Typing
 pub mod Words

@@ -57,11 +57,15 @@ abbrev pub in_brackets : List Word → List Word
 in_brackets words = w.Key t.OpenRound ∷ (words ++ key t.CloseRound)
 
 -- the word of a type of one word
+abbrev pub base_word : BaseType → Word
+base_word base.Integer = w.Key t.Integer
+base_word base.Boolean = w.Key t.Boolean
+base_word base.Text = w.Key t.StringWord
+base_word (base.Named n) = w.Name n
+
+-- that word alone
 abbrev pub base_words : BaseType → List Word
-base_words base.Integer = key t.Integer
-base_words base.Boolean = key t.Boolean
-base_words base.Text = key t.StringWord
-base_words (base.Named n) = w.Name n ∷ []
+base_words b = base_word b ∷ []
 
 -- the word `dynamic`, where it stands
 abbrev pub dynamic_words : Bool → List Word
@@ -126,17 +130,15 @@ groups_of (and_group ns x rest) = record { names = list_of_names ns; typ = type_
 
 -- formals
 abbrev pub formals_of : Formals → List FormalGroup
-formals_of no_brackets = []
-formals_of empty_brackets = []
 formals_of (formals xs) = groups_of xs
+formals_of _ = []
 
 -- ---- how high
 
 -- the height of the expression of an index, 0 where it has none
 abbrev pub tallest_dim : Dim → ℕ
 tallest_dim (within s) = height s
-tallest_dim any_range = 0
-tallest_dim (any_set b) = 0
+tallest_dim _ = 0
 
 -- the height of the highest of several
 abbrev pub tallest_dims : Dims → ℕ
@@ -146,10 +148,7 @@ tallest_dims (and_dim d ds) = max (tallest_dim d) (tallest_dims ds)
 -- the height of the highest expression in a type, 0 where there is none
 abbrev pub tallest_type : Typing → ℕ
 tallest_type (an_array dynamic ds b) = tallest_dims ds
-tallest_type (of_base b) = 0
-tallest_type a_range = 0
-tallest_type (a_set b) = 0
-tallest_type (a_list b) = 0
+tallest_type _ = 0
 
 -- the height of the highest expression in groups of formals
 abbrev pub tallest_groups : Groups → ℕ
@@ -159,16 +158,14 @@ tallest_groups (and_group ns x rest) = max (tallest_type x) (tallest_groups rest
 -- the height of the highest expression in formals
 abbrev pub tallest_formals : Formals → ℕ
 tallest_formals (formals xs) = tallest_groups xs
-tallest_formals no_brackets = 0
-tallest_formals empty_brackets = 0
+tallest_formals _ = 0
 
 -- ---- each expression in them is grouped by its operators
 
 -- that of an index
 abbrev pub DimIsGrouped : Dim → Type 0
 DimIsGrouped (within s) = IsGrouped s
-DimIsGrouped any_range = Unit {0}
-DimIsGrouped (any_set b) = Unit {0}
+DimIsGrouped _ = Unit {0}
 
 -- those of several indexes
 abbrev pub DimsAreGrouped : Dims → Type 0
@@ -178,10 +175,7 @@ DimsAreGrouped (and_dim d ds) = DimIsGrouped d × DimsAreGrouped ds
 -- those of a type
 abbrev pub TypeIsGrouped : Typing → Type 0
 TypeIsGrouped (an_array dynamic ds b) = DimsAreGrouped ds
-TypeIsGrouped (of_base b) = Unit {0}
-TypeIsGrouped a_range = Unit {0}
-TypeIsGrouped (a_set b) = Unit {0}
-TypeIsGrouped (a_list b) = Unit {0}
+TypeIsGrouped _ = Unit {0}
 
 -- those of groups of formals
 abbrev pub GroupsAreGrouped : Groups → Type 0
@@ -191,8 +185,7 @@ GroupsAreGrouped (and_group ns x rest) = TypeIsGrouped x × GroupsAreGrouped res
 -- those of formals
 abbrev pub FormalsAreGrouped : Formals → Type 0
 FormalsAreGrouped (formals xs) = GroupsAreGrouped xs
-FormalsAreGrouped no_brackets = Unit {0}
-FormalsAreGrouped empty_brackets = Unit {0}
+FormalsAreGrouped _ = Unit {0}
 
 -- ---- what words spell
 

@@ -1,13 +1,23 @@
-//! Where words are cut: at commas outside brackets, and at colons.
+//! Where words are cut outside brackets: at commas, and at colons.
 ghost use Rattle.std.specs.Prelude.{◌≡◌, ◌+◌, ◌<◌, ◌^◌, None, MatchOption, length};
 ghost use Rattle.mos_typing.specs.Cutting as cutting;
 
 use mos_scan::{TokenKind, Word};
 
-fn is_comma(word: &Word) -> bool
-    ensures { result ≡ cutting.is_comma word.now }
+/// What words are cut at.
+#[derive(Clone, Copy)]
+pub(crate) enum Mark {
+    Comma,
+    Colon,
+}
+
+fn is_mark(mark: Mark, word: &Word) -> bool
+    ensures { result ≡ cutting.is_mark mark word.now }
 {
-    matches!(word, Word::Key(TokenKind::Comma))
+    match mark {
+        Mark::Comma => matches!(word, Word::Key(TokenKind::Comma)),
+        Mark::Colon => matches!(word, Word::Key(TokenKind::Colon)),
+    }
 }
 
 /// How many brackets are open behind the word.
@@ -24,10 +34,10 @@ fn depth_behind(word: &Word, depth: usize) -> usize
     }
 }
 
-/// The words before the first comma outside brackets, and those behind it.
-pub(crate) fn cut_at_comma(words: &[Word]) -> Option<(&[Word], &[Word])>
-    ensures value { MatchOption result (cutting.cut 0 words.now ≡ None)
-        (λ parts. cutting.IsCommaCut words.now parts.0.now parts.1.now) }
+/// The words before the first such token outside brackets, and those behind it.
+pub(crate) fn cut_at(mark: Mark, words: &[Word]) -> Option<(&[Word], &[Word])>
+    ensures value { MatchOption result (cutting.cut mark 0 words.now ≡ None)
+        (λ parts. cutting.IsCut mark words.now parts.0.now parts.1.now) }
     ensures shorter { MatchOption result (Unit {0})
         (λ parts. length parts.1.now < length words.now) }
 {
@@ -35,37 +45,11 @@ pub(crate) fn cut_at_comma(words: &[Word]) -> Option<(&[Word], &[Word])>
     let mut depth: usize = 0;
     let mut rest = words;
     while let [word, after @ ..] = rest {
-        if depth == 0 && is_comma(word) {
+        if depth == 0 && is_mark(mark, word) {
             let (front, _) = words.split_at(at);
             return Some((front, after));
         }
         depth = depth_behind(word, depth);
-        at += 1;
-        rest = after;
-    }
-    None
-}
-
-fn is_colon(word: &Word) -> bool
-    ensures { result ≡ cutting.is_colon word.now }
-{
-    matches!(word, Word::Key(TokenKind::Colon))
-}
-
-/// The words before the first colon, and those behind it.
-pub(crate) fn cut_at_colon(words: &[Word]) -> Option<(&[Word], &[Word])>
-    ensures value { MatchOption result (cutting.cut_at_colon words.now ≡ None)
-        (λ parts. cutting.IsColonCut words.now parts.0.now parts.1.now) }
-    ensures shorter { MatchOption result (Unit {0})
-        (λ parts. length parts.1.now < length words.now) }
-{
-    let mut at: usize = 0;
-    let mut rest = words;
-    while let [word, after @ ..] = rest {
-        if is_colon(word) {
-            let (front, _) = words.split_at(at);
-            return Some((front, after));
-        }
         at += 1;
         rest = after;
     }

@@ -6,7 +6,7 @@ ghost use Rattle.mos_expr.specs.Said.{Says};
 ghost use Rattle.mos_typing.specs.Spellings as spelling;
 
 use crate::base::base_form;
-use crate::cut::cut_at_comma;
+use crate::cut::{Mark, cut_at};
 use crate::said::{finish, with};
 use crate::shape::{is_range, set_member};
 use mos_expr::{ExprFault, expression_of_words};
@@ -52,7 +52,7 @@ pub(crate) fn dimensions(alloc: Global, words: &[Word]) -> Result<Items<Dimensio
 {
     let mut done = Some(Items::new(alloc));
     let mut rest = words;
-    while let Some((first, after)) = cut_at_comma(rest) {
+    while let Some((first, after)) = cut_at(Mark::Comma, rest) {
         done = with(done, dimension(alloc, first))?;
         rest = after;
     }

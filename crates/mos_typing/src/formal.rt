@@ -7,7 +7,7 @@ ghost use Rattle.mos_typing.specs.Reader as reads;
 ghost use Rattle.mos_expr.specs.Said.{Says};
 ghost use Rattle.mos_typing.specs.Spellings as spelling;
 
-use crate::cut::{cut_at_colon, cut_at_comma};
+use crate::cut::{Mark, cut_at};
 use crate::name::names_of_words;
 use crate::said::{finish, with};
 use crate::shape::in_brackets;
@@ -51,10 +51,10 @@ fn first_group(words: &[Word]) -> Option<(&[Word], &[Word], &[Word])>
     ensures shorter { MatchOption result (Unit {0})
         (λ parts. length parts.2.now < length words.now) }
 {
-    let Some((names, typed)) = cut_at_colon(words) else {
+    let Some((names, typed)) = cut_at(Mark::Colon, words) else {
         return None;
     };
-    match cut_at_comma(typed) {
+    match cut_at(Mark::Comma, typed) {
         Some((typ, after)) => Some((names, typ, after)),
         None => None,
     }
@@ -64,7 +64,7 @@ fn first_group(words: &[Word]) -> Option<(&[Word], &[Word], &[Word])>
 fn last_group(alloc: Global, words: &[Word]) -> Result<FormalGroup, ExprFault>
     ensures { Says (spelling.IsOnlyGroup words.now) result }
 {
-    match cut_at_colon(words) {
+    match cut_at(Mark::Colon, words) {
         None => Err(ExprFault::NoExpr),
         Some((names, typ)) => group(alloc, names, typ),
     }

@@ -1,8 +1,8 @@
 //! Laws of words, as contracts of calls that do nothing.
-ghost use Rattle.mos_typing.specs.Sizes.{TypeIsSmall, FormalsAreSmall};
+ghost use Rattle.mos_typing.specs.Laws.{TypeIsSmall, FormalsAreSmall, AreOneType, AreOneList};
 ghost use Rattle.mos_typing.specs.Words.{SyntaxIsPlain, ListIsPlain, IndexIsPlain};
 
-use mos_expr::trees_are_small;
+use mos_expr::{trees_are_small, words_have_one_tree};
 
 /// No word that parts a piece stands in an expression, in expressions with commas between them, or in
 /// an index.
@@ -18,4 +18,12 @@ pub fn types_are_small()
     ensures formals { FormalsAreSmall }
 {
     trees_are_small();
+}
+
+/// Words are at most one type, and at most one list of formals.
+pub fn words_are_one_type()
+    ensures type_form { AreOneType }
+    ensures formals { AreOneList }
+{
+    words_have_one_tree();
 }

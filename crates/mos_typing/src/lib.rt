@@ -14,6 +14,7 @@ mod sides;
 mod types;
 
 pub use base::base_type;
-pub use laws::{expressions_have_plain_words, types_are_small};
+pub use laws::{expressions_have_plain_words, types_are_small, words_are_one_type};
+pub use name::behind_comma;
 pub use reading::{formals, names, type_form};
 pub use sides::indexes_and_value;

@@ -11,8 +11,8 @@ use mos_text::{NoMemory, SourceText, let_go};
 use sqlite_items::Items;
 use std::alloc::Global;
 
-/// What stands behind a comma.
-fn behind_comma(words: &[Word]) -> Option<&[Word]>
+/// What stands behind a comma, where the first word is one.
+pub fn behind_comma(words: &[Word]) -> Option<&[Word]>
     ensures { MatchOption result ((more : List WordType) → words.now ≡ w.Key t.Comma ∷ more → ⊥)
         (λ more. words.now ≡ w.Key t.Comma ∷ more.now) }
 {

@@ -1,9 +1,9 @@
-use Rattle.std.proofs.Common.{◌≡◌, length}
+use Rattle.std.proofs.Common.{◌≡◌, [], length}
 use Rattle.mos_form.specs.Lists as spec
 use Rattle.mos_form.proofs.lists.read_labels.Given as goal
 
 abbrev pub invariant-loop-rest : goal.invariant-loop-rest
-invariant-loop-rest l = spec.read_labels l.mode l.found.items l.rest ≡ spec.read_labels l.initial.mode l.initial.found.items l.initial.rest
+invariant-loop-rest l = spec.read_labels l.found l.rest ≡ spec.read_labels [] l.words
 
 abbrev pub decreases-loop-rest : goal.decreases-loop-rest
 decreases-loop-rest l = length l.rest

@@ -1,15 +1,9 @@
-use Rattle.std.proofs.Common.{◌≡◌, ℕ, Some, None, sym, ◌∙◌, ap, subst}
+use Rattle.std.proofs.Common.{◌≡◌, ℕ, None, sym, ◌∙◌, ap, subst}
 use Rattle.mos_scan.specs.declared.token.TokenKind.{TokenKind}
 use Rattle.mos_scan.specs.Tokens.{gap_at, fault_at}
 use Rattle.mos_scan.specs.Lexemes.{kind_and_offset, Longest}
-use Rattle.mos_scan.proofs.Looks.{longest_at, gap_fits}
+use Rattle.mos_scan.proofs.Looks.{longest_at}
 use Rattle.mos_scan.proofs.lexeme.next_lexeme.Goals as goal
-
-pub returns-in-Some-clause-stands : goal.returns-in-Some-clause-stands
-returns-in-Some-clause-stands c =
-    let found : gap_at c.args.text.now ≡ Some c.in-Some.length = sym c.gap_at.ensures.value ∙ c.in-Some.is in
-    let fits = gap_fits c.args.text.now c.in-Some.length found in
-    (found, fits.0, fits.1)
 
 pub returns-clause-stands : goal.returns-clause-stands
 returns-clause-stands c =

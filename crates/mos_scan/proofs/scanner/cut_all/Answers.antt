@@ -2,7 +2,7 @@ use Rattle.std.proofs.Common.{◌+◌, sym, subst, List}
 use Rattle.std.proofs.lemmas.Bool.{eqb-true}
 use Rattle.mos_scan.specs.declared.token.Token.{Token}
 use Rattle.mos_scan.specs.Scanning.{IsWholeCut}
-use Rattle.mos_scan.proofs.Scans.{Scanned, scanned_gap, scanned_token, scanned_end, scanned_whole}
+use Rattle.mos_scan.proofs.Scans.{Scanned, scanned_fault, scanned_gap, scanned_token, scanned_end, scanned_whole}
 use Rattle.mos_scan.proofs.scanner.cut_all.Goals as goal
 
 pub loop-rest-preserved-in-Gap : goal.loop-rest-preserved-in-Gap
@@ -20,3 +20,6 @@ returns-then-is_end_model c =
 
 pub returns : goal.returns
 returns c = scanned_whole _ c.loop-rest.rest.now _ _ _ c.loop-rest.invariant (eqb-true _ _ (sym c.loop-rest-test.ensures))
+
+pub returns-in-Fault : goal.returns-in-Fault
+returns-in-Fault c = scanned_fault _ c.loop-rest.rest.now _ _ _ c.loop-rest.invariant c.in-Fault.error c.in-Fault.offset c.in-Fault.ensures.stands _ c.in_ok-kind-in-Fault.ensures
