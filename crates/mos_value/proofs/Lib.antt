@@ -1,0 +1,8 @@
+mod SameScalars
+mod NumberLemmas
+mod TextOrder
+pub mod CollectionLemmas
+mod SetLemmas
+mod SetLaws
+mod RangeLemmas
+mod RangeLaws

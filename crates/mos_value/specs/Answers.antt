@@ -1,16 +1,15 @@
 -- What operators and functions make of values: one answer, the same for the meaning of a model and for
 -- the machine.
 
-use Rattle.std.specs.Prelude.{ℕ, ℤ, pos, negsuc, ◌+ℤ◌, ◌-ℤ◌, Bool, true, false, List, [], ◌∷◌, ◌++◌, Option, Some, None, nat_lt, nat_le, nat_eq, not, ◌&&◌, length, codes, decimal, if◌then◌else◌, option_map}
-use Rattle.std.specs.declared.cmp.Ordering.{Ordering}
-use Rattle.std.specs.Ordering.{is_eq, is_lt, is_gt, nat_cmp, int_cmp, int_eq}
-use Rattle.std.specs.Cmp.Lexicographic.{slice_cmp}
-use Rattle.std.specs.Fmt.{signed_decimal}
+use Rattle.std.specs.Prelude.{ℕ, Bool, List, [], ◌∷◌, Option, Some, None, not, option_map, Result as Found, Ok, Err}
+use Rattle.std.specs.Ordering.{is_lt, is_gt}
 use Rattle.mos_text.specs.declared.fault_kind.FaultKind.{FaultKind}
-use Rattle.mos_text.specs.declared.fault_kind.FaultKind.TheVariants.{Overflow, TooBig}
 use Rattle.mos_text.specs.declared.scalar.Scalar.{Scalar}
-use Rattle.mos_text.specs.declared.scalar.Scalar.TheVariants.{Int, Bool as Truth, Str, Model, Event}
+use Rattle.mos_text.specs.declared.scalar.Scalar.TheVariants.{Int, Bool as Truth, Str}
 use Rattle.mos_value.specs.Values.{Value, One, Range}
+use Rattle.mos_value.specs.Numbers.{sum_of, difference_of, product_of, quotient_of, remainder_of, negative_of}
+use Rattle.mos_value.specs.Comparisons.{order_of, same_value}
+use Rattle.mos_value.specs.Texts.{text_of, join_of, show_one}
 
 -- a value, a fault, or neither, since the values are not of the kinds that are wanted
 pub data Result : Type 0 where
@@ -27,43 +26,30 @@ pub data Comparison : Type 0 where
   greater : Comparison
   at_least : Comparison
 
--- an operator between two values
+-- an operator between two values that a tree can hold today
 pub data Operator : Type 0 where
   sum : Operator
   difference : Operator
   compare : Comparison → Operator
 
--- an operator or a function
+-- an operator or a function; `+` is `sum` of integers and `join` of texts, each by itself. No tree can hold
+-- the five from `product` to `join` yet
 pub data Operation : Type 0 where
   between : Operator → Operation
+  product : Operation
+  quotient : Operation
+  remainder : Operation
+  negative : Operation  -- `-` before one integer
+  join : Operation  -- `+` on texts
   range : Operation  -- the integers from one to another
   show : Operation  -- the printed form, as a text
 
--- Integers have 32 bits.
+-- Answers of operators.
 
--- -2147483648 to 2147483647
-abbrev pub is_integer : ℤ → Bool
-is_integer (pos n) = nat_lt n 2147483648
-is_integer (negsuc n) = nat_lt n 2147483648
-
--- an integer, or the fault of one that does not fit
-abbrev pub integer : ℤ → Result
-integer n = if is_integer n then Gives (One (Int n)) else Faults Overflow
-
--- Comparisons.
-
--- integers go by their size, texts by their bytes
-abbrev pub order_of : Scalar → Scalar → Option Ordering
-order_of (Int a) (Int b) = Some (int_cmp a b)
-order_of (Str a) (Str b) = Some (slice_cmp nat_cmp a b)
-order_of _ _ = None
-
--- whether two values of one kind are the same
-abbrev pub same_value : Scalar → Scalar → Option Bool
-same_value (Truth a) (Truth b) = Some (if a then b else not b)
-same_value (Model a) (Model b) = Some (nat_eq a b)
-same_value (Event a m) (Event b n) = Some (int_eq a b && int_eq m n)
-same_value a b = option_map is_eq (order_of a b)
+-- what an operator has found, as a value of its kind, or its fault
+abbrev pub found : {A : Type 0} → (A → Scalar) → Found A FaultKind → Result
+found kind (Ok x) = Gives (One (kind x))
+found kind (Err fault) = Faults fault
 
 -- a comparison, where the two are of one kind
 abbrev pub compared : Comparison → Scalar → Scalar → Option Bool
@@ -79,34 +65,29 @@ abbrev pub truth : Option Bool → Result
 truth None = Sticks
 truth (Some b) = Gives (One (Truth b))
 
--- Texts and printed forms.
-
--- a text, or the fault of one of more than 1,000,000 bytes
+-- a text, or the fault of one that is too long
 abbrev pub text : List ℕ → Result
-text bytes = if nat_le (length bytes) 1000000 then Gives (One (Str bytes)) else Faults TooBig
-
--- the word of a truth
-abbrev pub truth_text : Bool → List ℕ
-truth_text true = codes "true"
-truth_text false = codes "false"
-
--- the printed form of a value without parts
-abbrev pub printed : Scalar → List ℕ
-printed (Int n) = signed_decimal n
-printed (Truth b) = truth_text b
-printed (Str bytes) = bytes
-printed (Model n) = codes "model " ++ decimal n
-printed (Event class value) = codes "event " ++ signed_decimal class ++ codes " " ++ signed_decimal value
+text bytes = found Str (text_of bytes)
 
 -- what an operator or function makes of values, in the order in which they are written
 abbrev pub answer : Operation → List Value → Result
-answer (between sum) (One (Int a) ∷ One (Int b) ∷ []) = integer (a +ℤ b)
+answer (between sum) (One (Int a) ∷ One (Int b) ∷ []) = found Int (sum_of a b)
 answer (between sum) _ = Sticks
-answer (between difference) (One (Int a) ∷ One (Int b) ∷ []) = integer (a -ℤ b)
+answer (between difference) (One (Int a) ∷ One (Int b) ∷ []) = found Int (difference_of a b)
 answer (between difference) _ = Sticks
 answer (between (compare how)) (One a ∷ One b ∷ []) = truth (compared how a b)
 answer (between (compare how)) _ = Sticks
+answer product (One (Int a) ∷ One (Int b) ∷ []) = found Int (product_of a b)
+answer product _ = Sticks
+answer quotient (One (Int a) ∷ One (Int b) ∷ []) = found Int (quotient_of a b)
+answer quotient _ = Sticks
+answer remainder (One (Int a) ∷ One (Int b) ∷ []) = found Int (remainder_of a b)
+answer remainder _ = Sticks
+answer negative (One (Int a) ∷ []) = found Int (negative_of a)
+answer negative _ = Sticks
+answer join (One (Str a) ∷ One (Str b) ∷ []) = found Str (join_of a b)
+answer join _ = Sticks
 answer range (One (Int a) ∷ One (Int b) ∷ []) = Gives (Range a b)
 answer range _ = Sticks
-answer show (One value ∷ []) = text (printed value)
+answer show (One value ∷ []) = found Str (show_one value)
 answer show _ = Sticks

@@ -1,8 +1,9 @@
 -- Computed examples of operators.
 
-use Rattle.std.specs.Prelude.{◌≡◌, [], ◌∷◌, Some, pos, negsuc, true, codes, map}
+use Rattle.std.specs.Prelude.{◌≡◌, [], ◌∷◌, Some, pos, negsuc, true, codes, map, Ok, Err}
 use Rattle.mos_text.specs.declared.fault_kind.FaultKind.TheVariants.{Overflow}
 use Rattle.mos_text.specs.declared.scalar.Scalar.TheVariants.{Int, Bool as Truth, Str}
+use Rattle.mos_value.specs.Numbers.{quotient_of, remainder_of}
 use Rattle.mos_value.specs.Values.{One, Range, members_of}
 use Rattle.mos_value.specs.Answers.{Gives, Faults, Sticks, between, sum, difference, compare, less, show, answer}
 
@@ -12,6 +13,15 @@ LeastInteger =
     map (answer (between difference))
     ((One (Int (negsuc 2147483646)) ∷ One (Int (pos 1)) ∷ []) ∷ (One (Int (negsuc 2147483647)) ∷ One (Int (pos 1)) ∷ []) ∷ [])
     ≡ Gives (One (Int (negsuc 2147483647))) ∷ Faults Overflow ∷ []
+
+-- -7 div 2 is -3, and leaves -1
+abbrev pub SevenByTwo : Type 0
+SevenByTwo = (quotient_of (negsuc 6) (pos 2) ≡ Ok (negsuc 2)) × (remainder_of (negsuc 6) (pos 2) ≡ Ok (negsuc 0))
+
+-- the least integer by -1 does not fit, and leaves 0
+abbrev pub LeastByMinusOne : Type 0
+LeastByMinusOne =
+    (quotient_of (negsuc 2147483647) (negsuc 0) ≡ Err Overflow) × (remainder_of (negsuc 2147483647) (negsuc 0) ≡ Ok (pos 0))
 
 -- texts compare by bytes, and have no sum
 abbrev pub TextsCompare : Type 0

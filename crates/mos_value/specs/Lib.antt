@@ -1,3 +1,14 @@
 pub mod Values
+pub mod Same
+pub mod Numbers
+pub mod Comparisons
+pub mod Texts
+pub mod UpToMemory
+pub mod Collections
+pub mod Sets
+pub mod Lists
+pub mod Ranges
 pub mod Answers
+pub mod ScalarLaws
+pub mod Laws
 pub mod Examples

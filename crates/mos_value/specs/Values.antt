@@ -3,14 +3,16 @@
 use Rattle.std.specs.Prelude.{ℕ, zero, suc, ℤ, pos, negsuc, ◌+ℤ◌, ◌-ℤ◌, List, [], ◌∷◌, Option, Some, None}
 use Rattle.mos_text.specs.declared.scalar.Scalar.{Scalar}
 use Rattle.mos_text.specs.declared.scalar.Scalar.TheVariants.{Int}
+use Rattle.mos_value.specs.declared.member.MemberType.{MemberType}
 
--- what a variable holds
+-- what a variable holds. A value carries what its parts do not tell: by the type of its members a set or
+-- list takes data, and by the names of its fields a record is printed. Comparisons look at parts alone.
 pub data Value : Type 0 where
   One : (value : Scalar) → Value
-  SetOf : (members : List Scalar) → Value  -- each once, in the order in which they were added
-  ListOf : (items : List Scalar) → Value
+  SetOf : (member : MemberType) (members : List Scalar) → Value  -- each once, in the order in which they were added
+  ListOf : (member : MemberType) (items : List Scalar) → Value
   Range : (first last : ℤ) → Value
-  Fields : (values : List Scalar) → Value  -- of a record, in the order of its type
+  Fields : (names : List (List ℕ)) (values : List Scalar) → Value  -- of a record, in the order of its type
 
 -- where a value is held: a slot of a frame. Frame 0 is the model's; each call of a routine has one more.
 pub record Place : Type 0 where
@@ -35,8 +37,8 @@ integers_from n (suc many) = Int n ∷ integers_from (n +ℤ pos 1) many
 
 -- the members of what can be gone through, in order
 abbrev pub members_of : Value → Option (List Scalar)
-members_of (SetOf members) = Some members
-members_of (ListOf items) = Some items
+members_of (SetOf member members) = Some members
+members_of (ListOf member items) = Some items
 members_of (Range first last) = Some (integers_from first (at_least_zero (last -ℤ first +ℤ pos 1)))
 members_of (One value) = None
-members_of (Fields values) = None
+members_of (Fields names values) = None

@@ -1,0 +1,158 @@
+//! The items of a set or list.
+ghost use Rattle.std.specs.Prelude.{◌≡◌, [], ◌∷◌, ◌++◌, ◌↔◌, ◌≤◌, IsTrue, IfOk, length, take};
+ghost use Rattle.mos_value.specs.Collections.{collection_limit, collection_of};
+ghost use Rattle.mos_value.specs.UpToMemory.{Becomes};
+ghost use Rattle.mos_value.specs.Sets.{has_member, with_member, inter, minus};
+ghost use Rattle.std.specs.List.{list_all};
+
+use crate::{COLLECTION_LIMIT, ValueFault, same_one};
+use mos_text::{FaultKind, NoMemory, Scalar};
+use std::alloc::Global;
+use std::marker::Model;
+
+/// The members of a set, or the items of a list: at most 1,000,000 scalars in their order.
+#[derive(Debug, Drop)]
+pub struct Items {
+    scalars: Vec<Scalar>,
+}
+
+impl Model for Items {
+    ghost use Rattle.std.specs.Prelude.{List, ◌≤◌, length};
+    ghost use Rattle.mos_text.specs.declared.scalar.Scalar.{Scalar};
+    ghost use Rattle.mos_value.specs.Collections.{collection_limit};
+
+    ghost Value = { List Scalar };
+
+    ghost view = { λ it. it.scalars.items };
+
+    ghost invariant = { λ it. length it.scalars.items ≤ collection_limit };
+}
+
+impl Items {
+    /// No items; it takes no memory.
+    pub fn new(alloc: Global) -> Items
+        ensures { result ≡ [] }
+    {
+        Items {
+            scalars: Vec::new(alloc),
+        }
+    }
+
+    /// How many items there are, at most 1,000,000.
+    pub fn len(&self) -> usize
+        ensures length { result ≡ length self.now }
+        ensures limited { result ≤ collection_limit }
+    {
+        self.scalars.len()
+    }
+
+    /// Whether there are none.
+    pub fn is_empty(&self) -> bool
+        ensures { IsTrue result ↔ (self.now ≡ []) }
+    {
+        self.scalars.is_empty()
+    }
+
+    /// The items.
+    pub fn as_slice(&self) -> &[Scalar]
+        ensures { result.now ≡ self.now }
+    {
+        self.scalars.as_slice()
+    }
+
+    /// Adds the item at the end. Where it is refused nothing is changed.
+    #[tactic(auto, using(crate::proofs::CollectionLemmas::collection_few, crate::proofs::CollectionLemmas::collection_many))]
+    pub fn push(&mut self, item: Scalar) -> Result<(), ValueFault>
+        ensures { Becomes self.old self.new result (collection_of (self.old ++ item ∷ [])) }
+    {
+        if self.scalars.len() < COLLECTION_LIMIT {
+            self.scalars.push(item)?;
+            Ok(())
+        } else {
+            Err(ValueFault::Fault(FaultKind::TooBig))
+        }
+    }
+
+    /// Whether the scalar is one of these.
+    pub(crate) fn has(&self, x: &Scalar) -> bool
+        ensures { result ≡ has_member x.now self.now }
+    {
+        self.scalars.iter().any(|item| same_one(x, item))
+    }
+
+    /// Adds a copy of the scalar at the end, where it is none of these. Where it is refused nothing is
+    /// changed.
+    #[tactic(auto, using(crate::proofs::CollectionLemmas::collection_few, crate::proofs::CollectionLemmas::collection_many))]
+    pub(crate) fn insert(&mut self, alloc: Global, x: &Scalar) -> Result<(), ValueFault>
+        ensures { Becomes self.old self.new result (collection_of (with_member self.old x.now)) }
+    {
+        let _ = &self.scalars;
+        if self.has(x) {
+            Ok(())
+        } else {
+            self.push(x.copy(alloc)?)
+        }
+    }
+
+    /// Keeps the first so many items.
+    pub(crate) fn truncate(&mut self, many: usize)
+        ensures { self.new ≡ take many self.old }
+    {
+        self.scalars.truncate(many);
+    }
+
+    /// Keeps the items that the others have.
+    pub(crate) fn keep_those_of(&mut self, others: &Items)
+        ensures kept { self.new ≡ inter self.old others.now }
+        ensures limited { length self.new ≤ collection_limit }
+    {
+        self.scalars.retain(|item| others.has(item));
+    }
+
+    /// Keeps the items that the others lack.
+    pub(crate) fn drop_those_of(&mut self, others: &Items)
+        ensures kept { self.new ≡ minus self.old others.now }
+        ensures limited { length self.new ≤ collection_limit }
+    {
+        self.scalars.retain(|item| !others.has(item));
+    }
+
+    /// A copy of these, or that memory is wanting.
+    pub fn copy(&self, alloc: Global) -> Result<Items, NoMemory>
+        ensures { IfOk result (λ copy. copy ≡ self.now) }
+    {
+        let scalars = copies(alloc, self.scalars.as_slice())?;
+        Ok(Items { scalars })
+    }
+
+    /// Adds the others at the end. Where they are refused nothing is changed.
+    #[tactic(auto, using(crate::proofs::CollectionLemmas::collection_few, crate::proofs::CollectionLemmas::collection_many))]
+    pub(crate) fn append(&mut self, others: Items) -> Result<(), ValueFault>
+        ensures { Becomes self.old self.new result (collection_of (self.old ++ others)) }
+    {
+        if self.scalars.len() + others.len() > COLLECTION_LIMIT {
+            return Err(ValueFault::Fault(FaultKind::TooBig));
+        }
+        let Items { mut scalars } = others;
+        self.scalars.append(&mut scalars)?;
+        Ok(())
+    }
+
+    /// Whether the others have each of these.
+    pub(crate) fn are_all_in(&self, others: &Items) -> bool
+        ensures { result ≡ list_all (λ x. has_member x others.now) self.now }
+    {
+        self.scalars.iter().all(|item| others.has(item))
+    }
+}
+
+/// A copy of each.
+fn copies(alloc: Global, scalars: &[Scalar]) -> Result<Vec<Scalar>, NoMemory>
+    ensures { IfOk result (λ copied. copied.items ≡ scalars.now) }
+{
+    let mut copied = Vec::new(alloc);
+    for scalar in scalars {
+        copied.push(scalar.copy(alloc)?)?;
+    }
+    Ok(copied)
+}
