@@ -53,6 +53,20 @@ HasDefault image (Constant k) = k < length image.constants
 abbrev pub HasParameter : Image → Parameter → Type 0
 HasParameter image p = (p.name < length image.constants) × (p.slot < length image.globals) × HasDefault image p.default
 
+-- the parts of a type, and the names of its fields
+abbrev pub HasParts : Image → ImageType → Type 0
+HasParts image (Set member) = member < length image.types
+HasParts image (ListOf member) = member < length image.types
+HasParts image (Array dynamic indexes cell) = All (λ typ. typ < length image.types) indexes × (cell < length image.types)
+HasParts image (Record fields) =
+    All (λ (field : Field). (field.name < length image.constants) × (field.typ < length image.types)) fields
+HasParts image Integer = Unit {0}
+HasParts image Boolean = Unit {0}
+HasParts image Str = Unit {0}
+HasParts image Model = Unit {0}
+HasParts image Event = Unit {0}
+HasParts image Range = Unit {0}
+
 -- the types in a routine, which has at most as many arguments as slots
 pub record HasRoutine (image : Image) (routine : Routine) : Type 0 where
   pub slots : All (λ (slot : Slot). slot.typ < length image.types) routine.slots
@@ -65,6 +79,7 @@ HasPoint image point = All (λ (operand : Operand). operand.typ < length image.t
 
 -- all of these
 pub record HasNumbers (image : Image) : Type 0 where
+  pub types : All (HasParts image) image.types
   pub parameters : All (HasParameter image) image.params
   pub globals : All (λ typ. typ < length image.types) image.globals
   pub routines : All (HasRoutine image) image.routines

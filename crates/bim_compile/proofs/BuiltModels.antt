@@ -3,7 +3,7 @@
 use Rattle.mos_names.specs.NameLists.{Name}
 use Rattle.std.specs.Prelude.{List}
 use Rattle.mos_value.specs.Answers.{sum, difference, compare}
-use Rattle.mos_meaning.specs.Syntax.{Own, Model, Scope, Expression, number, text, truth, variable, index, apply, range_of, sum_over, invoke, ask_hub, unbuilt, Shown, nothing, one_more, Effect, assign, change, write, perform, if_, while_, do_, break_, next_, unbuilt_effect, Branches, else_, elif, Block, no_more, first}
+use Rattle.mos_meaning.specs.Syntax.{Own, Model, Scope, Expression, number, text, truth, variable, index, apply, range_of, sum_over, invoke, ask_hub, unbuilt, Shown, nothing, one_more, Effect, assign, change, write, perform, tell_hub, if_, while_, do_, break_, next_, unbuilt_effect, Branches, else_, elif, Block, no_more, first}
 use Rattle.mos_meaning.specs.Working.{IsVariable, IsNumeric, IsShown, IsCondition, AreShown, Works, BranchesWork, AllWork}
 use Rattle.bim_compile.specs.Built.{IsModels, IsBuilt, AreBuilt, IsBuiltEffect, AreBuiltBranches, IsBuiltBlock}
 
@@ -62,6 +62,7 @@ mutual
   effect-built names (change line operator scope n e) h = (models-built names scope n h.1, numeric-built names e h.2)
   effect-built names (write line newline all) h = all-built names all h
   effect-built names (perform line routine all) h = absurd h
+  effect-built names (tell_hub line function all) h = absurd h
   effect-built names (if_ line all) h = branches-built names all h
   effect-built names (while_ line e body) h = (condition-built names e h.0, effect-built names body h.1)
   effect-built names (do_ all) h = block-built names all h

@@ -1,13 +1,10 @@
 -- The course of a model's image is the model's meaning.
 
-use Rattle.std.proofs.Common.{◌≡◌, ◌≢◌, ◌≤◌, ℕ, ◌+◌, zero, suc, pos, List, [], ◌∷◌, ◌++◌, length, map, Option, Some, None, refl, sym, ap, ◌∙◌, subst, arith}
+use Rattle.std.proofs.Common.{◌≡◌, ◌≢◌, ℕ, ◌+◌, zero, suc, pos, List, [], ◌∷◌, length, Option, Some, None, refl, sym, ap, ◌∙◌, arith}
 use Rattle.std.specs.Prelude.{replicate, option_map}
-use Rattle.std.proofs.lemmas.List.{length-replicate}
 use Rattle.mos_text.specs.declared.scalar.Scalar.{Scalar}
 use Rattle.mos_text.specs.declared.scalar.Scalar.TheVariants.{Int}
-use Rattle.job_calls.specs.declared.reply.Reply.{Reply}
 use Rattle.bim_code.specs.declared.image.Image.{Image}
-use Rattle.bim_code.specs.declared.image.ImageType.{ImageType}
 use Rattle.bim_code.specs.declared.image.ImageType.TheVariants.{Integer}
 use Rattle.bim_code.specs.declared.instruction.Instruction.TheVariants.{PushInt, End}
 use Rattle.bim_code.specs.Code.{instruction_at}
@@ -17,35 +14,35 @@ use Rattle.mos_value.specs.Values.{Value, One}
 use Rattle.run_state.specs.Stops.{Stop, Exited, Failed, Spent, Stopped, Asking, Stuck, Lost, Outcome}
 use Rattle.run_state.specs.State.{World, State, beginning, over, outcome_of, Out, Gave, Halts}
 use Rattle.run_state.specs.Parameters.{and_then, given_values}
-use Rattle.bim_machine.specs.Starts.{Beginning, all_of, type_default, defaults_in, or_broken, Begins, with_given as image_given, beginning_of}
-use Rattle.bim_machine.specs.Machine.{Machine, At, Over, idle}
-use Rattle.bim_machine.specs.Courses.{Progress, run, main, start, most_steps, told, course_from, course_of}
+use Rattle.bim_machine.specs.Starts.{defaults_in, or_broken, with_given as image_given}
+use Rattle.bim_machine.specs.Machine.{Machine, At, Over}
+use Rattle.bim_machine.specs.Courses.{Progress, run, main, start, most_steps, told, course_from}
 use Rattle.bim_machine.specs.Laws.{OverInTime, StaysOver, IsOver}
-use Rattle.mos_meaning.specs.Syntax.{Block, Program}
+use Rattle.mos_meaning.specs.Syntax.{Block}
 use Rattle.mos_meaning.specs.Sources.{variables_of, zeros, program_of}
 use Rattle.mos_meaning.specs.Effects.{Flow, Goes, Breaks, Continues}
-use Rattle.mos_meaning.specs.Meaning.{names_of, outside, main_effect, ended, with_given, meaning_of}
-use Rattle.mos_meaning.specs.Working.{AllWork, NeverLost}
+use Rattle.mos_meaning.specs.Meaning.{names_of, outside, main_effect, ended, with_given}
+use Rattle.mos_meaning.specs.Working.{NeverLost}
 use Rattle.bim_compile.specs.declared.draft.Labelled.{Labelled}
 use Rattle.bim_compile.specs.Built.{IsBuiltBlock}
 use Rattle.bim_compile.specs.Compiled.{at_line, block_code, block_end, types_of, labelled_of, image_of}
 use Rattle.bim_compile.specs.Means.{Means}
 use Rattle.bim_compile.proofs.Leads.{Leads, same, chain, then_one, reached}
-use Rattle.bim_compile.proofs.Standing.{HasAt, whole, cut, all_texts}
+use Rattle.bim_compile.proofs.Standing.{whole, cut, all_texts}
 use Rattle.bim_compile.proofs.EndLemmas.{block_after}
-use Rattle.bim_compile.proofs.Stores.{Known, Stores, alone, begun_stores}
-use Rattle.bim_compile.proofs.Lands.{Lands, Landing, owed, Ends}
+use Rattle.bim_compile.proofs.Stores.{Known, alone, begun_stores}
+use Rattle.bim_compile.proofs.Lands.{Lands, owed, Ends}
 use Rattle.bim_compile.proofs.StatementRuns.{bare, leading, block_runs}
 
 -- Each global slot begins with 0.
 
-zero_slots : (m : ℕ) → defaults_in (Integer ∷ []) (replicate m 0) ≡ Some (replicate m (One (Int (pos 0))))
-zero_slots zero = refl
-zero_slots (suc m) = ap (λ (o : Option (List Value)). option_map (λ (vs : List Value). One (Int (pos 0)) ∷ vs) o) (zero_slots m)
+zero_slots : (constants : List (List ℕ)) (m : ℕ) → defaults_in constants (Integer ∷ []) (replicate m 0) ≡ Some (replicate m (One (Int (pos 0))))
+zero_slots constants zero = refl
+zero_slots constants (suc m) = ap (λ (o : Option (List Value)). option_map (λ (vs : List Value). One (Int (pos 0)) ∷ vs) o) (zero_slots constants m)
 
-slots_begin : (names : List Name) → defaults_in (types_of names) (replicate (length names) 0) ≡ Some (zeros names)
-slots_begin [] = refl
-slots_begin (n ∷ names) = zero_slots (length (n ∷ names))
+slots_begin : (constants : List (List ℕ)) (names : List Name) → defaults_in constants (types_of names) (replicate (length names) 0) ≡ Some (zeros names)
+slots_begin constants [] = refl
+slots_begin constants (n ∷ names) = zero_slots constants (length (n ∷ names))
 
 -- The end of the text.
 
@@ -136,7 +133,7 @@ course_is_meaning in_time stays model built keeps never text replies budget = gi
         ∙ told_comes in_time stays (image_of model) (record { replies = replies; budget = budget }) (zeros (variables_of model)) _ keeps (main_comes model (record { replies = replies; budget = budget }) built n)
 
     given : (o : Option (List Scalar)) → (with_given (record { replies = replies; budget = budget }) (program_of model) o).stop ≢ Lost
-        → (course_from (image_of model) (record { replies = replies; budget = budget }) (image_given o (image_of model) (defaults_in (image_of model).types (image_of model).globals))).outcome
+        → (course_from (image_of model) (record { replies = replies; budget = budget }) (image_given o (image_of model) (defaults_in (image_of model).constants (image_of model).types (image_of model).globals))).outcome
         ≡ with_given (record { replies = replies; budget = budget }) (program_of model) o
     given None n = refl
-    given (Some values) n = begun (defaults_in (image_of model).types (image_of model).globals) values (slots_begin (variables_of model)) n
+    given (Some values) n = begun (defaults_in (image_of model).constants (image_of model).types (image_of model).globals) values (slots_begin (image_of model).constants (variables_of model)) n

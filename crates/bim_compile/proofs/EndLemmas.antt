@@ -2,10 +2,10 @@
 
 use Rattle.std.proofs.Common.{◌≡◌, ℕ, ◌+◌, List, [], ◌∷◌, ◌++◌, length, refl, ap, ◌∙◌}
 use Rattle.std.specs.Int.{from_bool}
-use Rattle.bim_code.specs.declared.instruction.Instruction.TheVariants.{Tick, PushBool, LoadGlobal, StoreGlobal, Swap, Jump, JumpIf, JumpNot, Show, Write, Line}
+use Rattle.bim_code.specs.declared.instruction.Instruction.TheVariants.{PushBool, LoadGlobal, StoreGlobal, Swap, Jump, JumpIf, JumpNot, Show, Write, Line}
 use Rattle.mos_names.specs.NameLists.{Name, place_of}
 use Rattle.mos_value.specs.Answers.{Operator, sum, difference, compare}
-use Rattle.mos_meaning.specs.Syntax.{Expression, number, text, truth, variable, index, apply, range_of, sum_over, invoke, ask_hub, unbuilt, Shown, nothing, one_more, Effect, assign, change, write, perform, if_, while_, do_, break_, next_, unbuilt_effect, Branches, else_, elif, Block, no_more, first}
+use Rattle.mos_meaning.specs.Syntax.{Expression, number, text, truth, variable, index, apply, range_of, sum_over, invoke, ask_hub, unbuilt, Shown, nothing, one_more, Effect, assign, change, write, perform, tell_hub, if_, while_, do_, break_, next_, unbuilt_effect, Branches, else_, elif, Block, no_more, first}
 use Rattle.bim_compile.specs.declared.draft.Labelled.{Labelled}
 use Rattle.bim_compile.specs.Compiled.{at_line, texts_in, texts_in_effect, texts_in_block, expression_code, expression_end, arguments_code, arguments_end, operator_code, effect_code, effect_end, branches_code, branches_end, block_code, block_end}
 use Rattle.bim_compile.proofs.Standing.{after, after-append}
@@ -74,6 +74,7 @@ mutual
   effect_after names k at out next (break_ line) = refl
   effect_after names k at out next (next_ line) = refl
   effect_after names k at out next (perform line routine all) = refl
+  effect_after names k at out next (tell_hub line function all) = refl
   effect_after names k at out next unbuilt_effect = refl
 
   pub branches_after : (names : List Name) (k at end out next : ℕ) (all : Branches) → after at (branches_code names k at end out next all) ≡ branches_end at all

@@ -1,20 +1,20 @@
 -- The code of an expression leaves its value on the stack, or stops as the expression does.
 
-use Rattle.std.proofs.Common.{◌≡◌, Bool, true, false, ℕ, ◌+◌, List, [], ◌∷◌, ◌++◌, length, Option, Some, None, refl, sym, ap, ◌∙◌, slice_get, subst}
+use Rattle.std.proofs.Common.{◌≡◌, Bool, true, false, ℕ, ◌+◌, List, [], ◌∷◌, ◌++◌, length, Option, Some, None, refl, sym, subst}
 use Rattle.std.specs.Int.{from_bool}
 use Rattle.mos_text.specs.declared.scalar.Scalar.TheVariants.{Int, Bool as Truth}
 use Rattle.bim_code.specs.declared.image.Image.{Image}
 use Rattle.bim_code.specs.declared.instruction.Instruction.TheVariants.{PushInt, PushBool, PushText, LoadGlobal, Add, Subtract, Compare}
 use Rattle.bim_code.specs.Code.{instruction_at}
-use Rattle.mos_names.specs.NameLists.{Name, place_of}
-use Rattle.mos_value.specs.Values.{Value, One, Place}
+use Rattle.mos_names.specs.NameLists.{place_of}
+use Rattle.mos_value.specs.Values.{Value, One}
 use Rattle.mos_value.specs.Answers.{Operator, between, sum, difference, compare, answer}
 use Rattle.mos_value.specs.Answers as how
 use Rattle.run_state.specs.Stops.{Lost}
 use Rattle.run_state.specs.State.{World, State, over, Out, bind, or_stop, answered}
 use Rattle.run_state.specs.Places.{load}
-use Rattle.bim_machine.specs.Machine.{Machine, At, Work, Here, On, push, settle}
-use Rattle.bim_machine.specs.Instructions.{act, on_some, resulted, global, truth_of_operand, comparison_of}
+use Rattle.bim_machine.specs.Machine.{At, Work, Here, On, push, settle}
+use Rattle.bim_machine.specs.Instructions.{on_some, resulted, global, truth_of_operand, comparison_of}
 use Rattle.bim_machine.specs.Courses.{site_of}
 use Rattle.mos_meaning.specs.Syntax.{Own, Model, Expression, number, text, truth, variable, index, apply, range_of, sum_over, invoke, ask_hub, unbuilt}
 use Rattle.mos_meaning.specs.Values.{Names, Env, Routine, loaded, value_of}
@@ -23,7 +23,7 @@ use Rattle.bim_compile.specs.Compiled.{at_line, texts_in, operator_code, compari
 use Rattle.bim_compile.proofs.Standing.{HasAt, HasTexts, text_parts, cut}
 use Rattle.bim_compile.proofs.EndLemmas.{expression_after}
 use Rattle.bim_compile.proofs.Stores.{Known, Stores, loaded_stores}
-use Rattle.bim_compile.proofs.Lands.{Lands, gave, halts, lost, then_, instruct, answer_lands}
+use Rattle.bim_compile.proofs.Lands.{Lands, gave, lost, then_, instruct, answer_lands}
 
 -- from `at` on the machine computes `g`, whatever it has at hand, and comes to `end`
 abbrev pub Computes : Image → World → Known → Here → (at end : ℕ) → (State → Out Value) → Type 0

@@ -1,6 +1,6 @@
 -- The image of a model whose statements work, and which is in size, keeps the rules of images.
 
-use Rattle.std.proofs.Common.{◌≡◌, ◌≤◌, ◌<◌, ◌^◌, ◌+◌, ◌*◌, ℕ, zero, suc, pos, Bool, true, false, List, [], ◌∷◌, ◌++◌, length, map, Option, Some, None, refl, sym, ap, ◌∙◌, subst, slice_get, get_or, take, arith, length-append, rules}
+use Rattle.std.proofs.Common.{◌≡◌, ◌≤◌, ◌<◌, ◌+◌, ℕ, zero, suc, pos, List, [], ◌∷◌, ◌++◌, length, Option, Some, None, refl, sym, subst, slice_get, take, arith, rules}
 use Rattle.std.specs.Prelude.{All, FitsSigned, replicate}
 use Rattle.std.specs.Int.{w32}
 use Rattle.std.specs.Option.{IfSome}
@@ -10,21 +10,20 @@ use Rattle.bim_code.specs.declared.image.Image.{Image}
 use Rattle.bim_code.specs.declared.image.ImageType.{ImageType}
 use Rattle.bim_code.specs.declared.image.ImageType.TheVariants.{Integer}
 use Rattle.bim_code.specs.declared.instruction.Instruction.{Instruction}
-use Rattle.bim_code.specs.declared.instruction.Instruction.TheVariants.{Tick, PushInt, End}
+use Rattle.bim_code.specs.declared.instruction.Instruction.TheVariants.{PushInt, End}
 use Rattle.bim_code.specs.Rows.{width, named_address}
-use Rattle.bim_code.specs.Code.{instruction_at, instruction_from}
-use Rattle.bim_code.specs.Rules.{HasNumber, HasNumbers, IsFlat, HasTypes, IsBegun, NamesInPart, HasAddresses, GoesOn, HasEnds, KeepsTicks, KeepsRules, leaves_part}
+use Rattle.bim_code.specs.Code.{instruction_at}
+use Rattle.bim_code.specs.Rules.{HasNumber, HasParts, IsFlat, IsBegun, KeepsRules}
 use Rattle.mos_names.specs.NameLists.{Name}
 use Rattle.mos_meaning.specs.Syntax.{Block}
 use Rattle.mos_meaning.specs.Sources.{variables_of}
 use Rattle.mos_meaning.specs.Working.{AllWork}
 use Rattle.bim_compile.specs.declared.draft.Labelled.{Labelled}
 use Rattle.bim_compile.specs.InSize.{IsInSize}
-use Rattle.bim_compile.specs.Sizes.{size_of_block}
 use Rattle.bim_compile.specs.Compiled.{at_line, instructions, texts_in_block, block_code, block_end, types_of, labelled_of, image_of}
-use Rattle.bim_compile.proofs.Standing.{HasAt, after, whole, cut}
+use Rattle.bim_compile.proofs.Standing.{whole, cut}
 use Rattle.bim_compile.proofs.EndLemmas.{block_after}
-use Rattle.bim_compile.proofs.RightCode.{NamesWell, IsRight, AreRight, Tables, Exits, right_append, block_right, right_found}
+use Rattle.bim_compile.proofs.RightCode.{NamesWell, IsRight, AreRight, right_append, block_right, right_found}
 use Rattle.bim_compile.proofs.Followed.{LeavesLast, leaves_append, followed}
 use Rattle.bim_compile.proofs.SizeLemmas.{texts_few_block, block_within}
 
@@ -68,6 +67,11 @@ typed : (names : List Name) → All (λ typ. typ < length (types_of names)) (rep
 typed [] = All-nil _
 typed (n ∷ names) = All-replicate (λ typ. typ < 1) (length (n ∷ names)) 0 (omega arith)
 
+-- no type has parts
+whole_types : (image : Image) (names : List Name) → All (HasParts image) (types_of names)
+whole_types image [] = All-nil _
+whole_types image (n ∷ names) = All-cons (HasParts image) Integer [] tt (All-nil _)
+
 flat : (constants : List (List ℕ)) (names : List Name) (k : ℕ) (typ : ImageType) → slice_get (types_of names) k ≡ Some typ → IsFlat constants (take k (types_of names)) typ
 flat constants [] k typ e = cc
 flat constants (n ∷ names) zero typ e =
@@ -100,6 +104,7 @@ begins (i ∷ is) h = (i, refl)
 pub keeps_rules : (model : Block) → AllWork (variables_of model) model → IsInSize model → KeepsRules (image_of model)
 keeps_rules model works in_size = record {
   numbers = record {
+    types = whole_types (image_of model) (variables_of model);
     parameters = All-nil _;
     globals = typed (variables_of model);
     routines = All-nil _;

@@ -1,10 +1,10 @@
 -- Where the machine lands: behind code that does what a form does it stands with the form's result, or is
 -- over as the form stops. Nothing is owed of a form that is lost.
 
-use Rattle.std.proofs.Common.{◌≡◌, ℕ, ◌+◌, List, [], ◌∷◌, ◌++◌, length, Option, Some, None, Bool, true, false, refl, sym, ap, ◌∙◌, subst, nat_lt, nat_le}
+use Rattle.std.proofs.Common.{◌≡◌, ℕ, ◌+◌, List, [], ◌∷◌, ◌++◌, length, Option, Some, None, Bool, true, false, refl, sym, ap, subst, nat_lt, nat_le}
 use Rattle.std.specs.Prelude.{if◌then◌else◌}
 use Rattle.mos_text.specs.declared.fault_kind.FaultKind.TheVariants.{OutFull}
-use Rattle.mos_text.specs.declared.scalar.Scalar.TheVariants.{Int, Bool as Truth, Str}
+use Rattle.mos_text.specs.declared.scalar.Scalar.TheVariants.{Bool as Truth}
 use Rattle.bim_code.specs.declared.image.Image.{Image}
 use Rattle.bim_code.specs.declared.instruction.Instruction.{Instruction}
 use Rattle.bim_code.specs.declared.instruction.Instruction.TheVariants.{Tick, JumpIf, JumpNot}
@@ -12,14 +12,14 @@ use Rattle.bim_code.specs.Code.{instruction_at}
 use Rattle.mos_value.specs.Values.{Value, One, Place}
 use Rattle.mos_value.specs.Answers.{Result, Gives, Faults, Sticks}
 use Rattle.run_state.specs.Stops.{Stop, Exited, Failed, Spent, Stopped, Asking, Stuck, Lost}
-use Rattle.run_state.specs.State.{World, State, over, Out, Gave, Halts, bind, on_line, or_stop, answered, counting, had, tick, tick_if, write}
+use Rattle.run_state.specs.State.{World, State, over, Out, Gave, Halts, bind, on_line, answered, counting, had, tick_if, write}
 use Rattle.run_state.specs.Places.{put}
 use Rattle.run_state.specs.Parameters.{and_then}
 use Rattle.bim_machine.specs.Machine.{Machine, At, Over, Work, Here, Site, push, on_out, put_all, stored, settle, Puts, Prints}
 use Rattle.bim_machine.specs.Instructions.{act, resulted}
 use Rattle.bim_machine.specs.Courses.{site_of}
 use Rattle.mos_meaning.specs.Values.{on_truth, ticking}
-use Rattle.mos_meaning.specs.Effects.{Flow, Goes, stored as meant}
+use Rattle.mos_meaning.specs.Effects.{Goes, stored as meant}
 use Rattle.bim_compile.proofs.Leads.{Leads, same, chain, then_one}
 use Rattle.bim_compile.proofs.Stores.{Known, Stores, Extends, extends, put_stores}
 

@@ -12,3 +12,4 @@ pub mod SizeLemmas
 pub mod KeptRules
 pub mod CourseLemmas
 pub mod BuiltModels
+pub mod StillEmits

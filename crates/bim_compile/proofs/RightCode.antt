@@ -1,21 +1,21 @@
 -- Each instruction of a model's code keeps the rules: its operand is in its table, and an address that it
 -- names is that of an instruction, of a tick where it does not lie ahead.
 
-use Rattle.std.proofs.Common.{◌≡◌, ◌≤◌, ◌<◌, ◌^◌, ◌+◌, ℕ, zero, suc, pos, Bool, true, false, List, [], ◌∷◌, ◌++◌, length, map, Option, Some, None, refl, sym, ap, ◌∙◌, subst, cond, nat_eq, arith, length-append, rules}
-use Rattle.std.specs.Prelude.{FitsSigned, if◌then◌else◌, ◌||◌}
+use Rattle.std.proofs.Common.{◌≡◌, ◌≤◌, ◌<◌, ◌^◌, ◌+◌, ℕ, Bool, true, false, List, [], ◌∷◌, ◌++◌, length, Some, refl, sym, ap, ◌∙◌, subst, cond, nat_eq, arith, length-append}
+use Rattle.std.specs.Prelude.{if◌then◌else◌, ◌||◌}
 use Rattle.std.specs.Str.{bytes_eq}
-use Rattle.std.specs.Int.{w32, from_bool}
+use Rattle.std.specs.Int.{from_bool}
 use Rattle.std.specs.Option.{IfSome}
 use Rattle.std.proofs.lemmas.Bool.Decides.{nat_tests}
 use Rattle.bim_code.specs.declared.image.Image.{Image}
 use Rattle.bim_code.specs.declared.instruction.Instruction.{Instruction}
-use Rattle.bim_code.specs.declared.instruction.Instruction.TheVariants.{Tick, PushInt, PushBool, PushText, LoadGlobal, StoreGlobal, Swap, Add, Subtract, Compare, Jump, JumpIf, JumpNot, Show, Write, Line, End}
+use Rattle.bim_code.specs.declared.instruction.Instruction.TheVariants.{Tick, PushBool, LoadGlobal, StoreGlobal, Swap, Jump, JumpIf, JumpNot, Show, Write, Line}
 use Rattle.bim_code.specs.Rows.{width, named_address}
 use Rattle.bim_code.specs.Code.{instruction_at, instruction_from}
 use Rattle.bim_code.specs.Rules.{HasNumber, IsBegun}
 use Rattle.mos_names.specs.NameLists.{Name, has_name, place_of}
 use Rattle.mos_value.specs.Answers.{Operator, sum, difference, compare}
-use Rattle.mos_meaning.specs.Syntax.{Own, Model, Scope, Expression, number, text, truth, variable, index, apply, range_of, sum_over, invoke, ask_hub, unbuilt, Shown, nothing, one_more, Effect, assign, change, write, perform, if_, while_, do_, break_, next_, unbuilt_effect, Branches, else_, elif, Block, no_more, first}
+use Rattle.mos_meaning.specs.Syntax.{Own, Model, Scope, Expression, number, text, truth, variable, index, apply, range_of, sum_over, invoke, ask_hub, unbuilt, Shown, nothing, one_more, Effect, assign, change, write, perform, tell_hub, if_, while_, do_, break_, next_, unbuilt_effect, Branches, else_, elif, Block, no_more, first}
 use Rattle.mos_meaning.specs.Working.{IsVariable, IsNumeric, IsShown, IsCondition, AreShown, Works, BranchesWork, AllWork}
 use Rattle.bim_compile.specs.declared.draft.Labelled.{Labelled}
 use Rattle.bim_compile.specs.InSize.{IsSmall, AreSmall, IsSmallEffect, AreSmallBranches, IsSmallBlock}
@@ -77,6 +77,7 @@ mutual
   effect_above at (break_ line) = omega arith
   effect_above at (next_ line) = omega arith
   effect_above at (perform line routine all) = omega arith
+  effect_above at (tell_hub line function all) = omega arith
   effect_above at unbuilt_effect = omega arith
 
   branches_above : (at : ℕ) (all : Branches) → at ≤ branches_end at all
@@ -220,6 +221,7 @@ mutual
         ((truth_within newline, tt), ((tt, tt), tt)),
   )
   effect_right image names k at out next (perform line routine all) tables works small few h x = absurd works
+  effect_right image names k at out next (tell_hub line function all) tables works small few h x = absurd works
   effect_right image names k at out next (if_ line all) tables works small few h x =
       ((tt, tt), branches_right image names k (at + 1) out next all tables works small few h.1 x)
   effect_right image names k at out next (while_ line e body) tables works small few h x =

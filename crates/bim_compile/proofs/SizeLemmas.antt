@@ -1,12 +1,11 @@
 -- Bounds on what is made of a model, by its size.
 
-use Rattle.std.proofs.Common.{◌≡◌, ◌≤◌, ◌<◌, ℕ, ◌+◌, ◌*◌, ◌^◌, zero, suc, pos, Bool, true, false, List, [], ◌∷◌, ◌++◌, length, map, refl, length-append, get_or, arith}
+use Rattle.std.proofs.Common.{◌≡◌, ◌≤◌, ◌<◌, ℕ, ◌+◌, ◌*◌, ◌^◌, zero, suc, pos, Bool, true, false, List, [], ◌∷◌, ◌++◌, length, refl, length-append, get_or, arith}
 use Rattle.std.specs.Prelude.{if◌then◌else◌, All}
 use Rattle.std.proofs.lemmas.List.{length-replicate, length-map}
 use Rattle.std.proofs.lemmas.List.Elements.{All-nil, All-cons, All-append}
 use Rattle.bim_compile.specs.InSize.{IsSmall, AreSmall, IsSmallEffect, AreSmallBranches, IsSmallBlock}
 use Rattle.bim_code.specs.declared.image.ImageType.{ImageType}
-use Rattle.bim_code.specs.declared.instruction.Instruction.{Instruction}
 use Rattle.bim_code.specs.declared.instruction.Instruction.TheVariants.{PushInt, PushBool, LoadGlobal, StoreGlobal, Swap, Jump, JumpIf, JumpNot, Show, Write, Line, End}
 use Rattle.std.specs.Int.{from_bool}
 use Rattle.bim_code.specs.declared.image.ImageType.TheVariants.{Integer}
@@ -14,8 +13,8 @@ use Rattle.bim_code.specs.Code.{code_size}
 use Rattle.bim_code.specs.Rows.{width}
 use Rattle.bim_code.specs.Limits.{FitsFields, TypeFits}
 use Rattle.mos_names.specs.NameLists.{Name, has_name, with_name, place_of}
-use Rattle.mos_value.specs.Answers.{Operator, sum, difference, compare}
-use Rattle.mos_meaning.specs.Syntax.{Expression, number, text, truth, variable, index, apply, range_of, sum_over, invoke, ask_hub, unbuilt, Shown, nothing, one_more, Effect, assign, change, write, perform, if_, while_, do_, break_, next_, unbuilt_effect, Branches, else_, elif, Block, no_more, first}
+use Rattle.mos_value.specs.Answers.{Operator}
+use Rattle.mos_meaning.specs.Syntax.{Expression, number, text, truth, variable, index, apply, range_of, sum_over, invoke, ask_hub, unbuilt, Shown, nothing, one_more, Effect, assign, change, write, perform, tell_hub, if_, while_, do_, break_, next_, unbuilt_effect, Branches, else_, elif, Block, no_more, first}
 use Rattle.mos_meaning.specs.Sources.{names_after, names_in_branches, names_from, variables_of}
 use Rattle.bim_compile.specs.declared.draft.Labelled.{Labelled}
 use Rattle.bim_compile.specs.Compiled.{at_line, instructions, labelled_of, expression_code, arguments_code, effect_code, branches_code, operator_code, texts_in, texts_in_all, texts_in_effect, texts_in_branches, texts_in_block, expression_end, arguments_end, effect_end, branches_end, block_code, block_end, types_of, image_of}
@@ -52,6 +51,7 @@ mutual
   texts_few_effect (next_ line) = omega arith
   texts_few_effect unbuilt_effect = omega arith
   texts_few_effect (perform line routine all) = omega arith
+  texts_few_effect (tell_hub line function all) = omega arith
 
   texts_few_branches : (all : Branches) → length (texts_in_branches all) ≤ size_of_branches all
   texts_few_branches (else_ all) = texts_few_block all
@@ -89,6 +89,7 @@ mutual
   names_few_effect names (next_ line) = omega arith
   names_few_effect names unbuilt_effect = omega arith
   names_few_effect names (perform line routine all) = omega arith
+  names_few_effect names (tell_hub line function all) = omega arith
 
   names_few_branches : (names : List (List ℕ)) (all : Branches) → length (names_in_branches names all) ≤ length names + size_of_branches all
   names_few_branches names (else_ all) = names_few names all
@@ -148,6 +149,7 @@ mutual
   effect_within at (next_ line) = omega arith
   effect_within at unbuilt_effect = omega arith
   effect_within at (perform line routine all) = omega arith
+  effect_within at (tell_hub line function all) = omega arith
 
   branches_within : (at : ℕ) (all : Branches) → branches_end at all ≤ at + 13 * size_of_branches all
   branches_within at (else_ all) = block_within at all
@@ -279,6 +281,7 @@ mutual
   effect_length names k at out next (break_ line) = omega arith
   effect_length names k at out next (next_ line) = omega arith
   effect_length names k at out next (perform line routine all) = omega arith
+  effect_length names k at out next (tell_hub line function all) = omega arith
   effect_length names k at out next unbuilt_effect = omega arith
 
   branches_length : (names : List Name) (k at end out next : ℕ) (all : Branches) → length (branches_code names k at end out next all) ≤ 5 * size_of_branches all
@@ -345,6 +348,7 @@ mutual
   texts_short_effect (while_ line e body) h = All-append (λ u. length u < 2 ^ 32) (texts_in_effect body) (texts_in e) (texts_short_effect body h.1) (texts_short e h.0)
   texts_short_effect (do_ all) h = texts_short_block all h
   texts_short_effect (perform line routine all) h = All-nil _
+  texts_short_effect (tell_hub line function all) h = All-nil _
   texts_short_effect (break_ line) h = All-nil _
   texts_short_effect (next_ line) h = All-nil _
   texts_short_effect unbuilt_effect h = All-nil _

@@ -1,7 +1,6 @@
 -- Code and constants that stand in an image from a place on.
 
-use Rattle.std.proofs.Common.{◌≡◌, ◌≤◌, ℕ, ◌+◌, suc, List, [], ◌∷◌, ◌++◌, length, map, Some, refl, sym, ap, append_assoc, nat_eq, slice_get, false, arith, subst, eq-eqb, ne_eqb, length-append}
-use Rattle.std.proofs.lemmas.List.{map-append}
+use Rattle.std.proofs.Common.{◌≡◌, ◌≤◌, ℕ, ◌+◌, suc, List, [], ◌∷◌, ◌++◌, length, Some, refl, sym, append_assoc, nat_eq, slice_get, false, arith, subst, eq-eqb, ne_eqb, length-append}
 use Rattle.bim_code.specs.declared.instruction.Instruction.{Instruction}
 use Rattle.bim_code.specs.Rows.{width}
 use Rattle.bim_code.specs.Code.{instruction_at, instruction_from}

@@ -1,25 +1,24 @@
 -- The code of a statement does what the statement does, and lands behind itself or where `break` and
 -- `next` lead, or stops as it does.
 
-use Rattle.std.proofs.Common.{◌≡◌, ℕ, ◌+◌, ◌-◌, zero, suc, List, [], ◌∷◌, ◌++◌, length, Option, Some, None, Bool, true, false, refl, sym, ap, subst}
+use Rattle.std.proofs.Common.{◌≡◌, ℕ, ◌+◌, ◌-◌, zero, suc, List, [], ◌∷◌, ◌++◌, length, Option, Some, None, Bool, sym, subst}
 use Rattle.std.specs.Int.{from_bool}
-use Rattle.mos_text.specs.declared.scalar.Scalar.TheVariants.{Int, Bool as Truth, Str}
+use Rattle.mos_text.specs.declared.scalar.Scalar.TheVariants.{Bool as Truth, Str}
 use Rattle.bim_code.specs.declared.image.Image.{Image}
 use Rattle.bim_code.specs.declared.instruction.Instruction.TheVariants.{Tick, PushBool, LoadGlobal, StoreGlobal, Swap, Jump, JumpIf, JumpNot, Show, Write, Line}
 use Rattle.bim_code.specs.declared.instruction.Instruction.{Instruction}
 use Rattle.bim_code.specs.Code.{instruction_at}
-use Rattle.mos_names.specs.NameLists.{Name, place_of}
-use Rattle.mos_value.specs.Values.{Value, One, Place, Operand}
-use Rattle.mos_value.specs.Answers.{Operator, sum, difference, compare, between, show, answer}
-use Rattle.run_state.specs.Stops.{Stuck, Lost}
+use Rattle.mos_names.specs.NameLists.{place_of}
+use Rattle.mos_value.specs.Values.{Value, One, Operand}
+use Rattle.mos_value.specs.Answers.{Operator, sum, difference, compare, show, answer}
+use Rattle.run_state.specs.Stops.{Stuck}
 use Rattle.run_state.specs.State.{World, State, over, Out, Gave, Halts, bind, on_line, answered, line_end}
 use Rattle.run_state.specs.State as state
-use Rattle.run_state.specs.Places.{put}
-use Rattle.bim_machine.specs.Machine.{Machine, At, Work, Here, On, Prints, push, settle}
-use Rattle.bim_machine.specs.Instructions.{on_some, on_truth as act_on_truth, global, truth_of_operand}
+use Rattle.bim_machine.specs.Machine.{Machine, At, Work, Here, On, push, settle}
+use Rattle.bim_machine.specs.Instructions.{on_some, global}
 use Rattle.bim_machine.specs.Courses.{site_of}
-use Rattle.mos_meaning.specs.Syntax.{Own, Model, Scope, Shown, nothing, one_more, Effect, assign, change, write, perform, if_, while_, do_, break_, next_, unbuilt_effect, Branches, else_, elif, Block, no_more, first}
-use Rattle.mos_meaning.specs.Values.{Names, Env, Routine, place_in, loaded, on_truth, ticking, value_of}
+use Rattle.mos_meaning.specs.Syntax.{Own, Model, Shown, nothing, one_more, Effect, assign, change, write, perform, tell_hub, if_, while_, do_, break_, next_, unbuilt_effect, Branches, else_, elif, Block, no_more, first}
+use Rattle.mos_meaning.specs.Values.{Names, Env, Routine, ticking, value_of}
 use Rattle.mos_meaning.specs.Effects.{Flow, Goes, Breaks, Continues, stored, assigned, changed, on_text, written, after_pass, passes, after_statement, effect_of, branch_of, effects_of}
 use Rattle.bim_compile.specs.Built.{AreBuilt, IsBuiltEffect, AreBuiltBranches, IsBuiltBlock}
 use Rattle.bim_compile.specs.Compiled.{at_line, texts_in, texts_in_all, texts_in_effect, texts_in_branches, texts_in_block, operator_code, expression_code, expression_end, arguments_code, arguments_end, effect_code, effect_end, branches_code, branches_end, block_code, block_end}
@@ -194,6 +193,7 @@ mutual
       let cuts = cut image.code (at + 1) last (arguments_code names.model line c all) (at_line line (PushBool (from_bool newline)) ∷ at_line line Line ∷ []) (arguments_after names.model line c (at + 1) all) h.1 in
       begins line _ h.0 (λ stack s store st. arguments_run call names env newline all line c (at + 1) [] stack s store st built cuts.0 cuts.1 t)
   effect_runs call names env (perform line routine all) c at out next built h t = absurd built
+  effect_runs call names env (tell_hub line function all) c at out next built h t = absurd built
   effect_runs call names env (if_ line all) c at out next built h t =
       begins line _ h.0 (branches_run call names env all c (at + 1) out next built h.1 t)
   effect_runs {image = image} {w = w} call names env (while_ line e body) c at out next built h t =

@@ -1,6 +1,6 @@
 -- As the compiler goes about it: the forms that it takes apart.
 
-use Rattle.mos_meaning.specs.Syntax.{Scope, Own, Model, Expression, number, text, truth, variable, index, apply, range_of, sum_over, invoke, ask_hub, unbuilt, Shown, nothing, one_more, Effect, assign, change, write, perform, if_, while_, do_, break_, next_, unbuilt_effect, Branches, else_, elif, Block, no_more, first}
+use Rattle.mos_meaning.specs.Syntax.{Scope, Own, Model, Expression, number, text, truth, variable, index, apply, range_of, sum_over, invoke, ask_hub, unbuilt, Shown, nothing, one_more, Effect, assign, change, write, perform, tell_hub, if_, while_, do_, break_, next_, unbuilt_effect, Branches, else_, elif, Block, no_more, first}
 
 -- a variable of the model
 abbrev pub IsModels : Scope → Type 0
@@ -38,6 +38,7 @@ abbrev mutual
   IsBuiltEffect (break_ line) = Unit {0}
   IsBuiltEffect (next_ line) = Unit {0}
   IsBuiltEffect (perform line routine all) = ⊥
+  IsBuiltEffect (tell_hub line function all) = ⊥
   IsBuiltEffect unbuilt_effect = ⊥
 
   -- branches

@@ -13,7 +13,7 @@ use Rattle.bim_code.specs.declared.instruction.Instruction.{Instruction}
 use Rattle.bim_code.specs.declared.instruction.Instruction.TheVariants.{Tick, PushInt, PushBool, PushText, LoadGlobal, StoreGlobal, Swap, Add, Subtract, Compare, Jump, JumpIf, JumpNot, Show, Write, Line, End}
 use Rattle.mos_names.specs.NameLists.{Name, place_of}
 use Rattle.mos_value.specs.Answers as how
-use Rattle.mos_meaning.specs.Syntax.{Expression, number, text, truth, variable, index, apply, range_of, sum_over, invoke, ask_hub, unbuilt, Shown, nothing, one_more, Effect, assign, change, write, perform, if_, while_, do_, break_, next_, unbuilt_effect, Branches, else_, elif, Block, no_more, first}
+use Rattle.mos_meaning.specs.Syntax.{Expression, number, text, truth, variable, apply, Shown, nothing, one_more, Effect, assign, change, write, perform, tell_hub, if_, while_, do_, break_, next_, unbuilt_effect, Branches, else_, elif, Block, no_more, first}
 use Rattle.mos_meaning.specs.Sources.{variables_of}
 use Rattle.bim_compile.specs.declared.draft.Labelled.{Labelled}
 
@@ -42,6 +42,7 @@ abbrev mutual
   texts_in_effect (while_ line e body) = texts_in_effect body ++ texts_in e
   texts_in_effect (do_ all) = texts_in_block all
   texts_in_effect (perform line routine all) = []
+  texts_in_effect (tell_hub line function all) = []
   texts_in_effect (break_ line) = []
   texts_in_effect (next_ line) = []
   texts_in_effect unbuilt_effect = []
@@ -117,6 +118,7 @@ abbrev mutual
   effect_end at (break_ line) = at + 1 + 5
   effect_end at (next_ line) = at + 1 + 5
   effect_end at (perform line routine all) = at
+  effect_end at (tell_hub line function all) = at
   effect_end at unbuilt_effect = at
 
   -- of branches
@@ -154,6 +156,7 @@ abbrev mutual
   effect_code names k at out next (break_ line) = at_line line Tick ∷ at_line line (Jump out) ∷ []
   effect_code names k at out next (next_ line) = at_line line Tick ∷ at_line line (Jump next) ∷ []
   effect_code names k at out next (perform line routine all) = []
+  effect_code names k at out next (tell_hub line function all) = []
   effect_code names k at out next unbuilt_effect = []
 
   -- `end` is the address behind the whole `if`

@@ -1,6 +1,6 @@
 -- Worked examples: what small models are compiled to, and what their machine does.
 
-use Rattle.std.specs.Prelude.{◌≡◌, [], ◌∷◌, pos, true, false, codes}
+use Rattle.std.specs.Prelude.{◌≡◌, [], ◌∷◌, pos, codes}
 use Rattle.bim_code.specs.declared.instruction.Comparison.TheVariants.{Greater, AtLeast}
 use Rattle.bim_code.specs.declared.instruction.Instruction.TheVariants.{Tick, PushInt, PushBool, PushText, LoadGlobal, StoreGlobal, Swap, Add, Subtract, Compare, Jump, JumpIf, JumpNot, Show, Write, Line, End}
 use Rattle.run_state.specs.Stops.{Exited, Spent}

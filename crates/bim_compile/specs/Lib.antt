@@ -3,4 +3,5 @@ pub mod InSize
 pub mod Means
 pub mod Built
 pub mod Compiled
+pub mod Parts
 pub mod Examples

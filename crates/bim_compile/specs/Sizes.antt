@@ -1,7 +1,7 @@
 -- How large a model is: one for each node of an expression, for each statement and for each branch.
 
 use Rattle.std.specs.Prelude.{ℕ, ◌+◌}
-use Rattle.mos_meaning.specs.Syntax.{Expression, number, text, truth, variable, index, apply, range_of, sum_over, invoke, ask_hub, unbuilt, Shown, nothing, one_more, Effect, assign, change, write, perform, if_, while_, do_, break_, next_, unbuilt_effect, Branches, else_, elif, Block, no_more, first}
+use Rattle.mos_meaning.specs.Syntax.{Expression, apply, Shown, nothing, one_more, Effect, assign, change, write, perform, tell_hub, if_, while_, do_, break_, next_, unbuilt_effect, Branches, else_, elif, Block, no_more, first}
 
 -- an expression
 abbrev pub size_of : Expression → ℕ
@@ -23,6 +23,7 @@ abbrev mutual
   size_of_effect (while_ line e body) = size_of e + size_of_effect body + 1
   size_of_effect (do_ all) = size_of_block all + 1
   size_of_effect (perform line routine all) = 1
+  size_of_effect (tell_hub line function all) = 1
   size_of_effect (break_ line) = 1
   size_of_effect (next_ line) = 1
   size_of_effect unbuilt_effect = 1

@@ -8,6 +8,7 @@ ghost use Rattle.bim_compile.specs.Built.{IsBuiltBlock};
 ghost use Rattle.bim_compile.specs.Compiled.{image_of, types_of, instructions};
 ghost use Rattle.bim_compile.specs.InSize.{IsSmallBlock};
 ghost use Rattle.bim_compile.specs.Means.{Means, NeverFails, CanCompile};
+ghost use Rattle.mos_meaning.specs.Working.{NeverLost, CallsNothing};
 ghost use Rattle.bim_compile.specs.Sizes.{size_of_block};
 
 use crate::draft::{Draft, Exits, Labelled};
@@ -27,9 +28,11 @@ use std::alloc::Global;
 pub fn compile(alloc: Global, tree: &Tree) -> Result<Image, NoMemory>
     requires can_compile { CanCompile tree.now }
 
-    // The machine does with it what the model means, and is never stuck or lost.
+    // The machine does with it what the model means, is never stuck or lost, and calls nothing.
     ensures means { IfOk result (Means (model_of tree.now)) }
     ensures never_fails { IfOk result NeverFails }
+    ensures never_lost { NeverLost (model_of tree.now) }
+    ensures calls_nothing { CallsNothing (model_of tree.now) }
 
     // It keeps the verifier's rules on tables, addresses and ticks.
     ensures rules { IfOk result KeepsRules }
@@ -38,8 +41,10 @@ pub fn compile(alloc: Global, tree: &Tree) -> Result<Image, NoMemory>
     ensures fields { IfOk result FitsFields }
 
     // It has few instructions for each node and statement of the model: 5, and 2 for the end.
-    ensures few { IfOk result (λ image. length image.code ≤ 5 * size_of_block (statements_of tree.now) + 2) }
-    ensures size { IfOk result (λ image. code_size image.code ≤ 13 * size_of_block (statements_of tree.now) + 6) }
+    ensures few { IfOk result (λ image. length image.code
+        ≤ 5 * size_of_block (statements_of tree.now) + 2) }
+    ensures size { IfOk result (λ image. code_size image.code
+        ≤ 13 * size_of_block (statements_of tree.now) + 6) }
 {
     machine_laws();
     working_models();

@@ -1,5 +1,6 @@
 //! What was made of a model so far.
-ghost use Rattle.std.specs.Prelude.{◌≡◌, ◌++◌, ◌∷◌, [], ◌<◌, ◌+◌, ◌^◌, OnOk};
+ghost use Rattle.std.specs.Prelude.{◌≡◌, ◌++◌, ◌∷◌, [], ◌<◌, ◌+◌, ◌^◌, OnOk, length, map};
+ghost use Rattle.bim_code.specs.Code.{code_size};
 ghost use Rattle.bim_code.specs.Rows.{width};
 ghost use Rattle.bim_compile.specs.Compiled.{at_line};
 
@@ -55,6 +56,35 @@ impl Draft {
         let width = instruction.width();
         self.code.push(Labelled { line, instruction })?;
         self.at += width;
+        Ok(())
+    }
+
+    /// Puts instructions of the piece on this line behind the code, one after the other.
+    pub(crate) fn put_all(&mut self, line: u32, all: &[Instruction]) -> Result<(), NoMemory>
+        requires { self.old.at + code_size all.now + 5 < 2 ^ 32 }
+        ensures code { OnOk result (self.new.code ≡ self.old.code ++ map (at_line line) all.now) }
+        ensures constants { OnOk result (self.new.constants ≡ self.old.constants) }
+        ensures at { OnOk result (self.new.at ≡ self.old.at + code_size all.now) }
+    {
+        for instruction in all {
+            self.put(line, *instruction)?;
+        }
+        Ok(())
+    }
+
+    /// Puts behind the code the instruction that gives a text, which becomes the last constant.
+    pub(crate) fn put_text(&mut self, alloc: Global, line: u32, text: &Text) -> Result<(), NoMemory>
+        requires few { length self.old.constants + 1 < 2 ^ 32 }
+        requires room { self.old.at + 5 < 2 ^ 32 }
+        ensures code { OnOk result (self.new.code ≡ self.old.code
+            ++ at_line line (Instruction.PushText (length self.old.constants)) ∷ []) }
+        ensures constants { OnOk result (self.new.constants
+            ≡ self.old.constants ++ text.now ∷ []) }
+        ensures at { OnOk result (self.new.at ≡ self.old.at + 5) }
+    {
+        let constant = self.constants.len() as u32;
+        self.put(line, Instruction::PushText(constant))?;
+        self.constants.push(text.copy(alloc)?)?;
         Ok(())
     }
 }

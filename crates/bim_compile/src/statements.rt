@@ -1,11 +1,11 @@
 //! The code of statements.
-ghost use Rattle.std.specs.Int.{from_bool};
-ghost use Rattle.std.specs.Prelude.{◌≡◌, ◌++◌, ◌∷◌, [], ◌<◌, ◌≤◌, ◌+◌, ◌*◌, ◌^◌, OnOk, length, map};
+ghost use Rattle.std.specs.Prelude.{◌≡◌, ◌++◌, ◌∷◌, [], ◌<◌, ◌+◌, ◌^◌, OnOk, map};
+ghost use Rattle.mos_meaning.specs.Syntax.{write};
 ghost use Rattle.mos_meaning.specs.Sources.{expression, shown, effect, top_effect, block, block_of, assignment};
 ghost use Rattle.bim_code.specs.Rows.{width};
 ghost use Rattle.bim_compile.specs.Built.{IsBuilt, AreBuilt, IsBuiltEffect, AreBuiltBranches, IsBuiltBlock, IsChoice, IsLoop, choice_of};
-ghost use Rattle.bim_compile.specs.Compiled.{at_line, texts_in, expression_code, expression_end, texts_in_branches, branches_code, branches_end, texts_in_all, arguments_code, arguments_end, texts_in_effect, effect_code, effect_end, texts_in_block, block_code, block_end};
-ghost use Rattle.bim_compile.specs.Sizes.{size_of, size_of_all, size_of_effect, size_of_branches, size_of_block};
+ghost use Rattle.bim_compile.specs.Compiled.{at_line};
+ghost use Rattle.bim_compile.specs.Parts.{HasRoom, Emits, test_part, arguments_part, effect_part, closed_part, branches_part, block_part};
 
 use crate::draft::{Draft, Exits};
 use crate::ends::{end_of_block, end_of_expression, end_of_statement};
@@ -25,21 +25,10 @@ pub(crate) fn emit_tops(
     tops: &[Top],
 ) -> Result<(), NoMemory>
     requires built { IsBuiltBlock (block (map top_effect tops.now)) }
-    requires few_names { length names.now < 2 ^ 31 }
-    requires few { length draft.old.constants + length (texts_in_block (block
-        (map top_effect tops.now)))
-        < 2 ^ 32 }
-    requires room { draft.old.at + 13 * size_of_block (block (map top_effect tops.now)) + 13
-        < 2 ^ 32 }
-    ensures code { OnOk result (draft.new.code ≡ draft.old.code
-        ++ block_code names.now (length draft.old.constants) draft.old.at exits.out exits.next
-        (block (map top_effect tops.now))) }
-    ensures constants { OnOk result (draft.new.constants ≡ draft.old.constants
-        ++ texts_in_block (block (map top_effect tops.now))) }
-    ensures at { OnOk result (draft.new.at
-        ≡ block_end draft.old.at (block (map top_effect tops.now))) }
-    ensures within { OnOk result (draft.new.at
-        ≤ draft.old.at + 13 * size_of_block (block (map top_effect tops.now))) }
+    requires room { HasRoom names.now
+        (block_part names.now exits (block (map top_effect tops.now))) draft.old }
+    ensures { OnOk result (Emits (block_part names.now exits (block (map top_effect tops.now)))
+        draft.old draft.new) }
 {
     for top in tops {
         emit_top(alloc, draft, names, exits, top)?;
@@ -55,18 +44,9 @@ fn emit_top(
     top: &Top,
 ) -> Result<(), NoMemory>
     requires built { IsBuiltEffect (top_effect top.now) }
-    requires few_names { length names.now < 2 ^ 31 }
-    requires few { length draft.old.constants + length (texts_in_effect (top_effect top.now))
-        < 2 ^ 32 }
-    requires room { draft.old.at + 13 * size_of_effect (top_effect top.now) + 13 < 2 ^ 32 }
-    ensures code { OnOk result (draft.new.code ≡ draft.old.code
-        ++ effect_code names.now (length draft.old.constants) draft.old.at exits.out exits.next
-        (top_effect top.now)) }
-    ensures constants { OnOk result (draft.new.constants ≡ draft.old.constants
-        ++ texts_in_effect (top_effect top.now)) }
-    ensures at { OnOk result (draft.new.at ≡ effect_end draft.old.at (top_effect top.now)) }
-    ensures within { OnOk result (draft.new.at
-        ≤ draft.old.at + 13 * size_of_effect (top_effect top.now)) }
+    requires room { HasRoom names.now (effect_part names.now exits (top_effect top.now)) draft.old }
+    ensures { OnOk result (Emits (effect_part names.now exits (top_effect top.now))
+        draft.old draft.new) }
 {
     match top {
         Top::Statement(statement) => emit_statement(alloc, draft, names, exits, statement),
@@ -83,18 +63,10 @@ fn emit_statement(
     statement: &Statement,
 ) -> Result<(), NoMemory>
     requires built { IsBuiltEffect (effect statement.now) }
-    requires few_names { length names.now < 2 ^ 31 }
-    requires few { length draft.old.constants + length (texts_in_effect (effect statement.now))
-        < 2 ^ 32 }
-    requires room { draft.old.at + 13 * size_of_effect (effect statement.now) + 13 < 2 ^ 32 }
-    ensures code { OnOk result (draft.new.code ≡ draft.old.code
-        ++ effect_code names.now (length draft.old.constants) draft.old.at exits.out exits.next
-        (effect statement.now)) }
-    ensures constants { OnOk result (draft.new.constants ≡ draft.old.constants
-        ++ texts_in_effect (effect statement.now)) }
-    ensures at { OnOk result (draft.new.at ≡ effect_end draft.old.at (effect statement.now)) }
-    ensures within { OnOk result (draft.new.at
-        ≤ draft.old.at + 13 * size_of_effect (effect statement.now)) }
+    requires room { HasRoom names.now
+        (effect_part names.now exits (effect statement.now)) draft.old }
+    ensures { OnOk result (Emits (effect_part names.now exits (effect statement.now))
+        draft.old draft.new) }
 {
     match statement {
         Statement::Assign {
@@ -107,14 +79,10 @@ fn emit_statement(
             line,
             name,
             arguments,
-        } => emit_write(
-            alloc,
-            draft,
-            names,
-            *line,
-            name.as_str() == "writeln",
-            arguments.as_slice(),
-        ),
+        } => {
+            let newline = name.as_str() == "writeln";
+            emit_write(alloc, draft, names, *line, newline, arguments.as_slice())
+        }
         Statement::If { line, .. } => {
             let end = end_of_statement(draft.at, statement);
             draft.put(*line, Instruction::Tick)?;
@@ -122,22 +90,14 @@ fn emit_statement(
         }
         Statement::While { .. } => emit_loop(alloc, draft, names, exits, statement),
         Statement::Do { body, .. } => emit_block(alloc, draft, names, exits, body.as_slice()),
-        Statement::Break { line } => emit_exit(draft, *line, exits.out),
-        Statement::Next { line } => emit_exit(draft, *line, exits.next),
+        Statement::Break { line } => {
+            draft.put_all(*line, &[Instruction::Tick, Instruction::Jump(exits.out)])
+        }
+        Statement::Next { line } => {
+            draft.put_all(*line, &[Instruction::Tick, Instruction::Jump(exits.next)])
+        }
         _ => unreachable!(),
     }
-}
-
-/// Adds the code of a statement that leads to another place.
-fn emit_exit(draft: &mut Draft, line: u32, to: u32) -> Result<(), NoMemory>
-    requires { draft.old.at + 13 < 2 ^ 32 }
-    ensures code { OnOk result (draft.new.code ≡ draft.old.code
-        ++ at_line line Instruction.Tick ∷ at_line line (Instruction.Jump to) ∷ []) }
-    ensures constants { OnOk result (draft.new.constants ≡ draft.old.constants) }
-    ensures at { OnOk result (draft.new.at ≡ draft.old.at + 1 + 5) }
-{
-    draft.put(line, Instruction::Tick)?;
-    draft.put(line, Instruction::Jump(to))
 }
 
 /// Adds the code of the branches of an `if`, which ends at this address.
@@ -152,22 +112,11 @@ fn emit_branches(
 ) -> Result<(), NoMemory>
     requires choice { IsChoice (effect statement.now) }
     requires built { AreBuiltBranches (choice_of (effect statement.now)) }
-    requires few_names { length names.now < 2 ^ 31 }
-    requires few { length draft.old.constants + length (texts_in_branches (choice_of
-        (effect statement.now)))
-        < 2 ^ 32 }
-    requires room { draft.old.at + 13 * size_of_branches (choice_of (effect statement.now)) + 13
-        < 2 ^ 32 }
-    ensures code { OnOk result (draft.new.code ≡ draft.old.code
-        ++ branches_code names.now
-        (length draft.old.constants) draft.old.at end exits.out exits.next (choice_of
-        (effect statement.now))) }
-    ensures constants { OnOk result (draft.new.constants ≡ draft.old.constants
-        ++ texts_in_branches (choice_of (effect statement.now))) }
-    ensures at { OnOk result (draft.new.at
-        ≡ branches_end draft.old.at (choice_of (effect statement.now))) }
-    ensures within { OnOk result (draft.new.at
-        ≤ draft.old.at + 13 * size_of_branches (choice_of (effect statement.now))) }
+    requires room { HasRoom names.now
+        (branches_part names.now end exits (choice_of (effect statement.now))) draft.old }
+    ensures { OnOk result (Emits
+        (branches_part names.now end exits (choice_of (effect statement.now)))
+        draft.old draft.new) }
 {
     let Statement::If {
         arms,
@@ -198,18 +147,9 @@ fn emit_loop(
 ) -> Result<(), NoMemory>
     requires repeats { IsLoop (effect statement.now) }
     requires built { IsBuiltEffect (effect statement.now) }
-    requires few_names { length names.now < 2 ^ 31 }
-    requires few { length draft.old.constants + length (texts_in_effect (effect statement.now))
-        < 2 ^ 32 }
-    requires room { draft.old.at + 13 * size_of_effect (effect statement.now) + 13 < 2 ^ 32 }
-    ensures code { OnOk result (draft.new.code ≡ draft.old.code
-        ++ effect_code names.now (length draft.old.constants) draft.old.at exits.out exits.next
-        (effect statement.now)) }
-    ensures constants { OnOk result (draft.new.constants ≡ draft.old.constants
-        ++ texts_in_effect (effect statement.now)) }
-    ensures at { OnOk result (draft.new.at ≡ effect_end draft.old.at (effect statement.now)) }
-    ensures within { OnOk result (draft.new.at
-        ≤ draft.old.at + 13 * size_of_effect (effect statement.now)) }
+    requires room { HasRoom names.now (effect_part names.now exits (effect statement.now)) draft.old }
+    ensures { OnOk result (Emits (effect_part names.now exits (effect statement.now))
+        draft.old draft.new) }
 {
     let Statement::While {
         line,
@@ -224,21 +164,21 @@ fn emit_loop(
     let out = end_of_expression(test, condition) + 5;
     emit_first_test(draft, *line, test)?;
     emit_statement(alloc, draft, names, Exits { out, next: test }, body.get())?;
-    emit_test(alloc, draft, names, *line, condition, pass)
+    emit_test(alloc, draft, names, *line, condition, pass)?;
+    Ok(())
 }
 
 /// Adds the code that leads to the first test of a loop, and the tick of a pass.
 fn emit_first_test(draft: &mut Draft, line: u32, test: u32) -> Result<(), NoMemory>
     requires { draft.old.at + 13 < 2 ^ 32 }
     ensures code { OnOk result (draft.new.code ≡ draft.old.code
-        ++ at_line line Instruction.Tick ∷ at_line line
-        (Instruction.Jump test) ∷ at_line line Instruction.Tick ∷ []) }
+        ++ at_line line Instruction.Tick ∷ at_line line (Instruction.Jump test)
+        ∷ at_line line Instruction.Tick ∷ []) }
     ensures constants { OnOk result (draft.new.constants ≡ draft.old.constants) }
     ensures at { OnOk result (draft.new.at ≡ draft.old.at + 1 + 5 + 1) }
 {
-    draft.put(line, Instruction::Tick)?;
-    draft.put(line, Instruction::Jump(test))?;
-    draft.put(line, Instruction::Tick)
+    let jump = Instruction::Jump(test);
+    draft.put_all(line, &[Instruction::Tick, jump, Instruction::Tick])
 }
 
 /// Adds the code that goes back for another pass where the condition is true.
@@ -251,19 +191,10 @@ fn emit_test(
     pass: u32,
 ) -> Result<(), NoMemory>
     requires built { IsBuilt (expression condition.now) }
-    requires few_names { length names.now < 2 ^ 31 }
-    requires few { length draft.old.constants + length (texts_in (expression condition.now))
-        < 2 ^ 32 }
-    requires room { draft.old.at + 5 * size_of (expression condition.now) + 5 < 2 ^ 32 }
-    ensures code { OnOk result (draft.new.code ≡ draft.old.code
-        ++ (expression_code names.now line (length draft.old.constants) (expression condition.now)
-        ++ at_line line (Instruction.JumpIf pass) ∷ [])) }
-    ensures constants { OnOk result (draft.new.constants ≡ draft.old.constants
-        ++ texts_in (expression condition.now)) }
-    ensures at { OnOk result (draft.new.at
-        ≡ expression_end draft.old.at (expression condition.now) + 5) }
-    ensures within { OnOk result (draft.new.at
-        ≤ draft.old.at + 5 * size_of (expression condition.now) + 5) }
+    requires room { HasRoom names.now
+        (test_part names.now line pass (expression condition.now)) draft.old }
+    ensures { OnOk result (Emits (test_part names.now line pass (expression condition.now))
+        draft.old draft.new) }
 {
     emit_expression(alloc, draft, names, line, condition)?;
     draft.put(line, Instruction::JumpIf(pass))
@@ -278,18 +209,9 @@ fn emit_block(
     all: &[Statement],
 ) -> Result<(), NoMemory>
     requires built { IsBuiltBlock (block_of all.now) }
-    requires few_names { length names.now < 2 ^ 31 }
-    requires few { length draft.old.constants + length (texts_in_block (block_of all.now))
-        < 2 ^ 32 }
-    requires room { draft.old.at + 13 * size_of_block (block_of all.now) + 13 < 2 ^ 32 }
-    ensures code { OnOk result (draft.new.code ≡ draft.old.code
-        ++ block_code names.now (length draft.old.constants) draft.old.at exits.out exits.next
-        (block_of all.now)) }
-    ensures constants { OnOk result (draft.new.constants ≡ draft.old.constants
-        ++ texts_in_block (block_of all.now)) }
-    ensures at { OnOk result (draft.new.at ≡ block_end draft.old.at (block_of all.now)) }
-    ensures within { OnOk result (draft.new.at
-        ≤ draft.old.at + 13 * size_of_block (block_of all.now)) }
+    requires room { HasRoom names.now (block_part names.now exits (block_of all.now)) draft.old }
+    ensures { OnOk result (Emits (block_part names.now exits (block_of all.now))
+        draft.old draft.new) }
 {
     for statement in all {
         emit_statement(alloc, draft, names, exits, statement)?;
@@ -307,22 +229,11 @@ fn emit_write(
     all: &[Expr],
 ) -> Result<(), NoMemory>
     requires built { AreBuilt (shown (map expression all.now)) }
-    requires few_names { length names.now < 2 ^ 31 }
-    requires few { length draft.old.constants + length (texts_in_all (shown
-        (map expression all.now)))
-        < 2 ^ 32 }
-    requires room { draft.old.at + 7 * size_of_all (shown (map expression all.now)) + 13 < 2 ^ 32 }
-    ensures code { OnOk result (draft.new.code ≡ draft.old.code
-        ++ at_line line Instruction.Tick ∷ (arguments_code names.now line
-        (length draft.old.constants) (shown (map expression all.now))
-        ++ at_line line (Instruction.PushBool
-        (from_bool newline)) ∷ at_line line Instruction.Line ∷ [])) }
-    ensures constants { OnOk result (draft.new.constants ≡ draft.old.constants
-        ++ texts_in_all (shown (map expression all.now))) }
-    ensures at { OnOk result (draft.new.at
-        ≡ arguments_end (draft.old.at + 1) (shown (map expression all.now)) + 5 + 1) }
-    ensures within { OnOk result (draft.new.at
-        ≤ draft.old.at + 7 * size_of_all (shown (map expression all.now)) + 7) }
+    requires room { HasRoom names.now
+        (closed_part names.now (write line newline (shown (map expression all.now)))) draft.old }
+    ensures { OnOk result (Emits
+        (closed_part names.now (write line newline (shown (map expression all.now))))
+        draft.old draft.new) }
 {
     draft.put(line, Instruction::Tick)?;
     emit_arguments(alloc, draft, names, line, all)?;
@@ -338,20 +249,10 @@ fn emit_arguments(
     all: &[Expr],
 ) -> Result<(), NoMemory>
     requires built { AreBuilt (shown (map expression all.now)) }
-    requires few_names { length names.now < 2 ^ 31 }
-    requires few { length draft.old.constants + length (texts_in_all (shown
-        (map expression all.now)))
-        < 2 ^ 32 }
-    requires room { draft.old.at + 7 * size_of_all (shown (map expression all.now)) + 8 < 2 ^ 32 }
-    ensures code { OnOk result (draft.new.code ≡ draft.old.code
-        ++ arguments_code names.now line (length draft.old.constants) (shown
-        (map expression all.now))) }
-    ensures constants { OnOk result (draft.new.constants ≡ draft.old.constants
-        ++ texts_in_all (shown (map expression all.now))) }
-    ensures at { OnOk result (draft.new.at
-        ≡ arguments_end draft.old.at (shown (map expression all.now))) }
-    ensures within { OnOk result (draft.new.at
-        ≤ draft.old.at + 7 * size_of_all (shown (map expression all.now))) }
+    requires room { HasRoom names.now
+        (arguments_part names.now line (shown (map expression all.now))) draft.old }
+    ensures { OnOk result (Emits
+        (arguments_part names.now line (shown (map expression all.now))) draft.old draft.new) }
 {
     for written in all {
         emit_expression(alloc, draft, names, line, written)?;
@@ -372,23 +273,10 @@ fn emit_assignment(
     value: &Expr,
 ) -> Result<(), NoMemory>
     requires built { IsBuiltEffect (assignment line target.now operator (expression value.now)) }
-    requires few_names { length names.now < 2 ^ 31 }
-    requires few { length draft.old.constants + length (texts_in_effect
-        (assignment line target.now operator (expression value.now)))
-        < 2 ^ 32 }
-    requires room { draft.old.at + 13 * size_of_effect (assignment line target.now operator
-        (expression value.now)) + 13
-        < 2 ^ 32 }
-    ensures code { OnOk result (draft.new.code ≡ draft.old.code
-        ++ effect_code names.now (length draft.old.constants) draft.old.at 0 0
-        (assignment line target.now operator (expression value.now))) }
-    ensures constants { OnOk result (draft.new.constants ≡ draft.old.constants
-        ++ texts_in_effect (assignment line target.now operator (expression value.now))) }
-    ensures at { OnOk result (draft.new.at
-        ≡ effect_end draft.old.at (assignment line target.now operator (expression value.now))) }
-    ensures within { OnOk result (draft.new.at
-        ≤ draft.old.at + 13 * size_of_effect (assignment line target.now operator
-        (expression value.now))) }
+    requires room { HasRoom names.now (closed_part names.now
+        (assignment line target.now operator (expression value.now))) draft.old }
+    ensures { OnOk result (Emits (closed_part names.now
+        (assignment line target.now operator (expression value.now))) draft.old draft.new) }
 {
     let Reference::Name(name) = target else {
         unreachable!()
@@ -414,13 +302,13 @@ fn emit_change(
     requires room { draft.old.at + 17 < 2 ^ 32 }
     requires operator { width operator ≡ 1 }
     ensures code { OnOk result (draft.new.code ≡ draft.old.code
-        ++ at_line line
-        (Instruction.LoadGlobal slot) ∷ at_line line Instruction.Swap ∷ at_line line operator ∷
-        []) }
+        ++ at_line line (Instruction.LoadGlobal slot) ∷ at_line line Instruction.Swap
+        ∷ at_line line operator ∷ []) }
     ensures constants { OnOk result (draft.new.constants ≡ draft.old.constants) }
     ensures at { OnOk result (draft.new.at ≡ draft.old.at + 5 + 1 + 1) }
 {
-    draft.put(line, Instruction::LoadGlobal(slot))?;
-    draft.put(line, Instruction::Swap)?;
-    draft.put(line, operator)
+    draft.put_all(
+        line,
+        &[Instruction::LoadGlobal(slot), Instruction::Swap, operator],
+    )
 }

@@ -17,7 +17,7 @@ use Rattle.run_state.specs.Stops.{Stop, Exited, Failed, Spent, Stopped, Asking, 
 use Rattle.run_state.specs.State.{World, State, Counts, counting, had, tick, tick_if, Gave, Halts, write}
 use Rattle.run_state.specs.Calls.{Query, Once, UntilEnd, Answer, Replied, Drained, stop_by, with_call, reply_or_stop, replied, as_answer, Piece, Part, Last, NoPiece, piece_in, further, taken, drain, inquire}
 use Rattle.run_state.specs.Places.{Argument}
-use Rattle.bim_machine.specs.Machine.{Machine, At, Over, Work, Caller, Here, Halt, Exits, Fails, Sticks, stop_of, Site, Act, On, Jumps, Stops, Puts, Prints, Ticks, Asks, Enters, Leaves, on_out, stored, begins, begins_routine, enters, leaves, settle}
+use Rattle.bim_machine.specs.Machine.{Machine, At, Over, Work, Caller, Here, Halt, Exits, Fails, Sticks, stop_of, Site, Act, On, Jumps, Stops, Puts, Prints, Ticks, Asks, Enters, Leaves, on_out, stored, begins, begins_routine, enters, work_behind, resumes, leaves, settle}
 use Rattle.bim_machine.specs.Instructions.{act}
 use Rattle.bim_machine.specs.Courses.{Progress, site_of, decoded, step, run}
 use Rattle.bim_machine.proofs.Runs.{run_over}
@@ -200,7 +200,11 @@ enters_later image w true number work site here s = entered (slice_get image.rou
 
 leaves_later : (w : World) (callers : List Caller) (result : Option Value) (site : Site) (here : Here) (s : State) → Later w s (leaves callers result site here s)
 leaves_later w [] result site here s = stays w s _ refl refl tt
-leaves_later w (caller ∷ callers) result site here s = stays w s _ refl refl tt
+leaves_later w (caller ∷ callers) result site here s = resumed (work_behind caller.awaits_value result caller.work)
+  where
+    resumed : (o : Option Work) → Later w s (resumes o caller callers site here s)
+    resumed None = stays w s _ refl refl tt
+    resumed (Some work) = stays w s _ refl refl tt
 
 settle_later : (image : Image) (w : World) (a : Act) (site : Site) (here : Here) (s : State) → Later w s (settle image w a site here s)
 settle_later image w (On work) site here s = stays w s _ refl refl tt

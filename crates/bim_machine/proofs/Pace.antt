@@ -1,7 +1,7 @@
 -- The machine takes few steps for each tick: what is left to it falls at each step.
 
 use Rattle.std.proofs.Common.{◌≡◌, ◌≤◌, ◌<◌, ℕ, ◌+◌, ◌-◌, ◌*◌, zero, suc, Bool, true, false, List, [], ◌∷◌, ◌++◌, length, Option, Some, None, refl, sym, ap, ◌∙◌, subst, slice_get, nat_le, nat_lt, drop, mul-add, arith}
-use Rattle.std.specs.Prelude.{if◌then◌else◌, unwrap_or}
+use Rattle.std.specs.Prelude.{is_some, if◌then◌else◌, unwrap_or}
 use Rattle.std.proofs.lemmas.Bool.Decides.{nat_tests}
 use Rattle.job_calls.specs.declared.call.Call.{Call}
 use Rattle.job_calls.specs.declared.reply.Reply.{Reply}
@@ -18,7 +18,7 @@ use Rattle.run_state.specs.Stops.{Stop, Failed}
 use Rattle.run_state.specs.State.{World, State, Counts, counting, had, tick, tick_if, Gave, Halts, write}
 use Rattle.run_state.specs.Calls.{Query, Once, UntilEnd, Answer, stop_by, with_call, reply_or_stop, replied, as_answer, Piece, Part, Last, NoPiece, piece_in, further, taken, drain, inquire}
 use Rattle.run_state.specs.Places.{Argument}
-use Rattle.bim_machine.specs.Machine.{Machine, At, Over, Work, Caller, Here, Site, Act, On, Jumps, Stops, Puts, Prints, Ticks, Asks, Enters, Leaves, on_out, stored, begins, begins_routine, enters, leaves, settle}
+use Rattle.bim_machine.specs.Machine.{Machine, At, Over, Work, Caller, Here, Site, Act, On, Jumps, Stops, Puts, Prints, Ticks, Asks, Enters, Leaves, on_out, stored, begins, begins_routine, enters, work_behind, resumes, leaves, settle}
 use Rattle.bim_machine.specs.Instructions.{act}
 use Rattle.bim_machine.specs.Courses.{Progress, site_of, decoded, step, run, start, most_steps}
 use Rattle.bim_machine.specs.Laws.{IsOver, state_in}
@@ -142,7 +142,7 @@ enters_fewer image w most true number work site here s less = entered (slice_get
     begun routine None others = stops _ site.at s (omega (arith, less))
     begun routine (Some one) None = stops _ site.at s (omega (arith, less))
     begun routine (Some (given, stack)) (Some others) =
-        let within = left_within image routine.address (record { work = record work { stack = stack }; slots = here.slots; back = here.back } ∷ here.callers) (ticks_left w s) in
+        let within = left_within image routine.address (record { work = record work { stack = stack }; slots = here.slots; back = here.back; awaits_value = is_some routine.result } ∷ here.callers) (ticks_left w s) in
         stands routine.address _ _ _ (omega (arith, less, within))
 
     entered : (o : Option Routine) → Fewer image w most (begins_routine image o work site here s)
@@ -153,8 +153,12 @@ leaves_fewer : (image : Image) (w : World) (most : ℕ) (callers : List Caller) 
     → worth (length image.code) (ticks_left w s) + weight (length image.code) callers + length image.code < most
     → Fewer image w most (leaves callers result site here s)
 leaves_fewer image w most [] result site here s less = stops _ site.at s (omega (arith, less))
-leaves_fewer image w most (caller ∷ callers) result site here s less =
-    let within = left_within image here.back callers (ticks_left w s) in stands here.back _ _ _ (omega (arith, less, within))
+leaves_fewer image w most (caller ∷ callers) result site here s less = resumed (work_behind caller.awaits_value result caller.work)
+  where
+    resumed : (o : Option Work) → Fewer image w most (resumes o caller callers site here s)
+    resumed None = stops _ site.at s (omega (arith, less))
+    resumed (Some work) =
+        let within = left_within image here.back callers (ticks_left w s) in stands here.back _ _ _ (omega (arith, less, within))
 
 stored_fewer : (image : Image) (w : World) (most : ℕ) (store : Option (List (List Value))) (work : Work) (site : Site) (here : Here) (s : State)
     → worth (length image.code) (ticks_left w s) < most → left_at image site.next here.callers (ticks_left w s) < most

@@ -33,6 +33,17 @@ ticks_within image w Refused = omega arith
 ticks_within image w Broken = omega arith
 ticks_within image w (Begins values) = rw (told_ticks (run image w (most_steps image w.budget) 0 (start values)).machine) (begun_within image w values (most_steps image w.budget))
 
+told_calls : (m : Machine) → (told m).calls ≡ (state_in m).counts.calls
+told_calls (At address work here s) = refl
+told_calls (Over stop address s) = refl
+
+pub calls_within : (image : Image) (w : World) (b : Beginning) → length (course_from image w b).outcome.calls ≤ length w.replies
+calls_within image w Refused = omega arith
+calls_within image w Broken = omega arith
+calls_within image w (Begins values) =
+    rw (told_calls (run image w (most_steps image w.budget) 0 (start values)).machine)
+    ((run_later image w (most_steps image w.budget) 0 0 _ _ (beginning values)).answered (omega arith))
+
 asks_last : (w : World) (s : State) (m : Machine) (call : Call) → length s.counts.calls ≤ length w.replies → Later w s m → (told m).stop ≡ Asking call
     → length (told m).calls ≡ length w.replies
 asks_last w s (At address work here t) call few later e = cc

@@ -70,6 +70,7 @@ course_from image w Refused = record { outcome = refused; steps = 0 }
 course_from image w Broken = record { outcome = outcome_of Stuck (beginning []); steps = 0 }
 course_from image w (Begins values) = told_course (run image w (most_steps image w.budget) 0 (start values))
 
--- what an image does, given a parameter text, replies and a budget
+-- what an image does, given a parameter text, replies and a budget. It is meant for images whose loops take
+-- ticks: these are over by then, and the course of another image may be cut there
 abbrev pub course_of : Image → List ℕ → List Reply → ℕ → Course
 course_of image text replies budget = course_from image (record { replies = replies; budget = budget }) (beginning_of image text)

@@ -113,6 +113,10 @@ AllGrows = (image : Image) (w : World) (n steps : ℕ) (m : Machine) → Grows (
 
 -- Asking.
 
+-- no more calls of a course are answered than there are replies
+abbrev pub CallsWithin : Type 0
+CallsWithin = (image : Image) (text : List ℕ) (replies : List Reply) (budget : ℕ) → length (course_of image text replies budget).outcome.calls ≤ length replies
+
 -- a course that asks has had a call answered by each of its replies
 abbrev pub AsksLast : Type 0
 AsksLast = (image : Image) (text : List ℕ) (replies : List Reply) (budget : ℕ) (call : Call)

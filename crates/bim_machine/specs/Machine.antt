@@ -1,7 +1,7 @@
 -- The abstract machine. An instruction gives an act, which says what is to be done and changes nothing
 -- by itself; `settle` does it.
 
-use Rattle.std.specs.Prelude.{ℕ, ℤ, Bool, true, false, List, [], ◌∷◌, ◌++◌, Option, Some, None, map, take, drop, reverse, length, slice_get, nat_lt, if◌then◌else◌}
+use Rattle.std.specs.Prelude.{ℕ, ℤ, Bool, true, false, List, [], ◌∷◌, ◌++◌, Option, Some, None, map, take, drop, reverse, length, slice_get, is_some, nat_lt, if◌then◌else◌}
 use Rattle.mos_text.specs.declared.fault_kind.FaultKind.{FaultKind}
 use Rattle.mos_text.specs.declared.fault_kind.FaultKind.TheVariants.{Depth}
 use Rattle.bim_code.specs.declared.image.Image.{Image}
@@ -21,11 +21,12 @@ pub record Work : Type 0 where
   pub stack : List Operand
   pub held : List ℕ
 
--- a part that waits for the routine that it called
+-- a part that waits for the routine that it called, and for a value where that is a function
 pub record Caller : Type 0 where
   pub work : Work
   pub slots : List Place
   pub back : ℕ
+  pub awaits_value : Bool
 
 -- what stays while one part runs: the places of its slots, the address to which it goes back, and who
 -- waits for it, the nearest first
@@ -113,7 +114,9 @@ begins (Some (given, stack)) (Some others) routine work site here s =
     At routine.address idle record {
       slots = argument_places (length s.memory.store) 0 slots;
       back = site.next;
-      callers = record { work = record work { stack = stack }; slots = here.slots; back = here.back } ∷ here.callers;
+      callers =
+          record { work = record work { stack = stack }; slots = here.slots; back = here.back; awaits_value = is_some routine.result }
+          ∷ here.callers;
     } (over (entered slots s.memory.store) s)
 begins given others routine work site here s = Over Stuck site.at s
 
@@ -123,7 +126,7 @@ begins_routine image None work site here s = Over Stuck site.at s
 begins_routine image (Some routine) work site here s =
     begins
     (arguments_off (reverse (take routine.arguments routine.slots)) work.stack [])
-    (defaults_in image.types (map (λ (slot : Slot). slot.typ) (drop routine.arguments routine.slots)))
+    (defaults_in image.constants image.types (map (λ (slot : Slot). slot.typ) (drop routine.arguments routine.slots)))
     routine work site here s
 
 -- only so many calls stand inside one another
@@ -131,17 +134,24 @@ abbrev pub enters : Bool → Image → ℕ → Work → Site → Here → State 
 enters true image number work site here s = begins_routine image (slice_get image.routines number) work site here s
 enters false image number work site here s = Over (Failed Depth) site.at s
 
--- the result of a routine on top, if it has one
-abbrev pub with_result : Option Value → Work → Work
-with_result None work = work
-with_result (Some value) work = push value work
+-- a function leaves with a value, which goes on top, and a procedure with none
+abbrev pub work_behind : (awaits_value : Bool) → Option Value → Work → Option Work
+work_behind true (Some value) work = Some (push value work)
+work_behind true None work = None
+work_behind false (Some value) work = None
+work_behind false None work = Some work
 
--- the nearest caller goes on
+-- the nearest caller goes on with this at hand
+abbrev pub resumes : Option Work → Caller → List Caller → Site → Here → State → Machine
+resumes None caller callers site here s = Over Stuck site.at s
+resumes (Some work) caller callers site here s =
+    At here.back work (record { slots = caller.slots; back = caller.back; callers = callers }) (over (left s.memory.store) s)
+
+-- a routine is left
 abbrev pub leaves : List Caller → Option Value → Site → Here → State → Machine
 leaves [] result site here s = Over Stuck site.at s
 leaves (caller ∷ callers) result site here s =
-    At here.back (with_result result caller.work) (record { slots = caller.slots; back = caller.back; callers = callers })
-    (over (left s.memory.store) s)
+    resumes (work_behind caller.awaits_value result caller.work) caller callers site here s
 
 -- What is to be done is done.
 

@@ -13,6 +13,8 @@ use Rattle.bim_code.specs.declared.image.Default.{Default}
 use Rattle.bim_code.specs.declared.image.Default.TheVariants.{Number, Truth, Constant}
 use Rattle.mos_value.specs.Values.{Value, One}
 use Rattle.mos_value.specs.Values as value
+use Rattle.mos_value.specs.declared.member.MemberType.{MemberType}
+use Rattle.mos_value.specs.declared.member.MemberType.TheVariants as member
 use Rattle.run_state.specs.Parameters.{Parameter, and_then, given_values, with_values}
 
 -- Defaults.
@@ -35,23 +37,49 @@ abbrev pub all_of : {A B : Type 0} → (A → Option B) → List A → Option (L
 all_of f [] = Some []
 all_of f (x ∷ xs) = and_then (f x) (λ y. option_map (λ ys. y ∷ ys) (all_of f xs))
 
--- of a type; the default of an array joins with arrays
-abbrev pub type_default : List ImageType → ImageType → Option Value
-type_default types Range = Some (value.Range (pos 1) (pos 0))
-type_default types (Set member) = Some (value.SetOf [])
-type_default types (ListOf member) = Some (value.ListOf [])
-type_default types (Array dynamic indexes cell) = None
-type_default types (Record fields) =
-    option_map value.Fields (all_of (λ (field : Field). and_then (slice_get types field.typ) scalar_default) fields)
-type_default types Integer = option_map One (scalar_default Integer)
-type_default types Boolean = option_map One (scalar_default Boolean)
-type_default types Str = option_map One (scalar_default Str)
-type_default types Model = option_map One (scalar_default Model)
-type_default types Event = option_map One (scalar_default Event)
+-- what the members of a set or list of this type can be
+abbrev pub member_type : ImageType → Option MemberType
+member_type Integer = Some member.Integer
+member_type Boolean = Some member.Boolean
+member_type Str = Some member.Str
+member_type Model = None
+member_type Event = None
+member_type Range = None
+member_type (Set member) = None
+member_type (ListOf member) = None
+member_type (Array dynamic indexes cell) = None
+member_type (Record fields) = None
+
+-- where the type has this number
+abbrev pub member_at : List ImageType → ℕ → Option MemberType
+member_at types number = and_then (slice_get types number) member_type
+
+-- the names of fields
+abbrev pub field_names : List (List ℕ) → List Field → Option (List (List ℕ))
+field_names constants fields = all_of (λ (field : Field). slice_get constants field.name) fields
+
+-- the values with which they begin
+abbrev pub field_defaults : List ImageType → List Field → Option (List Scalar)
+field_defaults types fields = all_of (λ (field : Field). and_then (slice_get types field.typ) scalar_default) fields
+
+-- of a type. That of an array joins with arrays: until then an image with an array among its slots has no
+-- beginning, although it keeps the rules
+abbrev pub type_default : List (List ℕ) → List ImageType → ImageType → Option Value
+type_default constants types Range = Some (value.Range (pos 1) (pos 0))
+type_default constants types (Set number) = option_map (λ member. value.SetOf member []) (member_at types number)
+type_default constants types (ListOf number) = option_map (λ member. value.ListOf member []) (member_at types number)
+type_default constants types (Array dynamic indexes cell) = None
+type_default constants types (Record fields) =
+    and_then (field_names constants fields) (λ names. option_map (value.Fields names) (field_defaults types fields))
+type_default constants types Integer = option_map One (scalar_default Integer)
+type_default constants types Boolean = option_map One (scalar_default Boolean)
+type_default constants types Str = option_map One (scalar_default Str)
+type_default constants types Model = option_map One (scalar_default Model)
+type_default constants types Event = option_map One (scalar_default Event)
 
 -- of slots whose types have these numbers
-abbrev pub defaults_in : List ImageType → List ℕ → Option (List Value)
-defaults_in types numbers = all_of (λ number. and_then (slice_get types number) (type_default types)) numbers
+abbrev pub defaults_in : List (List ℕ) → List ImageType → List ℕ → Option (List Value)
+defaults_in constants types numbers = all_of (λ number. and_then (slice_get types number) (type_default constants types)) numbers
 
 -- Parameters.
 
@@ -92,7 +120,7 @@ with_given (Some given) image defaults =
 -- the beginning, with the parameters that were found
 abbrev pub by_parameters : Option (List Parameter) → Image → List ℕ → Beginning
 by_parameters None image text = Broken
-by_parameters (Some params) image text = with_given (given_values params text) image (defaults_in image.types image.globals)
+by_parameters (Some params) image text = with_given (given_values params text) image (defaults_in image.constants image.types image.globals)
 
 -- the beginning of an image
 abbrev pub beginning_of : Image → List ℕ → Beginning

@@ -1,5 +1,5 @@
 //! Laws of the machine: a function that does nothing, whose contract they are.
-ghost use Rattle.bim_machine.specs.Laws.{MoreChangesNothing, OverInTime, FewSteps, FewStepsOfCourse, TicksWithin, StepByStep, StaysOver, LastStep, AllGrows, AsksLast};
+ghost use Rattle.bim_machine.specs.Laws.{MoreChangesNothing, OverInTime, FewSteps, FewStepsOfCourse, TicksWithin, StepByStep, StaysOver, LastStep, AllGrows, CallsWithin, AsksLast};
 
 /// What holds of the machine of every image, and of those whose loops take ticks.
 pub fn machine_laws()
@@ -12,5 +12,6 @@ pub fn machine_laws()
     ensures stays_over { StaysOver }
     ensures last_step { LastStep }
     ensures all_grows { AllGrows }
+    ensures calls_within { CallsWithin }
     ensures asks_last { AsksLast }
 {}

@@ -12,13 +12,13 @@ use Rattle.run_state.specs.Stops.{Stop, Exited, Failed, Spent, Stopped, Asking, 
 use Rattle.run_state.specs.State.{World, State, Out, Gave, Halts, bind, on_line, counting, had, tick_if, write}
 use Rattle.mos_meaning.specs.Values.{ticking}
 
--- a stop that an accepted model can come to
+-- a stop that a model without calls can come to
 abbrev pub HasReason : Stop → Type 0
 HasReason (Exited code) = Unit {0}
 HasReason (Failed kind) = Unit {0}
 HasReason Spent = Unit {0}
 HasReason Stopped = Unit {0}
-HasReason (Asking call) = Unit {0}
+HasReason (Asking call) = ⊥
 HasReason Stuck = ⊥
 HasReason Lost = ⊥
 
@@ -29,12 +29,12 @@ IsInt (One (Truth b)) = ⊥
 IsInt (One (Str t)) = ⊥
 IsInt (One (ModelOf n)) = ⊥
 IsInt (One (Event a b)) = ⊥
-IsInt (SetOf members) = ⊥
-IsInt (ListOf items) = ⊥
+IsInt (SetOf member members) = ⊥
+IsInt (ListOf member items) = ⊥
 IsInt (Range a b) = ⊥
-IsInt (Fields values) = ⊥
+IsInt (Fields names values) = ⊥
 
--- each variable has an integer, and no fewer ticks were taken than so many
+-- each variable has an integer, no fewer ticks were taken than so many, and no call was made
 pub record Sound (w : World) (names : List Name) (least : ℕ) (s : State) : Type 0 where
   pub frame : List Value
   pub store : s.memory.store ≡ frame ∷ []
@@ -42,10 +42,11 @@ pub record Sound (w : World) (names : List Name) (least : ℕ) (s : State) : Typ
   pub ints : All IsInt frame
   pub later : least ≤ s.counts.ticks
   pub within : s.counts.ticks ≤ w.budget
+  pub silent : s.counts.calls ≡ []
 
 abbrev pub FineIs : World → List Name → ℕ → {A : Type 0} → (A → Type 0) → Out A → Type 0
 FineIs w names least P (Gave x s) = Sound w names least s × P x
-FineIs w names least P (Halts stop line s) = HasReason stop
+FineIs w names least P (Halts stop line s) = HasReason stop × (s.counts.calls ≡ [])
 
 pub record Fine (w : World) (names : List Name) (least : ℕ) {A : Type 0} (P : A → Type 0) (o : Out A) : Type 0 where
   pub by : FineIs w names least P o
@@ -53,8 +54,9 @@ pub record Fine (w : World) (names : List Name) (least : ℕ) {A : Type 0} (P : 
 pub gave : {w : World} {names : List Name} {least : ℕ} {A : Type 0} {P : A → Type 0} {x : A} {s : State} → Sound w names least s → P x → Fine w names least P (Gave x s)
 gave sound h = record { by = (sound, h) }
 
-pub halts : {w : World} {names : List Name} {least : ℕ} {A : Type 0} {P : A → Type 0} {stop : Stop} {line : Option ℕ} {s : State} → HasReason stop → Fine w names least P (Halts stop line s)
-halts h = record { by = h }
+pub halts : {w : World} {names : List Name} {inner least : ℕ} {A : Type 0} {P : A → Type 0} {stop : Stop} {line : Option ℕ} {s : State}
+    → Sound w names inner s → HasReason stop → Fine w names least P (Halts stop line s)
+halts sound h = record { by = (h, sound.silent) }
 
 -- a later bound is one
 pub sooner : {w : World} {names : List Name} {least : ℕ} {s : State} (earlier : ℕ) → earlier ≤ least → Sound w names least s → Sound w names earlier s
@@ -65,6 +67,7 @@ sooner earlier less sound = let later = sound.later in record {
   ints = sound.ints;
   later = omega (arith, later, less);
   within = sound.within;
+  silent = sound.silent;
 }
 
 -- that of the state itself
@@ -76,6 +79,7 @@ renewed sound = record {
   ints = sound.ints;
   later = omega arith;
   within = sound.within;
+  silent = sound.silent;
 }
 
 pub then_fine : {w : World} {names : List Name} {inner least : ℕ} {A B : Type 0} {P : A → Type 0} {Q : B → Type 0} (o : Out A) (go : A → State → Out B)
@@ -100,8 +104,9 @@ tick_fine {w = w} {names = names} {least = least} {A = A} {P = P} s go sound h =
       ints = sound.ints;
       later = omega arith;
       within = grind (arith, nat_tests, e);
+      silent = sound.silent;
     })
-    tested false e = record { by = tt }
+    tested false e = record { by = (tt, sound.silent) }
 
 -- what is written leaves the variables
 pub write_fine : {w : World} {names : List Name} {least inner : ℕ} {A : Type 0} {P : A → Type 0} (text : List ℕ) (s : State) (go : Unit {0} → State → Out A) → Sound w names inner s
@@ -116,5 +121,6 @@ write_fine {w = w} {names = names} {least = least} {A = A} {P = P} text s go sou
       ints = sound.ints;
       later = sound.later;
       within = sound.within;
+      silent = sound.silent;
     })
-    tested false = record { by = tt }
+    tested false = record { by = (tt, sound.silent) }

@@ -1,31 +1,33 @@
--- A model whose every statement works is never stuck and never lost: each variable holds an integer at
--- all times, and a loop has no more passes than ticks.
+-- A model whose every statement works is never stuck and never lost, and calls nothing: each variable
+-- holds an integer at all times, and a loop has no more passes than ticks.
 
-use Rattle.std.proofs.Common.{◌≡◌, ℕ, zero, suc, ◌+◌, ◌-◌, ◌<◌, ℤ, ◌+ℤ◌, ◌-ℤ◌, List, [], ◌∷◌, ◌++◌, Bool, Option, Some, None, refl, sym, ap, subst, ◌∙◌, true, false, length, nat_lt, nat_le, cond, pos, slice_get, slice_set, get_or, option_map, arith}
-use Rattle.std.specs.Prelude.{if◌then◌else◌, ◌||◌}
+use Rattle.std.proofs.Common.{◌≡◌, ℕ, zero, suc, ◌+◌, ◌-◌, ◌<◌, List, [], ◌∷◌, ◌++◌, Bool, Option, Some, None, refl, sym, ap, subst, ◌∙◌, true, false, length, nat_lt, cond, pos, slice_get, slice_set, get_or, option_map, arith}
+use Rattle.std.specs.Prelude.{if◌then◌else◌, ◌||◌, Result, Ok, Err}
 use Rattle.std.specs.Str.{bytes_eq}
 use Rattle.std.proofs.lemmas.Bool.Decides.{nat_tests}
 use Rattle.std.proofs.lemmas.List.{length-set, length-replicate}
 use Rattle.std.proofs.lemmas.List.Elements.{All-set, All-replicate}
 use Rattle.std.proofs.lemmas.Option.{slice_get-get_or}
-use Rattle.mos_text.specs.declared.fault_kind.FaultKind.TheVariants.{Overflow, TooBig}
+use Rattle.mos_text.specs.declared.fault_kind.FaultKind.{FaultKind}
 use Rattle.mos_text.specs.declared.scalar.Scalar.{Scalar}
 use Rattle.mos_text.specs.declared.scalar.Scalar.TheVariants.{Int, Bool as Truth, Str}
 use Rattle.job_calls.specs.declared.reply.Reply.{Reply}
 use Rattle.mos_names.specs.NameLists.{Name, has_name, place_of}
 use Rattle.mos_value.specs.Values.{Value, One, SetOf, ListOf, Range, Fields}
-use Rattle.mos_value.specs.Answers.{Comparison, equal, not_equal, less, at_most, greater, at_least, Operator, between, sum, difference, compare, show, integer, is_integer, answer, compared, printed, Gives, Faults}
+use Rattle.mos_value.specs.Answers.{Comparison, equal, not_equal, less, at_most, greater, at_least, Operator, between, sum, difference, compare, show, answer, found}
+use Rattle.mos_value.specs.Numbers.{sum_of, difference_of}
+use Rattle.mos_value.specs.Texts.{text_of, show_one}
 use Rattle.mos_value.specs.Answers as how
-use Rattle.run_state.specs.Stops.{Lost}
+use Rattle.run_state.specs.Stops.{Lost, Outcome}
 use Rattle.run_state.specs.State.{World, State, Out, Gave, Halts, on_line, or_stop, answered, line_end}
 use Rattle.run_state.specs.Places.{load_in, put_in, put_slot}
 use Rattle.run_state.specs.Parameters.{given_values}
-use Rattle.mos_meaning.specs.Syntax.{Scope, Own, Model, Expression, number, text, truth, variable, index, apply, range_of, sum_over, invoke, ask_hub, unbuilt, Shown, nothing, one_more, Effect, assign, change, write, perform, if_, while_, do_, break_, next_, unbuilt_effect, Branches, else_, elif, Block, no_more, first}
+use Rattle.mos_meaning.specs.Syntax.{Scope, Own, Model, Expression, number, text, truth, variable, index, apply, range_of, sum_over, invoke, ask_hub, unbuilt, Shown, nothing, one_more, Effect, assign, change, write, perform, tell_hub, if_, while_, do_, break_, next_, unbuilt_effect, Branches, else_, elif, Block, no_more, first}
 use Rattle.mos_meaning.specs.Sources.{variables_of, program_of}
 use Rattle.mos_meaning.specs.Values.{Names, Env, Routine, place_in, loaded, on_truth, ticking, value_of}
 use Rattle.mos_meaning.specs.Effects.{Flow, Goes, Breaks, Continues, stored, assigned, changed, on_text, written, after_pass, passes, after_statement, effect_of, branch_of, effects_of}
 use Rattle.mos_meaning.specs.Meaning.{ended, with_given, meaning_of}
-use Rattle.mos_meaning.specs.Working.{IsVariable, IsSum, IsNumeric, IsShown, IsCondition, AreShown, Works, BranchesWork, AllWork, NeverStuck, NeverLost}
+use Rattle.mos_meaning.specs.Working.{IsVariable, IsSum, IsNumeric, IsShown, IsCondition, AreShown, Works, BranchesWork, AllWork, NeverStuck, NeverLost, CallsNothing}
 use Rattle.mos_meaning.proofs.Fine.{HasReason, IsInt, Sound, Fine, gave, halts, sooner, renewed, then_fine, on_line_fine, tick_fine, write_fine}
 
 abbrev outside_names : List Name → Names
@@ -56,17 +58,17 @@ place_within n (m ∷ names) h = by_test (bytes_eq n m) refl (place_within n nam
     by_test true e more = omega arith
     by_test false e more = let rest = more (sym (ap (λ b. b || has_name n names) e) ∙ h) in omega arith
 
-integer_fine : {w : World} {names : List Name} {least : ℕ} (n : ℤ) (s : State) → Sound w names least s → Fine w names least IsInt (answered (integer n) s)
-integer_fine {w = w} {names = names} {least = least} n s sound = tested (is_integer n)
-  where
-    tested : (b : Bool) → Fine w names least IsInt (answered (if b then Gives (One (Int n)) else Faults Overflow) s)
-    tested true = gave sound tt
-    tested false = halts tt
+-- what an operator has found is a value of its kind
+found_fine : {A : Type 0} {w : World} {names : List Name} {least : ℕ} {Is : Value → Type 0} (kind : A → Scalar) (given : Result A FaultKind) (s : State)
+    → ((x : A) → Is (One (kind x))) → Sound w names least s
+    → Fine w names least Is (answered (found kind given) s)
+found_fine kind (Ok x) s is sound = gave sound (is x)
+found_fine kind (Err fault) s is sound = halts sound tt
 
 sum_fine : {w : World} {names : List Name} {least : ℕ} (operator : Operator) (x y : Value) (s : State) → IsSum operator → IsInt x → IsInt y → Sound w names least s
     → Fine w names least IsInt (answered (answer (between operator) (x ∷ y ∷ [])) s)
-sum_fine sum (One (Int a)) (One (Int b)) s o h k sound = integer_fine (a +ℤ b) s sound
-sum_fine difference (One (Int a)) (One (Int b)) s o h k sound = integer_fine (a -ℤ b) s sound
+sum_fine sum (One (Int a)) (One (Int b)) s o h k sound = found_fine Int (sum_of a b) s (λ n. tt) sound
+sum_fine difference (One (Int a)) (One (Int b)) s o h k sound = found_fine Int (difference_of a b) s (λ n. tt) sound
 sum_fine sum (One (Int a)) y s o h k sound = absurd k
 sum_fine difference (One (Int a)) y s o h k sound = absurd k
 sum_fine sum x y s o h k sound = absurd h
@@ -99,6 +101,7 @@ assigned_fine {w = w} {names = names} {least = least} slot v s inside int sound 
       ints = All-set IsInt sound.frame slot v int sound.ints;
       later = sound.later;
       within = sound.within;
+      silent = sound.silent;
     }) tt)
 
 value_fine : {w : World} {names : List Name} {least : ℕ} (call : Routine) (e : Expression) (env : Env) (s : State) → IsNumeric names e → Sound w names least s
@@ -155,35 +158,28 @@ truth_fine c s when_true when_false h holds otherwise = absurd h
 
 -- What is printed.
 
-text_fine : {w : World} {names : List Name} {least : ℕ} (t : List ℕ) (s : State) → Sound w names least s → Fine w names least IsText (answered (how.text t) s)
-text_fine {w = w} {names = names} {least = least} t s sound = tested (nat_le (length t) 1000000)
-  where
-    tested : (b : Bool) → Fine w names least IsText (answered (if b then Gives (One (Str t)) else Faults TooBig) s)
-    tested true = gave sound tt
-    tested false = halts tt
-
 int_printed : (v : Value) → IsInt v → IsPrinted v
 int_printed (One v) h = tt
-int_printed (SetOf members) h = absurd h
-int_printed (ListOf items) h = absurd h
+int_printed (SetOf member members) h = absurd h
+int_printed (ListOf member items) h = absurd h
 int_printed (Range a b) h = absurd h
-int_printed (Fields values) h = absurd h
+int_printed (Fields names values) h = absurd h
 
 text_printed : (v : Value) → IsText v → IsPrinted v
 text_printed (One v) h = tt
-text_printed (SetOf members) h = absurd h
-text_printed (ListOf items) h = absurd h
+text_printed (SetOf member members) h = absurd h
+text_printed (ListOf member items) h = absurd h
 text_printed (Range a b) h = absurd h
-text_printed (Fields values) h = absurd h
+text_printed (Fields names values) h = absurd h
 
 -- one kind of value is of another
 weaker : {w : World} {names : List Name} {least : ℕ} {P Q : Value → Type 0} (o : Out Value) → ((v : Value) → P v → Q v) → Fine w names least P o → Fine w names least Q o
 weaker (Gave v s) f h = gave h.by.0 (f v h.by.1)
-weaker (Halts stop line s) f h = halts h.by
+weaker (Halts stop line s) f h = record { by = h.by }
 
 shown_fine : {w : World} {names : List Name} {least : ℕ} (call : Routine) (e : Expression) (env : Env) (s : State) → IsShown names e → Sound w names least s
     → Fine w names least IsPrinted (value_of w call (outside_names names) e env s)
-shown_fine call (text t) env s h sound = weaker _ text_printed (text_fine t s sound)
+shown_fine call (text t) env s h sound = weaker _ text_printed (found_fine Str (text_of t) s (λ bytes. tt) sound)
 shown_fine call (number n) env s h sound = weaker _ int_printed (value_fine call (number n) env s h sound)
 shown_fine call (variable scope n) env s h sound = weaker _ int_printed (value_fine call (variable scope n) env s h sound)
 shown_fine call (apply operator a b) env s h sound = weaker _ int_printed (value_fine call (apply operator a b) env s h sound)
@@ -196,11 +192,11 @@ shown_fine call (ask_hub function all) env s h sound = absurd h
 shown_fine call unbuilt env s h sound = absurd h
 
 form_fine : {w : World} {names : List Name} {least : ℕ} (v : Value) (s : State) → IsPrinted v → Sound w names least s → Fine w names least IsText (answered (answer show (v ∷ [])) s)
-form_fine (One v) s h sound = text_fine (printed v) s sound
-form_fine (SetOf members) s h sound = absurd h
-form_fine (ListOf items) s h sound = absurd h
+form_fine (One v) s h sound = found_fine Str (show_one v) s (λ bytes. tt) sound
+form_fine (SetOf member members) s h sound = absurd h
+form_fine (ListOf member items) s h sound = absurd h
 form_fine (Range a b) s h sound = absurd h
-form_fine (Fields values) s h sound = absurd h
+form_fine (Fields names values) s h sound = absurd h
 
 on_text_fine : {w : World} {names : List Name} {least : ℕ} {A : Type 0} {P : A → Type 0} (v : Value) (s : State) (go : List ℕ → Out A) → IsText v
     → ((t : List ℕ) → Fine w names least P (go t)) → Fine w names least P (on_text v s go)
@@ -282,6 +278,7 @@ mutual
   effect_fine call (write line newline all) env h least s sound =
       begins_fine line s _ sound (λ s1 sound1. written_fine call newline all env [] s1 h sound1)
   effect_fine call (perform line routine all) env h least s sound = absurd h
+  effect_fine call (tell_hub line function all) env h least s sound = absurd h
   effect_fine call (if_ line all) env h least s sound = begins_fine line s _ sound (λ s1 sound1. branches_fine call all env h least s1 sound1)
   effect_fine {w = w} call (while_ line e body) env h least s sound =
       begins_fine line s _ sound (λ s1 sound1.
@@ -304,17 +301,20 @@ mutual
       then_fine _ _ (effect_fine call e env h.0 least s sound) (λ flow s1 sound1 any.
       after_statement_fine flow s1 _ sound1 (block_fine call rest env h.1 least s1 sound1))
 
--- the whole run stops for a reason
-ended_fine : {w : World} {names : List Name} {least : ℕ} (o : Out Flow) → Fine w names least Any o → HasReason (ended o).stop
-ended_fine (Gave flow s) h = tt
+-- the run stops for a reason, and made no call
+abbrev EndsWell : Outcome → Type 0
+EndsWell o = HasReason o.stop × (o.calls ≡ [])
+
+ended_fine : {w : World} {names : List Name} {least : ℕ} (o : Out Flow) → Fine w names least Any o → EndsWell (ended o)
+ended_fine (Gave flow s) h = (tt, h.by.0.silent)
 ended_fine (Halts stop line s) h = h.by
 
-pub stops_for_a_reason : (statements : Block) → AllWork (variables_of statements) statements → (text : List ℕ) (replies : List Reply) (budget : ℕ)
-    → HasReason (meaning_of (program_of statements) text replies budget).stop
-stops_for_a_reason statements h params replies budget = given (given_values [] params)
+ends_well : (statements : Block) → AllWork (variables_of statements) statements → (text : List ℕ) (replies : List Reply) (budget : ℕ)
+    → EndsWell (meaning_of (program_of statements) text replies budget)
+ends_well statements h params replies budget = given (given_values [] params)
   where
-    given : (o : Option (List Scalar)) → HasReason (with_given (record { replies = replies; budget = budget }) (program_of statements) o).stop
-    given None = tt
+    given : (o : Option (List Scalar)) → EndsWell (with_given (record { replies = replies; budget = budget }) (program_of statements) o)
+    given None = (tt, refl)
     given (Some values) =
         let names : List Name = variables_of statements in
         ended_fine {w = record { replies = replies; budget = budget }} {names = names} {least = 0} _
@@ -325,10 +325,15 @@ stops_for_a_reason statements h params replies budget = given (given_values [] p
           ints = All-replicate IsInt (length names) (One (Int (pos 0))) tt;
           later = omega arith;
           within = omega arith;
+          silent = refl;
         }))
 
 pub never_stuck : (statements : Block) → AllWork (variables_of statements) statements → NeverStuck (program_of statements)
-never_stuck statements h params replies budget = λ e. subst HasReason e (stops_for_a_reason statements h params replies budget)
+never_stuck statements h params replies budget = λ fits e. subst HasReason e (ends_well statements h params replies budget).0
 
 pub never_lost : (statements : Block) → AllWork (variables_of statements) statements → NeverLost (program_of statements)
-never_lost statements h params replies budget = λ e. subst HasReason e (stops_for_a_reason statements h params replies budget)
+never_lost statements h params replies budget = λ e. subst HasReason e (ends_well statements h params replies budget).0
+
+pub calls_nothing : (statements : Block) → AllWork (variables_of statements) statements → CallsNothing (program_of statements)
+calls_nothing statements h params replies budget =
+    let ends = ends_well statements h params replies budget in record { answered = ends.1; asked = λ call e. subst HasReason e ends.0 }

@@ -9,8 +9,8 @@ use Rattle.run_state.specs.Stops.{Stuck, Lost}
 use Rattle.run_state.specs.State.{World, State, over, Out, Gave, Halts, bind, on_line, answered, line_end}
 use Rattle.run_state.specs.State as state
 use Rattle.run_state.specs.Places.{put}
-use Rattle.mos_meaning.specs.Syntax.{Shown, nothing, one_more, Effect, assign, change, write, perform, if_, while_, do_, break_, next_, unbuilt_effect, Branches, else_, elif, Block, no_more, first}
-use Rattle.mos_meaning.specs.Values.{Names, Env, Routine, place_in, loaded, on_truth, ticking, calling, value_of, arguments_of}
+use Rattle.mos_meaning.specs.Syntax.{Shown, nothing, one_more, Effect, assign, change, write, perform, tell_hub, if_, while_, do_, break_, next_, unbuilt_effect, Branches, else_, elif, Block, no_more, first}
+use Rattle.mos_meaning.specs.Values.{Names, Env, Routine, place_in, loaded, on_truth, ticking, calling, asking, value_of, arguments_of}
 
 -- how statements end that do not stop the run
 pub data Flow : Type 0 where
@@ -83,6 +83,9 @@ abbrev mutual
   effect_of w call names (perform line routine all) env s =
       on_line line (ticking w s (λ s1. bind (arguments_of w call names all env [] s1) (λ given s2.
       bind (calling w call routine (reverse given) s2) (λ none s3. Gave Goes s3))))
+  effect_of w call names (tell_hub line function all) env s =
+      on_line line (ticking w s (λ s1. bind (arguments_of w call names all env [] s1) (λ given s2.
+      bind (asking w function (reverse given) s2) (λ none s3. Gave Goes s3))))
   effect_of w call names (if_ line all) env s = on_line line (ticking w s (λ s1. branch_of w call names all env s1))
   effect_of w call names (while_ line e body) env s =
       on_line line (ticking w s (λ s1. passes w (suc (w.budget - s1.counts.ticks)) (value_of w call names e env) (effect_of w call names body env) s1))

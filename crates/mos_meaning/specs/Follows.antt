@@ -1,13 +1,13 @@
 -- A journal with its run lines follows its sources: each run's calls are those of the behaviour of its
 -- source, given the replies, and its line says how the run ended, what it wrote and what it took.
 
-use Rattle.std.specs.Prelude.{◌≡◌, ℕ, List, Option, Some, None, length, slice_get}
+use Rattle.std.specs.Prelude.{◌≡◌, ◌≤◌, ℕ, List, ◌++◌, Option, Some, None, length, slice_get}
+use Rattle.job_calls.specs.declared.call.Call.{Call}
 use Rattle.job_calls.specs.declared.reply.Reply.{Reply}
 use Rattle.job_calls.specs.declared.entry.Entry.{Entry}
 use Rattle.job_calls.specs.declared.entry.Listed.{Listed}
 use Rattle.job_calls.specs.declared.end.End.{End}
 use Rattle.job_calls.specs.declared.end.End.TheVariants as end
-use Rattle.job_calls.specs.declared.run_line.RunEnd.{RunEnd}
 use Rattle.job_calls.specs.declared.run_line.RunEnd.TheVariants.{Ended, Waiting}
 use Rattle.job_calls.specs.declared.run_line.RunLine.{RunLine}
 use Rattle.job_calls.specs.Words.{run_count}
@@ -41,27 +41,31 @@ end_of (Asking call) = None
 end_of Stuck = None
 end_of Lost = None
 
--- a run that stopped so: a finished one has its end in the journal and on its line; one that is not
--- finished waits on the call that it asks
-abbrev pub EndsSo : Option End → RunEnd → Stop → Type 0
-EndsSo (Some finish) line stop = (line ≡ Ended finish) × (end_of stop ≡ Some finish)
-EndsSo None line (Asking call) = line ≡ Waiting call
-EndsSo None line (Exited code) = ⊥
-EndsSo None line (Failed kind) = ⊥
-EndsSo None line Spent = ⊥
-EndsSo None line Stopped = ⊥
-EndsSo None line Stuck = ⊥
-EndsSo None line Lost = ⊥
+-- the line has all that the course wrote and took
+pub record HasAll (line : RunLine) (course : Course) : Type 0 where
+  pub output : line.output ≡ course.outcome.output
+  pub ticks : line.ticks ≡ course.outcome.ticks
+  pub steps : line.steps ≡ course.steps
+
+-- the line has a first part of the output, and no more than the course took
+pub record HasPart (line : RunLine) (course : Course) : Type 0 where
+  pub output : (rest : List ℕ) × (line.output ++ rest ≡ course.outcome.output)
+  pub ticks : line.ticks ≤ course.outcome.ticks
+  pub steps : line.steps ≤ course.steps
+
+-- what the line of a run says, by the run's end in the journal, where the run has one: it ended as its course
+-- does; it waits with the call that its course asks; or memory was wanting on the way
+pub data Says (line : RunLine) (course : Course) : Option End → Type 0 where
+  ended : (finish : End) → end_of course.outcome.stop ≡ Some finish → line.end ≡ Ended finish → HasAll line course → Says line course (Some finish)
+  waits : (call : Call) → course.outcome.stop ≡ Asking call → line.end ≡ Waiting call → HasAll line course → Says line course None
+  no_memory : line.end ≡ Ended end.NoMemory → HasPart line course → Says line course (Some end.NoMemory)
 
 -- a run of this file took this course, and its line says so
 pub record RunFollows (journal : List Entry) (run : ℕ) (line : RunLine) (file : Listed) (course : Course) : Type 0 where
   pub named : line.source ≡ file.name
   pub replies_fit : AllFit (calls_of run journal) (replies_of run journal)
   pub calls : calls_of run journal ≡ course.outcome.calls
-  pub ends : EndsSo (finish_of run journal) line.end course.outcome.stop
-  pub output : line.output ≡ course.outcome.output
-  pub ticks : line.ticks ≡ course.outcome.ticks
-  pub steps : line.steps ≡ course.steps
+  pub says : Says line course (finish_of run journal)
 
 -- the run has a file that can be run, and follows it
 pub record Follows (journal : List Entry) (o : Opening) (behaviours : List (Option Behaviour)) (run : ℕ) (line : RunLine) : Type 0 where

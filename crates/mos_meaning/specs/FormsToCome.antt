@@ -5,6 +5,7 @@
 use Rattle.std.specs.Prelude.{◌≡◌, ◌++◌, ℕ, ◌+◌, zero, suc, List, [], ◌∷◌, Option, Some, None, pos, true, false, codes, slice_get, unwrap_or, map}
 use Rattle.mos_text.specs.declared.fault_kind.FaultKind.TheVariants.{Depth}
 use Rattle.mos_text.specs.declared.scalar.Scalar.TheVariants.{Int}
+use Rattle.job_calls.specs.declared.call.Call.{Call}
 use Rattle.job_calls.specs.declared.call.Call.TheVariants as call
 use Rattle.job_calls.specs.declared.reply.Reply.TheVariants as reply
 use Rattle.bim_code.specs.declared.image.Image.{Image}
@@ -18,7 +19,7 @@ use Rattle.mos_value.specs.Answers.{sum, compare, not_equal, range}
 use Rattle.run_state.specs.Stops.{Outcome, Exited, Failed, Spent, Stopped, Asking, Stuck}
 use Rattle.run_state.specs.State.{World, State}
 use Rattle.run_state.specs.Calls.{Once, Answer, Replied, Drained}
-use Rattle.run_state.specs.HubFunctions.{HubFunction, isqueueempty, Calling, Makes, Refuses, Unfit, call_of, value_of_reply}
+use Rattle.run_state.specs.HubFunctions.{HubFunction, isqueueempty, Calling, Makes, Refuses, Unfit, call_of, HubResult, HasValue, NoValue, NoReply, result_of_reply}
 use Rattle.run_state.specs.Places.{load}
 use Rattle.bim_machine.specs.Machine.{Work, Here, Machine, At, Over, Fails, Sticks, Act, On, Jumps, Stops, Puts, Asks, Enters, Leaves, push, settle}
 use Rattle.bim_machine.specs.Instructions.{on_some, on_value, with_stack, values_off, operate, global, act}
@@ -98,22 +99,28 @@ steps (Walks [] ∷ below) work = Jumps (with_stack below work)
 steps (Walks (x ∷ xs) ∷ below) work = On (with_stack (Holds (One x) ∷ Walks xs ∷ below) work)
 steps _ work = Stops Sticks
 
--- just the result, if there is one
+-- just the result, if there is one; whether there is to be one is for the machine to say
 abbrev pub returns : List Operand → Act
 returns [] = Leaves None
 returns (Holds value ∷ []) = Leaves (Some value)
 returns _ = Stops Sticks
 
--- the value of a reply
-abbrev pub replies : Work → Answer → Act
-replies work (Replied r) = on_some (value_of_reply r) (λ value. On (push value work))
-replies work (Drained bytes) = Stops Sticks
+-- what a reply gives goes on top, if it gives a value
+abbrev pub gives : HubResult → Work → Act
+gives (HasValue value) work = On (push value work)
+gives NoValue work = On work
+gives NoReply work = Stops Sticks
+
+-- the reply to a call
+abbrev pub replies : HubFunction → Call → Work → Answer → Act
+replies function call work (Replied r) = gives (result_of_reply function call r) work
+replies function call work (Drained bytes) = Stops Sticks
 
 -- the call is asked, or its arguments refused
-abbrev pub calls : Calling → Work → Act
-calls (Makes call) work = Asks (Once call) (replies work)
-calls (Refuses kind) work = Stops (Fails kind)
-calls Unfit work = Stops Sticks
+abbrev pub calls : HubFunction → Calling → Work → Act
+calls function (Makes call) work = Asks (Once call) (replies function call work)
+calls function (Refuses kind) work = Stops (Fails kind)
+calls function Unfit work = Stops Sticks
 
 -- the act of each
 abbrev pub wider_act : List (List ℕ) → Wider → List Place → Work → List (List Value) → Act
@@ -130,7 +137,7 @@ wider_act constants (step_to address) slots work store = steps work.stack work
 wider_act constants (call_routine routine) slots work store = Enters routine work
 wider_act constants return slots work store = returns work.stack
 wider_act constants (hub function many) slots work store =
-    on_some (values_off many work.stack []) (λ (off : List Value × List Operand). calls (call_of function off.0) (with_stack off.1 work))
+    on_some (values_off many work.stack []) (λ (off : List Value × List Operand). calls function (call_of function off.0) (with_stack off.1 work))
 
 -- the address that one names; here the addresses are the places in the code
 abbrev pub wider_named : Wider → Option ℕ
@@ -249,3 +256,13 @@ abbrev pub TooDeepAgrees : Type 0
 TooDeepAgrees =
     told (wider_run too_deep_image too_deep_code (record { replies = []; budget = 10000 }) 2100 (start (One (Int (pos 0)) ∷ [])))
     ≡ record { output = []; calls = []; ticks = 2002; stop = Failed Depth }
+
+-- a function that leaves without a value
+abbrev pub early_code : List Wider
+early_code = call_routine 0 ∷ plain End ∷ plain End ∷ plain End ∷ plain End ∷ return ∷ []
+
+-- it is stuck
+abbrev pub EarlyIsStuck : Type 0
+EarlyIsStuck =
+    told (wider_run too_deep_image early_code (record { replies = []; budget = 10 }) 10 (start (One (Int (pos 0)) ∷ [])))
+    ≡ record { output = []; calls = []; ticks = 1; stop = Stuck }

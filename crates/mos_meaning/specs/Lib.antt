@@ -7,3 +7,4 @@ pub mod Working
 pub mod Follows
 pub mod Examples
 pub mod FormsToCome
+pub mod FreshSets

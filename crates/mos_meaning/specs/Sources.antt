@@ -22,7 +22,7 @@ use Rattle.mos_tree.specs.declared.source.Tree.{Tree}
 use Rattle.mos_names.specs.NameLists.{Name, with_name}
 use Rattle.mos_value.specs.Values.{Value, One}
 use Rattle.mos_value.specs.Answers.{Operator, sum, difference, compare, equal, not_equal, less, at_most, greater, at_least}
-use Rattle.mos_meaning.specs.Syntax.{Model, Expression, number, text, truth, variable, apply, unbuilt, Shown, nothing, one_more, Effect, assign, change, write, perform, if_, while_, do_, break_, next_, unbuilt_effect, Branches, else_, elif, Block, no_more, first, Program}
+use Rattle.mos_meaning.specs.Syntax.{Model, Expression, number, text, truth, variable, apply, unbuilt, Shown, nothing, one_more, Effect, assign, change, write, perform, tell_hub, if_, while_, do_, break_, next_, unbuilt_effect, Branches, else_, elif, Block, no_more, first, Program}
 
 -- Expressions.
 
@@ -154,6 +154,7 @@ abbrev mutual
   names_after names (change line operator scope n e) = names
   names_after names (write line newline all) = names
   names_after names (perform line routine all) = names
+  names_after names (tell_hub line function all) = names
   names_after names (break_ line) = names
   names_after names (next_ line) = names
   names_after names unbuilt_effect = names

@@ -25,14 +25,16 @@ mutual
     range_of : (first last : Expression) → Expression  -- `first..last`
     sum_over : (index : Name) (set condition body : Expression) → Expression  -- `sum(index in set | condition) body`
     invoke : (routine : ℕ) → Arguments → Expression
-    ask_hub : HubFunction → Arguments → Expression
+    ask_hub : HubFunction → Arguments → Expression  -- a function of the hub
     unbuilt : Expression
 
-  -- what a routine or function is given, in order: values, and variables that are shared
+  -- what a routine or function is given, in order: values, variables that are shared, and values that are
+  -- fresh: each of these goes to a variable of its own, which nothing else names, and that one is shared
   pub data Arguments : Type 0 where
     no_argument : Arguments
     by_value : Expression → Arguments → Arguments
     by_place : Scope → Name → Arguments → Arguments
+    by_fresh : Scope → Name → Expression → Arguments → Arguments
 
 -- expressions in their order, as `write` prints them
 pub data Shown : Type 0 where
@@ -46,6 +48,7 @@ mutual
     change : (line : ℕ) → Operator → Scope → Name → Expression → Effect  -- `+=` and `-=`
     write : (line : ℕ) (newline : Bool) → Shown → Effect
     perform : (line routine : ℕ) → Arguments → Effect  -- a procedure
+    tell_hub : (line : ℕ) → HubFunction → Arguments → Effect  -- a procedure of the hub
     if_ : (line : ℕ) → Branches → Effect
     while_ : (line : ℕ) → Expression → Effect → Effect
     do_ : Block → Effect

@@ -9,11 +9,11 @@ use Rattle.mos_value.specs.Values.{Value, One, Place, members_of}
 use Rattle.mos_value.specs.Answers.{between, sum, range, answer}
 use Rattle.mos_value.specs.Answers as how
 use Rattle.run_state.specs.Stops.{Failed, Stuck, Lost}
-use Rattle.run_state.specs.State.{World, State, Out, Gave, Halts, bind, or_stop, answered, had, tick}
+use Rattle.run_state.specs.State.{World, State, over, Out, Gave, Halts, bind, or_stop, answered, had, tick}
 use Rattle.run_state.specs.Calls.{ask}
-use Rattle.run_state.specs.HubFunctions.{Calling, Makes, Refuses, Unfit, call_of, value_of_reply}
-use Rattle.run_state.specs.Places.{load, Argument, ByValue, ByPlace}
-use Rattle.mos_meaning.specs.Syntax.{Scope, Own, Model, Expression, number, text, truth, variable, index, apply, range_of, sum_over, invoke, ask_hub, unbuilt, Arguments, no_argument, by_value, by_place}
+use Rattle.run_state.specs.HubFunctions.{HubFunction, Calling, Makes, Refuses, Unfit, call_of, HubResult, HasValue, NoValue, NoReply, result_of_reply}
+use Rattle.run_state.specs.Places.{load, put, Argument, ByValue, ByPlace}
+use Rattle.mos_meaning.specs.Syntax.{Scope, Own, Model, Expression, number, text, truth, variable, index, apply, range_of, sum_over, invoke, ask_hub, unbuilt, Arguments, no_argument, by_value, by_place, by_fresh}
 
 -- the names of the variables, the routine's that runs and the model's; the place of each is by its place
 -- among them
@@ -43,6 +43,11 @@ abbrev pub loaded : Option Place → State → Out Value
 loaded None s = Halts Lost None s
 loaded (Some place) s = or_stop Lost (load place s.memory.store) s
 
+-- it with a fresh value, which is then shared
+abbrev pub with_fresh : Option Place → Value → State → Out Place
+with_fresh None value s = Halts Lost None s
+with_fresh (Some place) value s = bind (or_stop Lost (put place value s.memory.store) s) (λ store s1. Gave place (over store s1))
+
 -- the constant that an index name is
 abbrev pub bound_in : List (Name × Scalar) → Name → Option Value
 bound_in [] n = None
@@ -68,12 +73,6 @@ ticking w s go = bind (had (tick w s.counts) s) (λ done s1. go s1)
 abbrev pub calling : World → Routine → ℕ → List Argument → State → Out (Option Value)
 calling w call routine all s = ticking w s (λ s1. call routine all s1)
 
--- the call that a function of the hub makes, and its value
-abbrev pub made : World → Calling → State → Out Value
-made w (Makes call) s = bind (had (ask w call s.counts) s) (λ r s1. or_stop Stuck (value_of_reply r) s1)
-made w (Refuses kind) s = Halts (Failed kind) None s
-made w Unfit s = Halts Stuck None s
-
 -- one more value
 abbrev pub with_first : Value → Option (List Value) → Option (List Value)
 with_first value None = None
@@ -84,6 +83,22 @@ abbrev pub values_in : List Argument → Option (List Value)
 values_in [] = Some []
 values_in (ByValue value ∷ rest) = with_first value (values_in rest)
 values_in (ByPlace place ∷ rest) = None
+
+-- what a reply gives goes on
+abbrev pub on_reply : HubResult → State → Out (Option Value)
+on_reply (HasValue value) s = Gave (Some value) s
+on_reply NoValue s = Gave None s
+on_reply NoReply s = Halts Stuck None s
+
+-- the call that a function or procedure of the hub makes, and what the reply gives
+abbrev pub made : World → HubFunction → Calling → State → Out (Option Value)
+made w function (Makes call) s = bind (had (ask w call s.counts) s) (λ r s1. on_reply (result_of_reply function call r) s1)
+made w function (Refuses kind) s = Halts (Failed kind) None s
+made w function Unfit s = Halts Stuck None s
+
+-- with the arguments that it is given
+abbrev pub asking : World → HubFunction → List Argument → State → Out (Option Value)
+asking w function all s = bind (or_stop Stuck (values_in all) s) (λ values s1. made w function (call_of function values) s1)
 
 -- the sum over members, each of which takes a tick, on top of the sum so far
 abbrev pub sums : World → (Scalar → State → Out Value) → (Scalar → State → Out Value) → List Scalar → Value → State → Out Value
@@ -111,7 +126,7 @@ abbrev mutual
   value_of w call names (invoke routine all) env s =
       bind (arguments_of w call names all env [] s) (λ given s1. bind (calling w call routine (reverse given) s1) (λ v s2. or_stop Stuck v s2))
   value_of w call names (ask_hub function all) env s =
-      bind (arguments_of w call names all env [] s) (λ given s1. bind (or_stop Stuck (values_in (reverse given)) s1) (λ values s2. made w (call_of function values) s2))
+      bind (arguments_of w call names all env [] s) (λ given s1. bind (asking w function (reverse given) s1) (λ v s2. or_stop Stuck v s2))
   value_of w call names unbuilt env s = Halts Lost None s
 
   -- arguments in their order, on top of those so far, the last first
@@ -121,3 +136,6 @@ abbrev mutual
       bind (value_of w call names e env s) (λ v s1. arguments_of w call names rest env (ByValue v ∷ sofar) s1)
   arguments_of w call names (by_place scope n rest) env sofar s =
       bind (or_stop Lost (place_in names env scope n) s) (λ place s1. arguments_of w call names rest env (ByPlace place ∷ sofar) s1)
+  arguments_of w call names (by_fresh scope n e rest) env sofar s =
+      bind (value_of w call names e env s) (λ v s1. bind (with_fresh (place_in names env scope n) v s1) (λ place s2.
+      arguments_of w call names rest env (ByPlace place ∷ sofar) s2))

@@ -1,13 +1,15 @@
 -- Models that a run can carry out today: values are integers but for the texts that are printed and the
 -- conditions, each name is a variable of the model, and no form is left out. No run of such a model is
--- stuck or lost.
+-- stuck or lost, or makes a call.
 
-use Rattle.std.specs.Prelude.{◌≡◌, ◌≢◌, true, List, ℕ}
+use Rattle.std.specs.Prelude.{◌≡◌, ◌≢◌, true, List, [], ℕ, take, length}
+use Rattle.job_calls.specs.declared.call.Call.{Call}
 use Rattle.job_calls.specs.declared.reply.Reply.{Reply}
+use Rattle.job_calls.specs.Replies.{AllFit}
 use Rattle.mos_names.specs.NameLists.{Name, has_name}
 use Rattle.mos_value.specs.Answers.{Operator, sum, difference, compare}
-use Rattle.run_state.specs.Stops.{Stuck, Lost}
-use Rattle.mos_meaning.specs.Syntax.{Scope, Own, Model, Expression, number, text, truth, variable, index, apply, range_of, sum_over, invoke, ask_hub, unbuilt, Shown, nothing, one_more, Effect, assign, change, write, perform, if_, while_, do_, break_, next_, unbuilt_effect, Branches, else_, elif, Block, no_more, first, Program}
+use Rattle.run_state.specs.Stops.{Asking, Stuck, Lost, Outcome}
+use Rattle.mos_meaning.specs.Syntax.{Scope, Own, Model, Expression, number, text, truth, variable, index, apply, range_of, sum_over, invoke, ask_hub, unbuilt, Shown, nothing, one_more, Effect, assign, change, write, perform, tell_hub, if_, while_, do_, break_, next_, unbuilt_effect, Branches, else_, elif, Block, no_more, first, Program}
 use Rattle.mos_meaning.specs.Sources.{variables_of, program_of}
 use Rattle.mos_meaning.specs.Meaning.{meaning_of}
 
@@ -78,6 +80,7 @@ abbrev mutual
   Works names (break_ line) = Unit {0}
   Works names (next_ line) = Unit {0}
   Works names (perform line routine all) = ⊥
+  Works names (tell_hub line function all) = ⊥
   Works names unbuilt_effect = ⊥
 
   -- branches
@@ -90,18 +93,38 @@ abbrev mutual
   AllWork names no_more = Unit {0}
   AllWork names (first e rest) = Works names e × AllWork names rest
 
--- no run of the model is stuck, and none is lost
+-- the replies that were taken fit the calls of this outcome; of one without calls they do
+abbrev pub TookFitting : List Reply → Outcome → Type 0
+TookFitting replies outcome = AllFit outcome.calls (take (length outcome.calls) replies)
+
+-- no run of the model is stuck that is answered what fits its calls
 abbrev pub NeverStuck : Program → Type 0
-NeverStuck program = (text : List ℕ) (replies : List Reply) (budget : ℕ) → (meaning_of program text replies budget).stop ≢ Stuck
+NeverStuck program = (text : List ℕ) (replies : List Reply) (budget : ℕ)
+    → TookFitting replies (meaning_of program text replies budget) → (meaning_of program text replies budget).stop ≢ Stuck
 
 -- no run of the model is lost
 abbrev pub NeverLost : Program → Type 0
 NeverLost program = (text : List ℕ) (replies : List Reply) (budget : ℕ) → (meaning_of program text replies budget).stop ≢ Lost
 
--- which holds of all models whose statements work
+-- in this outcome no call was answered, and none is asked
+pub record HasNoCall (outcome : Outcome) : Type 0 where
+  pub answered : outcome.calls ≡ []
+  pub asked : (call : Call) → outcome.stop ≢ Asking call
+
+-- no run of the model makes a call
+abbrev pub CallsNothing : Program → Type 0
+CallsNothing program = (text : List ℕ) (replies : List Reply) (budget : ℕ) → HasNoCall (meaning_of program text replies budget)
+
+-- No model whose statements work is stuck, none is lost, and none makes a call.
+
+-- none is stuck
 abbrev pub WorkingNeverStuck : Type 0
 WorkingNeverStuck = (statements : Block) → AllWork (variables_of statements) statements → NeverStuck (program_of statements)
 
 -- none is lost
 abbrev pub WorkingNeverLost : Type 0
 WorkingNeverLost = (statements : Block) → AllWork (variables_of statements) statements → NeverLost (program_of statements)
+
+-- none makes a call
+abbrev pub WorkingCallsNothing : Type 0
+WorkingCallsNothing = (statements : Block) → AllWork (variables_of statements) statements → CallsNothing (program_of statements)

@@ -1,6 +1,7 @@
 //! Worked examples of the definitions: functions that do nothing, whose contracts are the examples.
 ghost use Rattle.mos_meaning.specs.Examples.{HelloMeans, HelloSpent, HelloRefused, FiveMeans, TooMuchMeans, LastWayMeans, ParameterMeans, DownMeans, DownSpent, DownEnough, EndlessSpent, UntilTwoMeans, HelloCourse, HelloCourseSpent, ParameterCourses, MeaninglessOperands, HelloFollows, TooFewLines, NoModel, AnotherSource};
-ghost use Rattle.mos_meaning.specs.FormsToCome.{ExampleMeans, ExampleAgrees, TooDeepMeans, TooDeepAgrees};
+ghost use Rattle.mos_meaning.specs.FormsToCome.{ExampleMeans, ExampleAgrees, TooDeepMeans, TooDeepAgrees, EarlyIsStuck};
+ghost use Rattle.mos_meaning.specs.FreshSets.{CopyMeans, CopyAgrees, SomeMeans};
 
 /// What a few models mean.
 pub fn meanings()
@@ -31,12 +32,21 @@ pub fn courses()
 {}
 
 /// A model with an aggregate, a routine by reference and a call of the hub: what it means, and that the
-/// machine does the same.
+/// machine does the same; calls that are too deep; and a function that leaves without its value.
 pub fn forms_to_come()
     ensures means { ExampleMeans }
     ensures agrees { ExampleAgrees }
     ensures too_deep { TooDeepMeans }
     ensures too_deep_agrees { TooDeepAgrees }
+    ensures early_is_stuck { EarlyIsStuck }
+{}
+
+/// A model that passes a set as a fresh value to a routine that changes it, and sends a message: what
+/// it means, that the machine does the same, and what it means where the set itself is passed.
+pub fn fresh_sets()
+    ensures means { CopyMeans }
+    ensures agrees { CopyAgrees }
+    ensures shared { SomeMeans }
 {}
 
 /// A run line that follows its source.

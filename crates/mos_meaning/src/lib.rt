@@ -9,6 +9,6 @@ mod examples;
 mod laws;
 
 pub use examples::{
-    courses, forms_to_come, hello_follows, meanings, meanings_of_loops, refused_lines,
+    courses, forms_to_come, fresh_sets, hello_follows, meanings, meanings_of_loops, refused_lines,
 };
 pub use laws::working_models;

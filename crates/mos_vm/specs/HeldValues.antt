@@ -1,11 +1,9 @@
 -- As the code goes about it: values as the program holds them, and what is looked for in one.
 
-use Rattle.std.specs.Prelude.{ℤ, Bool, List, ℕ, Option, Some, None, if◌then◌else◌}
+use Rattle.std.specs.Prelude.{ℤ, Bool, List, ℕ, Option, Some, None}
 use Rattle.mos_text.specs.declared.scalar.Scalar.{Scalar}
 use Rattle.mos_text.specs.declared.scalar.Scalar.TheVariants as scalar
 use Rattle.mos_value.specs.Values.{Value, One, SetOf, ListOf, Range, Fields}
-use Rattle.mos_text.specs.declared.fault_kind.FaultKind.TheVariants.{Overflow}
-use Rattle.mos_value.specs.Answers.{Result, Gives, Faults, is_integer}
 use Rattle.run_state.specs.Parameters.{and_then}
 use Rattle.mos_vm.specs.declared.value.Form.{Form}
 use Rattle.mos_vm.specs.declared.value.Form.TheVariants as form
@@ -13,18 +11,18 @@ use Rattle.mos_vm.specs.declared.value.Form.TheVariants as form
 -- the value that is held so
 abbrev pub value_of : Form → Value
 value_of (form.One value) = One value
-value_of (form.SetOf members) = SetOf members
-value_of (form.ListOf items) = ListOf items
+value_of (form.SetOf member members) = SetOf member members
+value_of (form.ListOf member items) = ListOf member items
 value_of (form.Range first last) = Range first last
-value_of (form.Fields values) = Fields values
+value_of (form.Fields names values) = Fields names values
 
 -- a value without parts
 abbrev pub scalar_in : Value → Option Scalar
 scalar_in (One value) = Some value
-scalar_in (SetOf members) = None
-scalar_in (ListOf items) = None
+scalar_in (SetOf member members) = None
+scalar_in (ListOf member items) = None
 scalar_in (Range first last) = None
-scalar_in (Fields values) = None
+scalar_in (Fields names values) = None
 
 -- the integer that a scalar is
 abbrev pub integer_of_scalar : Scalar → Option ℤ
@@ -61,12 +59,3 @@ truth_in value = and_then (scalar_in value) truth_of_scalar
 -- the text that it is
 abbrev pub text_in : Value → Option (List ℕ)
 text_in value = and_then (scalar_in value) text_of_scalar
-
--- an integer, where it has 32 bits
-abbrev pub in_range : ℤ → Option ℤ
-in_range n = if is_integer n then Some n else None
-
--- it as an answer, or the fault of one that does not fit
-abbrev pub integer_of : Option ℤ → Result
-integer_of (Some n) = Gives (One (scalar.Int n))
-integer_of None = Faults Overflow

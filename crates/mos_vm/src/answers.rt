@@ -1,16 +1,15 @@
 //! What operators and functions make of values.
-ghost use Rattle.std.specs.Prelude.{◌≡◌, ◌∷◌, [], IfOk, ◌+ℤ◌, ◌-ℤ◌};
-ghost use Rattle.mos_value.specs.Answers.{answer, between, sum, difference, compare, show, text, truth, compared, order_of, same_value};
+ghost use Rattle.std.specs.Prelude.{◌≡◌, ◌∷◌, [], IfOk};
+ghost use Rattle.mos_text.specs.declared.scalar.Scalar.TheVariants as scalar;
+ghost use Rattle.mos_value.specs.Answers.{answer, between, sum, difference, compare, show, text, truth, compared, found};
 ghost use Rattle.bim_machine.specs.Instructions.{comparison_of};
-ghost use Rattle.mos_vm.specs.HeldValues.{in_range, integer_of};
 ghost use Rattle.mos_vm.specs.Rows.{result_of};
 
-use crate::printing::printed_form;
 use crate::value::Value;
 use bim_code::Comparison;
-use mos_text::{FaultKind, NoMemory, Scalar, TEXT_LIMIT, Text};
+use mos_text::{FaultKind, NoMemory, Scalar, Text};
+use mos_value::{ValueFault, difference_of, into_shown, order_of, same_value, sum_of, text_of};
 use std::alloc::Global;
-use std::cmp::Ordering;
 
 /// What comes of values.
 #[derive(Drop)]
@@ -66,7 +65,11 @@ pub(crate) fn printed_text(alloc: Global, value: Value) -> Result<Answer, NoMemo
     ensures { IfOk result (λ printed. result_of printed ≡ answer show (value ∷ [])) }
 {
     match value.into_scalar() {
-        Some(value) => Ok(text(printed_form(alloc, value)?)),
+        Some(value) => match into_shown(alloc, value) {
+            Ok(text) => Ok(Answer::Gives(Value::one(Scalar::Str(text)))),
+            Err(ValueFault::Fault(kind)) => Ok(Answer::Faults(kind)),
+            Err(ValueFault::NoMemory) => Err(NoMemory),
+        },
         None => Ok(Answer::Sticks),
     }
 }
@@ -75,31 +78,19 @@ pub(crate) fn printed_text(alloc: Global, value: Value) -> Result<Answer, NoMemo
 pub(crate) fn text(bytes: Text) -> Answer
     ensures { result_of result ≡ text bytes }
 {
-    if bytes.as_bytes().len() > TEXT_LIMIT {
-        return Answer::Faults(FaultKind::TooBig);
+    match text_of(bytes) {
+        Ok(text) => Answer::Gives(Value::one(Scalar::Str(text))),
+        Err(kind) => Answer::Faults(kind),
     }
-    Answer::Gives(Value::one(Scalar::Str(bytes)))
 }
 
-fn sum_of(left: i32, right: i32) -> Option<i32>
-    ensures { result ≡ in_range (left +ℤ right) }
-{
-    left.checked_add(right)
-}
-
-fn difference_of(left: i32, right: i32) -> Option<i32>
-    ensures { result ≡ in_range (left -ℤ right) }
-{
-    left.checked_sub(right)
-}
-
-/// An integer, where it has 32 bits.
-fn integer(number: Option<i32>) -> Answer
-    ensures { result_of result ≡ integer_of number }
+/// An integer that an operator has found, or its fault.
+fn integer(number: Result<i32, FaultKind>) -> Answer
+    ensures { result_of result ≡ found scalar.Int number }
 {
     match number {
-        Some(number) => Answer::Gives(Value::one(Scalar::Int(number))),
-        None => Answer::Faults(FaultKind::Overflow),
+        Ok(number) => Answer::Gives(Value::one(Scalar::Int(number))),
+        Err(kind) => Answer::Faults(kind),
     }
 }
 
@@ -123,28 +114,5 @@ fn compared(comparison: Comparison, left: &Scalar, right: &Scalar) -> Option<boo
         Comparison::AtMost => Some(!order_of(left, right)?.is_gt()),
         Comparison::Greater => Some(order_of(left, right)?.is_gt()),
         Comparison::AtLeast => Some(!order_of(left, right)?.is_lt()),
-    }
-}
-
-fn order_of(left: &Scalar, right: &Scalar) -> Option<Ordering>
-    ensures { result ≡ order_of left.now right.now }
-{
-    match (left, right) {
-        (Scalar::Int(left), Scalar::Int(right)) => Some(left.cmp(right)),
-        (Scalar::Str(left), Scalar::Str(right)) => Some(left.as_bytes().cmp(right.as_bytes())),
-        _ => None,
-    }
-}
-
-fn same_value(left: &Scalar, right: &Scalar) -> Option<bool>
-    ensures { result ≡ same_value left.now right.now }
-{
-    match (left, right) {
-        (Scalar::Bool(left), Scalar::Bool(right)) => Some(left == right),
-        (Scalar::Model(left), Scalar::Model(right)) => Some(left == right),
-        (Scalar::Event(left, first), Scalar::Event(right, second)) => {
-            Some(left == right && first == second)
-        }
-        _ => Some(order_of(left, right)?.is_eq()),
     }
 }

@@ -7,7 +7,6 @@ mod asked;
 mod code;
 mod machine;
 mod parameters;
-mod printing;
 mod rows;
 mod runner;
 mod start;

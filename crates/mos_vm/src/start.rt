@@ -1,14 +1,16 @@
 //! How a run begins, by the tables of its image: a default in each global slot, then parameters.
-ghost use Rattle.std.specs.Prelude.{◌≡◌, [], Some, IfOk, slice_get};
+ghost use Rattle.std.specs.Prelude.{◌≡◌, [], Some, IfOk, slice_get, option_map};
 ghost use Rattle.run_state.specs.Parameters.{and_then, with_values};
-ghost use Rattle.bim_machine.specs.Starts.{scalar_default, type_default, all_of, defaults_in, by_parameters, with_given, beginning_of};
+ghost use Rattle.bim_machine.specs.Starts.{scalar_default, type_default, member_type, member_at, field_names, field_defaults, defaults_in, by_parameters, with_given, beginning_of};
 ghost use Rattle.bim_code.specs.declared.image.ImageType.TheVariants as table;
+ghost use Rattle.mos_value.specs.Values.{SetOf, ListOf, Fields};
 ghost use Rattle.mos_vm.specs.Beginnings.{beginning_by, slots_of, field_default};
 
 use crate::parameters::{Formal, given_values, parameters};
 use crate::value::Value;
 use bim_code::{Field, Image, ImageType, Parameter};
 use mos_text::{NoMemory, Scalar, Text};
+use mos_value::MemberType;
 use sqlite_items::{Items, at};
 use std::alloc::Global;
 
@@ -51,9 +53,16 @@ fn start_with_text(
 /// The beginning with these values of the parameters.
 fn start_with_values(alloc: Global, image: &Image, given: Items<Scalar>) -> Result<Start, NoMemory>
     ensures { IfOk result (λ start. beginning_by start
-        ≡ with_given (Some given) image.now (defaults_in image.now.types image.now.globals)) }
+        ≡ with_given (Some given) image.now
+        (defaults_in image.now.constants image.now.types image.now.globals)) }
 {
-    match defaults(alloc, image.types.as_slice(), image.globals.as_slice())? {
+    let constants = image.constants.as_slice();
+    match defaults(
+        alloc,
+        constants,
+        image.types.as_slice(),
+        image.globals.as_slice(),
+    )? {
         Some(values) => match with_values(alloc, image.params.as_slice(), given, values)? {
             Some(values) => Ok(Start::Begins(values)),
             None => Ok(Start::Broken),
@@ -65,14 +74,15 @@ fn start_with_values(alloc: Global, image: &Image, given: Items<Scalar>) -> Resu
 /// The defaults of the types of these numbers.
 fn defaults(
     alloc: Global,
+    constants: &[Text],
     types: &[ImageType],
     numbers: &[u16],
 ) -> Result<Option<Items<Value>>, NoMemory>
-    ensures { IfOk result (λ values. values ≡ defaults_in types.now numbers.now) }
+    ensures { IfOk result (λ values. values ≡ defaults_in constants.now types.now numbers.now) }
 {
     let mut values = Items::new(alloc);
     for number in numbers {
-        match numbered_default(alloc, types, *number)? {
+        match numbered_default(alloc, constants, types, *number)? {
             Some(value) => values.push(value)?,
             None => return Ok(None),
         }
@@ -82,14 +92,15 @@ fn defaults(
 
 fn numbered_default(
     alloc: Global,
+    constants: &[Text],
     types: &[ImageType],
     number: u16,
 ) -> Result<Option<Value>, NoMemory>
-    ensures { IfOk result
-        (λ value. value ≡ and_then (slice_get types.now number) (type_default types.now)) }
+    ensures { IfOk result (λ value. value
+        ≡ and_then (slice_get types.now number) (type_default constants.now types.now)) }
 {
     match at(types, number as usize) {
-        Some(typ) => type_default(alloc, types, typ),
+        Some(typ) => type_default(alloc, constants, types, typ),
         None => Ok(None),
     }
 }
@@ -97,10 +108,11 @@ fn numbered_default(
 /// The default of a type.
 fn type_default(
     alloc: Global,
+    constants: &[Text],
     types: &[ImageType],
     typ: &ImageType,
 ) -> Result<Option<Value>, NoMemory>
-    ensures { IfOk result (λ value. value ≡ type_default types.now typ.now) }
+    ensures { IfOk result (λ value. value ≡ type_default constants.now types.now typ.now) }
 {
     match typ {
         ImageType::Integer => Ok(Some(Value::one(Scalar::Int(0)))),
@@ -109,24 +121,102 @@ fn type_default(
         ImageType::Model => Ok(Some(Value::one(Scalar::Model(0)))),
         ImageType::Event => Ok(Some(Value::one(Scalar::Event(0, 0)))),
         ImageType::Range => Ok(Some(Value::range(1, 0))),
-        ImageType::Set(_) => Ok(Some(Value::no_members(alloc))),
-        ImageType::List(_) => Ok(Some(Value::no_items(alloc))),
+        ImageType::Set(member) => Ok(set_default(alloc, types, *member)),
+        ImageType::List(member) => Ok(list_default(alloc, types, *member)),
         ImageType::Array { .. } => Ok(None),
-        ImageType::Record(fields) => record_default(alloc, types, fields.as_slice()),
+        ImageType::Record(fields) => record_default(alloc, constants, types, fields.as_slice()),
+    }
+}
+
+fn set_default(alloc: Global, types: &[ImageType], member: u16) -> Option<Value>
+    ensures { result ≡ option_map (λ m. SetOf m []) (member_at types.now member) }
+{
+    match member_at(types, member) {
+        Some(member) => Some(Value::no_members(alloc, member)),
+        None => None,
+    }
+}
+
+fn list_default(alloc: Global, types: &[ImageType], member: u16) -> Option<Value>
+    ensures { result ≡ option_map (λ m. ListOf m []) (member_at types.now member) }
+{
+    match member_at(types, member) {
+        Some(member) => Some(Value::no_items(alloc, member)),
+        None => None,
+    }
+}
+
+/// What the members of a set or list can be, by the number of their type.
+fn member_at(types: &[ImageType], number: u16) -> Option<MemberType>
+    ensures { result ≡ member_at types.now number }
+{
+    match at(types, number as usize) {
+        Some(typ) => member_type(typ),
+        None => None,
+    }
+}
+
+fn member_type(typ: &ImageType) -> Option<MemberType>
+    ensures { result ≡ member_type typ.now }
+{
+    match typ {
+        ImageType::Integer => Some(MemberType::Integer),
+        ImageType::Boolean => Some(MemberType::Boolean),
+        ImageType::Str => Some(MemberType::Str),
+        ImageType::Model | ImageType::Event | ImageType::Range => None,
+        ImageType::Set(_) | ImageType::List(_) => None,
+        ImageType::Array { .. } | ImageType::Record(_) => None,
     }
 }
 
 fn record_default(
     alloc: Global,
+    constants: &[Text],
     types: &[ImageType],
     fields: &[Field],
 ) -> Result<Option<Value>, NoMemory>
-    ensures { IfOk result (λ value. value ≡ type_default types.now (table.Record fields.now)) }
+    ensures { IfOk result (λ value. value
+        ≡ type_default constants.now types.now (table.Record fields.now)) }
 {
-    match field_defaults(alloc, types, fields)? {
-        Some(values) => Ok(Some(Value::fields(values))),
+    match field_names(alloc, constants, fields)? {
+        Some(names) => named_default(alloc, types, fields, names),
         None => Ok(None),
     }
+}
+
+/// The default of a record whose fields have these names.
+fn named_default(
+    alloc: Global,
+    types: &[ImageType],
+    fields: &[Field],
+    names: Items<Text>,
+) -> Result<Option<Value>, NoMemory>
+    ensures { IfOk result (λ value. value
+        ≡ option_map (Fields names) (field_defaults types.now fields.now)) }
+{
+    match field_defaults(alloc, types, fields) {
+        Ok(Some(values)) => Ok(Some(Value::fields(names, values))),
+        Ok(None) => Ok(None),
+        Err(refusal) => Err(refusal),
+    }
+}
+
+/// The names of these fields.
+fn field_names(
+    alloc: Global,
+    constants: &[Text],
+    fields: &[Field],
+) -> Result<Option<Items<Text>>, NoMemory>
+    ensures { IfOk result (λ names. names ≡ field_names constants.now fields.now) }
+{
+    let mut names = Items::new(alloc);
+    for field in fields {
+        match at(constants, field.name as usize) {
+            Some(name) => names.push(name.copy(alloc)?)?,
+            None => return Ok(None),
+        }
+    }
+    Ok(Some(names))
 }
 
 /// The defaults of these fields.
@@ -135,7 +225,7 @@ fn field_defaults(
     types: &[ImageType],
     fields: &[Field],
 ) -> Result<Option<Items<Scalar>>, NoMemory>
-    ensures { IfOk result (λ values. values ≡ all_of (field_default types.now) fields.now) }
+    ensures { IfOk result (λ values. values ≡ field_defaults types.now fields.now) }
 {
     let mut values = Items::new(alloc);
     for field in fields {

@@ -3,8 +3,10 @@ ghost use Rattle.std.specs.Prelude.{◌≡◌, [], None, IfOk, MatchOption};
 ghost use Rattle.mos_text.specs.declared.scalar.Scalar.TheVariants as scalar;
 ghost use Rattle.mos_value.specs.Values.{One, SetOf, ListOf, Range, Fields};
 ghost use Rattle.mos_vm.specs.HeldValues.{scalar_in, integer_in, truth_in, text_in};
+ghost use Rattle.mos_vm.specs.declared.value.Form.TheVariants.{Fields as fields};
 
 use mos_text::{NoMemory, Scalar, Text};
+use mos_value::MemberType;
 use sqlite_items::Items;
 use std::alloc::Global;
 use std::marker::Model;
@@ -20,12 +22,12 @@ pub(crate) struct Value {
 enum Form {
     One(Scalar),
     /// Members, each once, in the order in which they were added.
-    SetOf(Items<Scalar>),
-    ListOf(Items<Scalar>),
+    SetOf(MemberType, Items<Scalar>),
+    ListOf(MemberType, Items<Scalar>),
     /// The integers from the first to the last.
     Range(i32, i32),
-    /// The fields of a record, in the order of its type.
-    Fields(Items<Scalar>),
+    /// The names and values of the fields of a record, in the order of its type.
+    Fields(Items<Text>, Items<Scalar>),
 }
 
 impl Model for Value {
@@ -49,20 +51,20 @@ impl Value {
     }
 
     /// A set without members.
-    pub(crate) fn no_members(alloc: Global) -> Value
-        ensures { result ≡ SetOf [] }
+    pub(crate) fn no_members(alloc: Global, member: MemberType) -> Value
+        ensures { result ≡ SetOf member [] }
     {
         Value {
-            form: Form::SetOf(Items::new(alloc)),
+            form: Form::SetOf(member, Items::new(alloc)),
         }
     }
 
     /// A list without items.
-    pub(crate) fn no_items(alloc: Global) -> Value
-        ensures { result ≡ ListOf [] }
+    pub(crate) fn no_items(alloc: Global, member: MemberType) -> Value
+        ensures { result ≡ ListOf member [] }
     {
         Value {
-            form: Form::ListOf(Items::new(alloc)),
+            form: Form::ListOf(member, Items::new(alloc)),
         }
     }
 
@@ -76,11 +78,11 @@ impl Value {
     }
 
     /// A record with these fields.
-    pub(crate) fn fields(values: Items<Scalar>) -> Value
-        ensures { result ≡ Fields values }
+    pub(crate) fn fields(names: Items<Text>, values: Items<Scalar>) -> Value
+        ensures { result ≡ Fields names values }
     {
         Value {
-            form: Form::Fields(values),
+            form: Form::Fields(names, values),
         }
     }
 
@@ -99,7 +101,8 @@ impl Value {
         let Value { form } = self;
         match form {
             Form::One(value) => Some(value),
-            Form::SetOf(_) | Form::ListOf(_) | Form::Range(_, _) | Form::Fields(_) => None,
+            Form::SetOf(_, _) | Form::ListOf(_, _) => None,
+            Form::Range(_, _) | Form::Fields(_, _) => None,
         }
     }
 
@@ -146,12 +149,37 @@ impl Form {
     {
         match self {
             Form::One(value) => Ok(Form::One(value.copy(alloc)?)),
-            Form::SetOf(members) => Ok(Form::SetOf(copies(alloc, members.as_slice())?)),
-            Form::ListOf(items) => Ok(Form::ListOf(copies(alloc, items.as_slice())?)),
+            Form::SetOf(member, members) => {
+                Ok(Form::SetOf(*member, copies(alloc, members.as_slice())?))
+            }
+            Form::ListOf(member, items) => {
+                Ok(Form::ListOf(*member, copies(alloc, items.as_slice())?))
+            }
             Form::Range(first, last) => Ok(Form::Range(*first, *last)),
-            Form::Fields(values) => Ok(Form::Fields(copies(alloc, values.as_slice())?)),
+            Form::Fields(names, values) => fields_copy(alloc, names.as_slice(), values.as_slice()),
         }
     }
+}
+
+fn fields_copy(alloc: Global, names: &[Text], values: &[Scalar]) -> Result<Form, NoMemory>
+    ensures { IfOk result (λ form. form ≡ fields names.now values.now) }
+{
+    let names = name_copies(alloc, names)?;
+    match copies(alloc, values) {
+        Ok(values) => Ok(Form::Fields(names, values)),
+        Err(refusal) => Err(refusal),
+    }
+}
+
+/// The same names in the same order.
+fn name_copies(alloc: Global, names: &[Text]) -> Result<Items<Text>, NoMemory>
+    ensures { IfOk result (λ copied. copied ≡ names.now) }
+{
+    let mut copied = Items::new(alloc);
+    for name in names {
+        copied.push(name.copy(alloc)?)?;
+    }
+    Ok(copied)
 }
 
 /// The same values in the same order.

@@ -5,10 +5,12 @@ use Rattle.mos_text.specs.declared.fault_kind.FaultKind.TheVariants.{Busy}
 use Rattle.mos_text.specs.declared.scalar.Scalar.TheVariants.{Int, Bool as Truth, Str}
 use Rattle.job_calls.specs.declared.call.Call.TheVariants as call
 use Rattle.job_calls.specs.declared.reply.Reply.TheVariants as reply
+use Rattle.mos_value.specs.Values.{One}
 use Rattle.run_state.specs.Stops.{Failed, Spent, Stopped, Asking}
 use Rattle.run_state.specs.State.{Took, Cut, tick}
 use Rattle.run_state.specs.Calls.{ask, inquire, UntilEnd, Drained}
-use Rattle.run_state.specs.Parameters.{Parameter, given_values}
+use Rattle.run_state.specs.HubFunctions.{isqueueempty, send, HasValue, NoValue, NoReply, result_of_reply}
+use Rattle.run_state.specs.Parameters.{Parameter, given_values, refused_name}
 
 -- an integer, a text and a truth
 abbrev pub three : List Parameter
@@ -32,6 +34,12 @@ RefusedTexts =
     map (given_values three) (codes " " ∷ codes "N" ∷ codes "M=1" ∷ codes "B=1" ∷ codes "N=2147483648" ∷ codes "T='a" ∷ codes "N=1,N=x" ∷ [])
     ≡ None ∷ None ∷ None ∷ None ∷ None ∷ None ∷ None ∷ []
 
+-- the first of them for which each is refused: the empty one where the item has no `=` or no value
+abbrev pub RefusedNames : Type 0
+RefusedNames =
+    map (refused_name three) (codes " " ∷ codes "N=1,M=1,B=2" ∷ codes "T=x,B=1" ∷ codes "N=2147483648" ∷ codes "N=2,T='a" ∷ codes "N=2" ∷ [])
+    ≡ Some [] ∷ Some (codes "M") ∷ Some (codes "B") ∷ Some (codes "N") ∷ Some [] ∷ None ∷ []
+
 -- a call takes the reply behind those of the calls before it, a reply may end the run, and without one it is asked
 abbrev pub Replies : Type 0
 Replies =
@@ -41,6 +49,12 @@ Replies =
     ∷ Cut Stopped (record { calls = call.IsEmpty ∷ call.Wait ∷ []; ticks = 3 })
     ∷ Cut (Failed Busy) (record { calls = call.IsEmpty ∷ call.Wait ∷ []; ticks = 3 })
     ∷ Cut (Asking call.Wait) (record { calls = call.IsEmpty ∷ []; ticks = 3 }) ∷ []
+
+-- a function has the value of its reply, a procedure has none, and another reply is none to the call
+abbrev pub HubResults : Type 0
+HubResults =
+    (map (result_of_reply isqueueempty call.IsEmpty) (reply.Flag true ∷ reply.Unit ∷ []) ≡ HasValue (One (Truth true)) ∷ NoReply ∷ [])
+    × (map (result_of_reply send (call.Send None (pos 2) (pos 7))) (reply.Queued 0 ∷ reply.Lost ∷ reply.Flag true ∷ []) ≡ NoValue ∷ NoValue ∷ NoReply ∷ [])
 
 -- a pipe is taken until its end; where it has not ended, the call is asked once more
 abbrev pub Drains : Type 0

@@ -1,14 +1,14 @@
 -- The parameters of a model, and what a parameter text gives them: items NAME=VALUE with commas between
 -- them. Blanks around names and values do not count.
 
-use Rattle.std.specs.Prelude.{ℕ, ◌+◌, ◌-◌, ◌*◌, ℤ, pos, ◌-ℤ◌, Bool, true, false, ◌&&◌, ◌||◌, List, [], ◌∷◌, ◌++◌, Option, Some, None, map, take, drop, length, reverse, slice_get, slice_set, nat_eq, nat_lt, nat_le, codes, option_map, if◌then◌else◌}
+use Rattle.std.specs.Prelude.{◌≡◌, is_some, is_none, ℕ, ◌+◌, ◌-◌, ◌*◌, ℤ, pos, ◌-ℤ◌, Bool, true, false, ◌&&◌, ◌||◌, List, [], ◌∷◌, ◌++◌, Option, Some, None, map, take, drop, length, reverse, slice_get, slice_set, nat_eq, nat_lt, nat_le, codes, option_map, if◌then◌else◌}
 use Rattle.std.specs.List.{list_any, position_or_len}
 use Rattle.std.specs.Str.{bytes_eq}
 use Rattle.mos_text.specs.declared.scalar.Scalar.{Scalar}
 use Rattle.mos_text.specs.declared.scalar.Scalar.TheVariants.{Int, Bool as Truth, Str, Model, Event}
 use Rattle.mos_names.specs.NameLists.{Name, place_of}
 use Rattle.mos_value.specs.Values.{Value, One}
-use Rattle.mos_value.specs.Answers.{is_integer}
+use Rattle.mos_value.specs.Numbers.{is_integer}
 use Rattle.mos_text.specs.declared.fault_kind.FaultKind.TheVariants.{BadParam}
 use Rattle.run_state.specs.Stops.{Outcome, Failed}
 
@@ -146,6 +146,46 @@ given_behind params values (item ∷ items) =
 -- the values of all parameters, or none where the text is refused
 abbrev pub given_values : List Parameter → List ℕ → Option (List Scalar)
 given_values params text = given_behind params (map (λ (p : Parameter). p.default) params) (items_of text)
+
+-- The name for which a text is refused.
+
+-- of an item that is written well, where the parameter is found
+abbrev pub refused_value : Name → Written → Option Parameter → Option Name
+refused_value name written None = Some name
+refused_value name written (Some p) = if is_none (value_like p.default written) then Some name else None
+
+-- of an item with this name; the empty one where its value is none at all
+abbrev pub refused_written : List Parameter → Name → Option Written → Option Name
+refused_written params name None = Some []
+refused_written params name (Some written) =
+    refused_value name written (slice_get params (place_of name (map (λ (p : Parameter). p.name) params)))
+
+-- of an item, if it is refused; the empty one where it has no `=`
+abbrev pub refused_item : List Parameter → List ℕ → Option Name
+refused_item params item =
+    let equals = position_or_len (nat_eq 61) item in
+    if nat_eq equals (length item) then Some []
+    else refused_written params (trimmed (take equals item)) (written_of (trimmed (drop (equals + 1) item)))
+
+-- the first of these
+abbrev pub first_name : Option Name → Option Name → Option Name
+first_name None later = later
+first_name (Some name) later = Some name
+
+-- that of the first item that is refused
+abbrev pub refused_items : List Parameter → List (List ℕ) → Option Name
+refused_items params [] = None
+refused_items params (item ∷ items) = first_name (refused_item params item) (refused_items params items)
+
+-- of a text, if it is refused
+abbrev pub refused_name : List Parameter → List ℕ → Option Name
+refused_name params text = refused_items params (items_of text)
+
+-- a text has a name for which it is refused exactly where it gives no values
+abbrev pub RefusedForAName : Type 0
+RefusedForAName = (params : List Parameter) (text : List ℕ) → is_some (refused_name params text) ≡ is_none (given_values params text)
+
+-- What is given to a run.
 
 -- values in these slots of a frame, where each is there
 abbrev pub with_values : List ℕ → List Scalar → List Value → Option (List Value)

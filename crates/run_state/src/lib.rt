@@ -5,3 +5,6 @@
 #![tactic(auto)]
 
 pub mod examples;
+mod laws;
+
+pub use laws::refused_texts;

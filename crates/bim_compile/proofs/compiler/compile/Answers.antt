@@ -1,16 +1,19 @@
 -- what is known of every model's image, of this one
-use Rattle.std.proofs.Common.{◌≡◌, ◌≢◌, ◌≤◌, ◌*◌, ◌+◌, ◌∙◌, ℕ, List, Result, Ok, Err, sym, ap, subst, length, arith}
+use Rattle.std.proofs.Common.{◌≡◌, ◌≤◌, ◌*◌, ◌+◌, ◌∙◌, List, [], take, Result, Ok, Err, sym, ap, subst, length}
 use Rattle.std.specs.Prelude.{IfOk, OnOk}
+use Rattle.job_calls.specs.declared.call.Call.{Call}
 use Rattle.job_calls.specs.declared.reply.Reply.{Reply}
+use Rattle.job_calls.specs.Replies.{AllFit}
 use Rattle.bim_code.specs.declared.image.Image.{Image}
 use Rattle.bim_code.specs.Code.{code_size}
 use Rattle.bim_code.specs.Limits.{FitsFields}
 use Rattle.bim_code.specs.Rules.{KeepsRules}
 use Rattle.mos_text.specs.declared.no_memory.NoMemory.{NoMemory}
-use Rattle.run_state.specs.Stops.{Stop, Outcome, Stuck, Lost}
+use Rattle.run_state.specs.Stops.{Outcome}
 use Rattle.mos_meaning.specs.Syntax.{Block}
 use Rattle.mos_meaning.specs.Sources.{program_of, statements_of, variables_of}
-use Rattle.mos_meaning.specs.Working.{NeverStuck, NeverLost}
+use Rattle.mos_meaning.specs.Meaning.{meaning_of}
+use Rattle.mos_meaning.specs.Working.{NeverStuck, NeverLost, CallsNothing, TookFitting}
 use Rattle.bim_compile.specs.Compiled.{image_of}
 use Rattle.bim_compile.specs.InSize.{IsInSize, IsSmallBlock}
 use Rattle.bim_compile.specs.Means.{Means, NeverFails}
@@ -49,10 +52,18 @@ returns-clause-means c =
     (keeps_rules model works in_size).ticks (c.working_models.ensures.never_lost model works))
     c.build.ensures.built c.build.ensures.small
 
+-- without calls there are no replies that could not fit
+without_calls : (replies : List Reply) (o : Outcome) → o.calls ≡ [] → TookFitting replies o
+without_calls replies o e = subst (λ (calls : List Call). AllFit calls (take (length calls) replies)) (sym e) tt
+
 -- what means a model that is never stuck and never lost is neither
-never_fails : (model : Block) (image : Image) → Means (program_of model) image → NeverStuck (program_of model) → NeverLost (program_of model) → NeverFails image
-never_fails model image means never_stuck never_lost = record {
-  stuck = λ text replies budget e. never_stuck text replies budget (ap (λ (o : Outcome). o.stop) (sym (means text replies budget)) ∙ e);
+never_fails : (model : Block) (image : Image) → Means (program_of model) image → NeverStuck (program_of model) → NeverLost (program_of model) → CallsNothing (program_of model)
+    → NeverFails image
+never_fails model image means never_stuck never_lost calls_nothing = record {
+  stuck = λ text replies budget fits e.
+      never_stuck text replies budget (subst (TookFitting replies) (means text replies budget) fits) (ap (λ (o : Outcome). o.stop) (sym (means text replies budget)) ∙ e);
+  alone = λ text budget e.
+      never_stuck text [] budget (without_calls [] (meaning_of (program_of model) text [] budget) (calls_nothing text [] budget).answered) (ap (λ (o : Outcome). o.stop) (sym (means text [] budget)) ∙ e);
   lost = λ text replies budget e. never_lost text replies budget (ap (λ (o : Outcome). o.stop) (sym (means text replies budget)) ∙ e);
 }
 
@@ -66,8 +77,14 @@ returns-clause-never_fails c =
     never_fails model (image_of model)
     (course_is_meaning c.machine_laws.ensures.over_in_time c.machine_laws.ensures.stays_over model (block-built (variables_of model) model works)
     (keeps_rules model works in_size).ticks (c.working_models.ensures.never_lost model works))
-    (c.working_models.ensures.never_stuck model works) (c.working_models.ensures.never_lost model works))
+    (c.working_models.ensures.never_stuck model works) (c.working_models.ensures.never_lost model works) (c.working_models.ensures.calls_nothing model works))
     c.build.ensures.built c.build.ensures.small
+
+pub returns-clause-never_lost : goal.returns-clause-never_lost
+returns-clause-never_lost c = c.working_models.ensures.never_lost (statements_of c.args.tree.now) c.requires.can_compile.works
+
+pub returns-clause-calls_nothing : goal.returns-clause-calls_nothing
+returns-clause-calls_nothing c = c.working_models.ensures.calls_nothing (statements_of c.args.tree.now) c.requires.can_compile.works
 
 pub returns-clause-rules : goal.returns-clause-rules
 returns-clause-rules c =

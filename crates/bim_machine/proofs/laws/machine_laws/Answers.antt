@@ -4,7 +4,7 @@ use Rattle.bim_machine.proofs.Runs.{step_by_step, stays_over, last_step}
 use Rattle.bim_machine.proofs.MoreOfTheWorld.{run_more}
 use Rattle.bim_machine.proofs.Pace.{over_in_time}
 use Rattle.bim_machine.proofs.Growth.{all_grows}
-use Rattle.bim_machine.proofs.WholeCourses.{few_steps_begun, few_steps_of, ticks_within, asks_last_of}
+use Rattle.bim_machine.proofs.WholeCourses.{few_steps_begun, few_steps_of, ticks_within, calls_within, asks_last_of}
 use Rattle.bim_machine.proofs.laws.machine_laws.Goals as goal
 
 pub returns : goal.returns
@@ -18,5 +18,6 @@ returns c = record {
   stays_over = stays_over;
   last_step = last_step;
   all_grows = all_grows;
+  calls_within = λ image text replies budget. calls_within image (record { replies = replies; budget = budget }) (beginning_of image text);
   asks_last = λ image text replies budget call e. asks_last_of image (record { replies = replies; budget = budget }) (beginning_of image text) call e;
 }

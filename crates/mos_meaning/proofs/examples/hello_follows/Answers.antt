@@ -5,7 +5,7 @@ use Rattle.job_calls.specs.declared.run_line.RunLine.{RunLine}
 use Rattle.job_calls.specs.Runs.{Opening}
 use Rattle.job_calls.specs.HelloJournal.{hello_entries, hello_runs, hello_file}
 use Rattle.mos_meaning.specs.Examples.{hello, hello_image, hello_behaviours}
-use Rattle.mos_meaning.specs.Follows.{Follows, behaviour_of}
+use Rattle.mos_meaning.specs.Follows.{Follows, ended, behaviour_of}
 use Rattle.mos_meaning.specs.Sources.{program_of}
 use Rattle.mos_meaning.proofs.examples.hello_follows.Goals as goal
 
@@ -29,10 +29,7 @@ each zero line e = subst (Follows hello_entries opened hello_behaviours 0) (insi
     named = refl;
     replies_fit = tt;
     calls = refl;
-    ends = (refl, refl);
-    output = refl;
-    ticks = refl;
-    steps = refl;
+    says = ended _ refl refl (record { output = refl; ticks = refl; steps = refl });
   };
 }
 each (suc run) line e = let none : None ≡ Some line = e in cc

@@ -6,5 +6,5 @@ use Rattle.mos_vm.proofs.start.defaults.Given as goal
 
 abbrev pub invariant-loop-number : goal.invariant-loop-number
 invariant-loop-number l =
-    option_map (λ rest. l.values ++ rest) (defaults_in l.types (drop l.number-index l.numbers))
-    ≡ defaults_in l.types l.numbers
+    option_map (λ rest. l.values ++ rest) (defaults_in l.constants l.types (drop l.number-index l.numbers))
+    ≡ defaults_in l.constants l.types l.numbers

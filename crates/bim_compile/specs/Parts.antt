@@ -1,0 +1,90 @@
+-- As the compiler goes about it: the parts of a model, and what a draft becomes by one.
+
+use Rattle.std.specs.Prelude.{◌≡◌, ◌≤◌, ◌<◌, ◌++◌, ◌+◌, ◌*◌, ◌^◌, ℕ, List, [], ◌∷◌, length}
+use Rattle.bim_code.specs.declared.instruction.Instruction.TheVariants.{JumpIf}
+use Rattle.mos_names.specs.NameLists.{Name}
+use Rattle.mos_meaning.specs.Syntax.{Expression, Shown, Effect, Branches, Block}
+use Rattle.bim_compile.specs.declared.draft.Draft.{Draft}
+use Rattle.bim_compile.specs.declared.draft.Exits.{Exits}
+use Rattle.bim_compile.specs.declared.draft.Labelled.{Labelled}
+use Rattle.bim_compile.specs.Compiled.{at_line, texts_in, texts_in_all, texts_in_effect, texts_in_branches, texts_in_block, expression_code, arguments_code, effect_code, branches_code, block_code, expression_end, arguments_end, effect_end, branches_end, block_end}
+use Rattle.bim_compile.specs.Sizes.{size_of, size_of_all, size_of_effect, size_of_branches, size_of_block}
+
+-- a part of a model: its code where `k` constants stand before it and it begins at `at`, its texts, the address
+-- behind it, and the most bytes that its code takes
+pub record Part : Type 0 where
+  pub code : (k at : ℕ) → List Labelled
+  pub texts : List (List ℕ)
+  pub end : ℕ → ℕ
+  pub most : ℕ
+
+-- an expression, of the piece on this line
+abbrev pub expression_part : List Name → (line : ℕ) → Expression → Part
+expression_part names line e = record {
+  code = λ k at. expression_code names line k e;
+  texts = texts_in e;
+  end = λ at. expression_end at e;
+  most = 5 * size_of e;
+}
+
+-- the test of a loop, which leads back to the tick of a pass
+abbrev pub test_part : List Name → (line pass : ℕ) → Expression → Part
+test_part names line pass e = record {
+  code = λ k at. expression_code names line k e ++ at_line line (JumpIf pass) ∷ [];
+  texts = texts_in e;
+  end = λ at. expression_end at e + 5;
+  most = 5 * size_of e + 5;
+}
+
+-- what is printed
+abbrev pub arguments_part : List Name → (line : ℕ) → Shown → Part
+arguments_part names line all = record {
+  code = λ k at. arguments_code names line k all;
+  texts = texts_in_all all;
+  end = λ at. arguments_end at all;
+  most = 7 * size_of_all all;
+}
+
+-- a statement
+abbrev pub effect_part : List Name → Exits → Effect → Part
+effect_part names exits e = record {
+  code = λ k at. effect_code names k at exits.out exits.next e;
+  texts = texts_in_effect e;
+  end = λ at. effect_end at e;
+  most = 13 * size_of_effect e;
+}
+
+-- a statement out of which no `break` and no `next` leads
+abbrev pub closed_part : List Name → Effect → Part
+closed_part names e = effect_part names (record { out = 0; next = 0 }) e
+
+-- the branches of an `if`, which ends at `end`
+abbrev pub branches_part : List Name → (end : ℕ) → Exits → Branches → Part
+branches_part names end exits all = record {
+  code = λ k at. branches_code names k at end exits.out exits.next all;
+  texts = texts_in_branches all;
+  end = λ at. branches_end at all;
+  most = 13 * size_of_branches all;
+}
+
+-- the statements of a block
+abbrev pub block_part : List Name → Exits → Block → Part
+block_part names exits all = record {
+  code = λ k at. block_code names k at exits.out exits.next all;
+  texts = texts_in_block all;
+  end = λ at. block_end at all;
+  most = 13 * size_of_block all;
+}
+
+-- each variable, each text and each address of a part has a number of 32 bits, behind this draft
+pub record HasRoom (names : List Name) (part : Part) (draft : Draft) : Type 0 where
+  pub few_names : length names < 2 ^ 31
+  pub few_texts : length draft.constants + length part.texts < 2 ^ 32
+  pub room : draft.at + part.most + 13 < 2 ^ 32
+
+-- the part stands behind what was made before, its code and its texts
+pub record Emits (part : Part) (before behind : Draft) : Type 0 where
+  pub code : behind.code ≡ before.code ++ part.code (length before.constants) before.at
+  pub constants : behind.constants ≡ before.constants ++ part.texts
+  pub at : behind.at ≡ part.end before.at
+  pub within : behind.at ≤ before.at + part.most
