@@ -5,13 +5,15 @@ use Rattle.std.specs.Prelude.{filter, if◌then◌else◌, ◌⊎◌}
 use Rattle.std.specs.List.{list_any, fold}
 use Rattle.std.proofs.lemmas.Bool.Decides.{eqb_tells}
 use Rattle.job_calls.specs.declared.end.End.{End}
+use Rattle.job_calls.specs.declared.end.End.TheVariants.{Code, Fault, Spent, Stopped, NoMemory}
 use Rattle.job_calls.specs.declared.entry.Entry.{Entry}
 use Rattle.job_calls.specs.Words.{is_run, is_quit, is_finish, is_started, own_entries, has_quit, run_count, is_finished}
 use Rattle.job_calls.specs.Runs.{Opening, acts_of, calls_of, replies_of, finish, finish_of, last_given, later}
 use Rattle.job_calls.specs.Legal.{CanOpen}
 use Rattle.lane_step.specs.Schedule.{open_entry, claim_entry, finish_entry, done_entry, done_entries, schedule_of}
 use Rattle.job_laws.specs.Lanes.{EndsDone}
-use Rattle.lane_step.specs.Whole.{IsWhole}
+use Rattle.lane_step.specs.Alone.{IsOwnEnd}
+use Rattle.lane_step.specs.Whole.{IsWhole, HadMemory}
 use Rattle.lane_step.proofs.Legality.{is_legal}
 
 -- what holds of none of the last entries
@@ -39,6 +41,30 @@ no_finish lane (suc many) = ap (later None) (no_finish (lane + 1) many)
 
 pub finish_is : (o : Opening) (end : End) → finish_of 0 (schedule_of o end) ≡ Some end
 finish_is o end = ap (λ rest. later None (later None (later (Some end) rest))) (no_finish 1 (o.lanes - 1))
+
+-- no other run has an end
+other_finish : (run lane many : ℕ) → last_given (λ (e : Entry). if is_run run e.run then finish e.call else None) (done_entries lane many) ≡ None
+other_finish run lane zero = refl
+other_finish run lane (suc many) = ap (later None) (other_finish run (lane + 1) many)
+
+no_other : (o : Opening) (end : End) (run : ℕ) → finish_of (suc run) (schedule_of o end) ≡ None
+no_other o end run =
+    ap (λ b. later None (later None (later (if b then Some end else None) (last_given (λ (e : Entry). if is_run (suc run) e.run then finish e.call else None) (done_entries 1 (o.lanes - 1)))))) (ne_eqb 0 (suc run) (λ e. absurd cc))
+    ∙ ap (λ rest. later None (later None (later None rest))) (other_finish (suc run) 1 (o.lanes - 1))
+
+-- an end of its own is not that of a run without memory
+not_lacking : (end : End) → IsOwnEnd end → end ≢ NoMemory
+not_lacking (Code code) own same = absurd cc
+not_lacking (Fault kind) own same = absurd cc
+not_lacking Spent own same = absurd cc
+not_lacking Stopped own same = absurd own
+not_lacking NoMemory own same = absurd own
+
+pub had_memory : (o : Opening) (end : End) → IsOwnEnd end → HadMemory (schedule_of o end)
+had_memory o end own zero lacks =
+    let same : Some end ≡ Some NoMemory = sym (finish_is o end) ∙ lacks in not_lacking end own cc
+had_memory o end own (suc run) lacks =
+    let none : None ≡ Some NoMemory = sym (no_other o end run) ∙ lacks in absurd cc
 
 no_acts : (o : Opening) (end : End) → acts_of 0 (schedule_of o end) ≡ []
 no_acts o end = dones_kept (λ (e : Entry). is_run 0 e.run && not (is_finish e.call)) (λ lane. refl) 1 (o.lanes - 1)

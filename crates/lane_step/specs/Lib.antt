@@ -1,4 +1,5 @@
 pub mod Whole
+pub mod Stalled
 pub mod Alone
 pub mod Schedule
 pub mod Lines

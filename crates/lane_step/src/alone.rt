@@ -11,9 +11,9 @@ ghost use Rattle.mos_vm.specs.Courses.{stop_of};
 ghost use Rattle.lane_step.specs.Alone.{opening_with, IsOwnEnd};
 ghost use Rattle.lane_step.specs.Lines.{line_of, IsFirstName};
 ghost use Rattle.lane_step.specs.Schedule.{schedule_of};
-ghost use Rattle.lane_step.specs.Whole.{IsWhole};
+ghost use Rattle.lane_step.specs.Whole.{IsWhole, HadMemory};
 
-use crate::schedule::{no_text, schedule};
+use crate::schedule::schedule;
 use bim_code::Image;
 use job_calls::{End, Entry, Listed, RunEnd, RunLine};
 use mos_text::{NoMemory, Text};
@@ -29,31 +29,32 @@ pub struct Stepped {
     pub end: End,
 }
 
-/// Runs the image of the first of these files with the empty parameter text. It makes no call.
+/// Runs the image of the first of these files with this parameter text. It makes no call.
 pub fn run_alone(
     alloc: Global,
-    files: Items<Listed>,
     image: &Image,
     lanes: u32,
     budget: u32,
+    params: Text,
+    files: Items<Listed>,
 ) -> Result<Stepped, NoMemory>
-    requires opens { CanOpen (opening_with lanes budget files) }
+    requires opens { CanOpen (opening_with lanes budget params files) }
     requires keeps { KeepsTicks image.now }
     requires small { code_size image.now.code < 2 ^ 30 }
-    requires never_stuck { (course_of image.now [] [] budget).outcome.stop ≢ Stuck }
+    requires never_stuck { (course_of image.now params [] budget).outcome.stop ≢ Stuck }
     ensures schedule { IfOk result (λ s.
-        s.journal ≡ schedule_of (opening_with lanes budget files) s.end) }
-    ensures whole { IfOk result (λ s. IsWhole (opening_with lanes budget files) s.journal) }
+        s.journal ≡ schedule_of (opening_with lanes budget params files) s.end) }
+    ensures whole { IfOk result (λ s. IsWhole (opening_with lanes budget params files) s.journal) }
     ensures follows { IfOk result (λ s. (others : List (Option Behaviour))
         → FollowsSources s.journal s.lines (Some (course_of image.now) ∷ others)) }
     ensures finish { IfOk result (λ s. finish_of 0 s.journal ≡ Some s.end) }
     ensures own_end { IfOk result (λ s. IsOwnEnd s.end) }
+    ensures had_memory { IfOk result (λ s. HadMemory s.journal) }
 {
-    let params = no_text(alloc);
     let ran = run(alloc, image, &params, budget)?;
     let end = end_by(ran.stop);
     let name = first_name(alloc, files.as_slice())?;
-    let journal = schedule(alloc, files, lanes, budget, end)?;
+    let journal = schedule(alloc, lanes, budget, params, files, end)?;
     let lines = lines(alloc, name, end, ran)?;
     Ok(Stepped {
         journal,

@@ -1,5 +1,5 @@
 //! The journal of a job on one thread, whose one run makes no call.
-ghost use Rattle.std.specs.Prelude.{◌≡◌, ◌≤◌, ◌∷◌, [], IfOk};
+ghost use Rattle.std.specs.Prelude.{◌≡◌, ◌≤◌, IfOk};
 ghost use Rattle.lane_step.specs.Schedule.{schedule_of, open_entry, claim_entry, finish_entry, done_entry};
 ghost use Rattle.lane_step.specs.Alone.{opening_with};
 
@@ -11,17 +11,20 @@ use std::alloc::Global;
 /// The journal of one run that ended so, on 1 to 64 lanes.
 pub(crate) fn schedule(
     alloc: Global,
-    files: Items<Listed>,
     lanes: u32,
     budget: u32,
+    params: Text,
+    files: Items<Listed>,
     end: End,
 ) -> Result<Items<Entry>, NoMemory>
     requires { 1 ≤ lanes }
-    ensures { IfOk result (λ journal. journal ≡ schedule_of (opening_with lanes budget files) end) }
+    ensures { IfOk result (λ journal.
+        journal ≡ schedule_of (opening_with lanes budget params files) end) }
 {
+    let claimed = params.copy(alloc)?;
     let mut journal = Items::new(alloc);
-    journal.push(open(alloc, files, lanes, budget))?;
-    journal.push(claim(alloc))?;
+    journal.push(open(lanes, budget, params, files))?;
+    journal.push(claim(claimed))?;
     journal.push(finish(end))?;
     for lane in 1..lanes {
         journal.push(done(lane))?;
@@ -30,8 +33,8 @@ pub(crate) fn schedule(
     Ok(journal)
 }
 
-fn open(alloc: Global, files: Items<Listed>, lanes: u32, budget: u32) -> Entry
-    ensures { result ≡ open_entry (opening_with lanes budget files) }
+fn open(lanes: u32, budget: u32, params: Text, files: Items<Listed>) -> Entry
+    ensures { result ≡ open_entry (opening_with lanes budget params files) }
 {
     Entry {
         lane: 0,
@@ -39,15 +42,15 @@ fn open(alloc: Global, files: Items<Listed>, lanes: u32, budget: u32) -> Entry
         call: Call::Open {
             lanes,
             budget,
-            params: no_text(alloc),
+            params,
             files,
         },
         reply: Reply::Opened,
     }
 }
 
-fn claim(alloc: Global) -> Entry
-    ensures { result ≡ claim_entry [] }
+fn claim(params: Text) -> Entry
+    ensures { result ≡ claim_entry params }
 {
     Entry {
         lane: 0,
@@ -56,7 +59,7 @@ fn claim(alloc: Global) -> Entry
         reply: Reply::Claimed {
             run: 0,
             source: 0,
-            params: no_text(alloc),
+            params,
         },
     }
 }
@@ -81,11 +84,4 @@ fn done(lane: u32) -> Entry
         call: Call::Claim,
         reply: Reply::Done,
     }
-}
-
-/// The empty text.
-pub(crate) fn no_text(alloc: Global) -> Text
-    ensures { result ≡ [] }
-{
-    Text::from_string(String::new(alloc))
 }

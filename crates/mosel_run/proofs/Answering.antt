@@ -4,8 +4,6 @@ use Rattle.std.proofs.Common.{◌≡◌, ◌≤◌, ℕ, List, Option, Some, Non
 use Rattle.mos_text.specs.Content.{Files}
 use Rattle.mos_text.specs.declared.folder.Got.{Got}
 use Rattle.mos_text.specs.declared.folder.Got.TheVariants.{Bytes, Missing as NotThere, TooLarge as TooLong, Failed, NoMemory as WantsMemory}
-use Rattle.job_calls.specs.declared.entry.Entry.{Entry}
-use Rattle.job_calls.specs.Runs.{Opening}
 use Rattle.mos_words.specs.CommandLine.{command_of}
 use Rattle.mos_words.specs.declared.words.commands.Command.{Command}
 use Rattle.mos_words.specs.declared.words.commands.Command.TheVariants.{Run}
@@ -13,10 +11,11 @@ use Rattle.mosel_run.specs.declared.answer.Answer.{Answer}
 use Rattle.mosel_run.specs.declared.status.Status.{Status}
 use Rattle.mosel_run.specs.Answered.{IsCommandAnswer, IsAnswer, Answered, delivered, no_memory}
 use Rattle.mosel_run.specs.Answers.{IsUnreadAnswer}
-use Rattle.mosel_run.specs.Delivered.{Delivered, whole, unwritten, unput, no_memory_to_write, no_memory_to_put}
-use Rattle.mosel_run.specs.Jobs.{AnyJournal, OneThread}
+use Rattle.mosel_run.specs.Delivered.{Delivered, whole, broken, Broke, unwritten, unput, no_memory_to_write, no_memory_to_put}
+use Rattle.mosel_run.specs.Jobs.{Journals, AnyJournal, OneThread}
 use Rattle.mosel_run.specs.Run.{Request, IsRunAnswer, unread, all_read, IsAnswerTo, refusal, report}
-use Rattle.mosel_run.specs.States.{FolderState, SinkState, Devices, folder_state}
+use Rattle.mosel_run.specs.States.{FolderState, SinkState, Devices, Held, folder_state}
+use Rattle.mosel_run.specs.declared.answer.Deed.{Deed}
 
 later_unread : (before middle after : FolderState) (name : List ℕ) (got : Got) (answer : Answer) → middle.faults ≤ after.faults
     → IsUnreadAnswer before middle name got answer → IsUnreadAnswer before after name got answer
@@ -26,26 +25,33 @@ later_unread before middle after name Failed answer later h = (h.0, (let rose = 
 later_unread before middle after name (Bytes bytes) answer later h = absurd h
 later_unread before middle after name WantsMemory answer later h = absurd h
 
-later_run : (journals : Opening → List Entry → Type 0) (asked : Request) (before middle after : FolderState) (answer : Answer) → middle.faults ≤ after.faults
+later_run : (journals : Journals) (asked : Request) (before middle after : FolderState) (answer : Answer) → middle.faults ≤ after.faults
     → IsRunAnswer journals asked before middle answer → IsRunAnswer journals asked before after answer
 later_run journals asked before middle after answer later (unread name got u a) = unread name got u (later_unread before middle after name got answer later a)
 later_run journals asked before middle after answer later (all_read sources r a) = all_read sources r a
 
 -- an answer stays one where the folder's count rises further
-later_answer : (journals : Opening → List Entry → Type 0) (command : Option Command) (before middle after : FolderState) (answer : Answer) → middle.faults ≤ after.faults
+later_answer : (journals : Journals) (command : Option Command) (before middle after : FolderState) (answer : Answer) → middle.faults ≤ after.faults
     → IsCommandAnswer journals command before middle answer → IsCommandAnswer journals command before after answer
 later_answer journals None before middle after answer later h = h
 later_answer journals (Some (Run name lanes budget)) before middle after answer later h = later_run journals _ before middle after answer later h
+
+-- what was left of a deed, where the folder's count did not fall before
+later_broke : (content : Option Files) (faults middle : ℕ) (sink : SinkState) (after : Devices) (held : Held) (deed : Deed) (status : Status) → faults ≤ middle
+    → Broke (record { folder = folder_state content middle; sink = sink }) after held deed status
+    → Broke (record { folder = folder_state content faults; sink = sink }) after held deed status
+later_broke content faults middle sink after held _ _ later (unwritten text wrote rose) = unwritten text wrote rose
+later_broke content faults middle sink after held _ _ later (unput put lost same rose) = unput put lost same (omega arith)
+later_broke content faults middle sink after held _ _ later (no_memory_to_write text wrote) = no_memory_to_write text wrote
+later_broke content faults middle sink after held _ _ later (no_memory_to_put put others same) = no_memory_to_put put others same
 
 -- a delivery from a folder that holds the same, and whose count did not fall before it
 same_folder : (answer : Answer) (content : Option Files) (faults middle : ℕ) (sink : SinkState) (after : Devices) (status : Status) → faults ≤ middle
     → Delivered answer (record { folder = folder_state content middle; sink = sink }) after status
     → Delivered answer (record { folder = folder_state content faults; sink = sink }) after status
-same_folder answer content faults middle sink after status later (whole s is wrote put) = whole s is wrote put
-same_folder answer content faults middle sink after _ later (unwritten p rose) = unwritten (record { part = p.part; nothing_put = p.nothing_put }) rose
-same_folder answer content faults middle sink after _ later (unput name wrote p rose) = unput name wrote p (omega arith)
-same_folder answer content faults middle sink after _ later (no_memory_to_write p) = no_memory_to_write (record { part = p.part; nothing_put = p.nothing_put })
-same_folder answer content faults middle sink after _ later (no_memory_to_put name wrote p) = no_memory_to_put name wrote p
+same_folder answer content faults middle sink after status later (whole s is held) = whole s is held
+same_folder answer content faults middle sink after status later (broken s first rest deed is b) =
+    broken s first rest deed is (later_broke content faults middle sink after _ deed s later b)
 
 pub answered : (words : List (List ℕ)) (content between : Option Files) (faults middle : ℕ) (sink : SinkState) (after : Devices) (answer : Answer) (status : Status)
     → between ≡ content → faults ≤ middle → middle ≤ after.folder.faults
@@ -69,10 +75,9 @@ any_answer_to asked sources answer (report r) = report (record {
   lines = r.lines;
   judged = r.judged;
   master_is = r.master_is;
-  job = record { whole = r.job.whole; written = tt; follows = r.job.follows };
-  text = r.text;
-  puts = r.puts;
-  status = r.status;
+  job = record { ended = r.job.ended; written = tt; follows = r.job.follows };
+  deeds = r.deeds;
+  so_far = r.so_far;
 })
 
 any_run : (asked : Request) (before after : FolderState) (answer : Answer) → IsRunAnswer OneThread asked before after answer → IsRunAnswer AnyJournal asked before after answer

@@ -12,7 +12,8 @@ use Rattle.std.proofs.lemmas.Cmp.{nat_list_cmp_total}
 use Rattle.job_calls.specs.Runs.{last_given, later}
 use Rattle.mos_text.specs.Content.{Files, Holds, known_of, known_by}
 use Rattle.mosel_run.specs.declared.answer.Put.{Put}
-use Rattle.mosel_run.specs.Puts.{bytes_under, bytes_of, with_put, names_of, last_puts, put_all}
+use Rattle.mosel_run.specs.Laws.{put_all}
+use Rattle.mosel_run.specs.Puts.{bytes_under, bytes_of, with_put, names_of, last_puts}
 
 eq_names : (a b : List ℕ) → bytes_eq a b ≡ true → a ≡ b
 eq_names a b h = (bytes_eq-Decides a b).0 h

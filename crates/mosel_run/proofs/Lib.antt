@@ -1,5 +1,6 @@
 pub mod ReadingFiles
-pub mod PuttingFiles
+pub mod DoingDeeds
+pub mod OneAnswer
 pub mod Opening
 pub mod Reports
 pub mod Answering

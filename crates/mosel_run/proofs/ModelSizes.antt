@@ -1,6 +1,6 @@
 -- A model is no larger than the tree of its source.
 
-use Rattle.std.proofs.Common.{◌≡◌, ◌≤◌, ℕ, ◌+◌, Bool, true, false, List, [], ◌∷◌, Option, Some, None, ap, ◌∙◌, sym, subst, map, arith}
+use Rattle.std.proofs.Common.{◌≤◌, ℕ, ◌+◌, Bool, true, false, List, [], ◌∷◌, Option, Some, None, ap, subst, map, arith}
 use Rattle.std.specs.Prelude.{sum, if◌then◌else◌}
 use Rattle.std.proofs.lemmas.List.Sums.{sum-map, sum_by-cons}
 use Rattle.mos_tree.specs.Nodes.{nodes_step, nodes, nodes_in}
@@ -23,7 +23,7 @@ use Rattle.mos_tree.specs.declared.source.Top.{Top}
 use Rattle.mos_tree.specs.declared.source.Top.TheVariants as top
 use Rattle.mos_tree.specs.declared.source.Tree.{Tree}
 use Rattle.mos_value.specs.Answers.{Operator}
-use Rattle.mos_meaning.specs.Syntax.{Expression, Shown, Effect, write, unbuilt_effect, Block}
+use Rattle.mos_meaning.specs.Syntax.{Expression, Shown, Effect, write, unbuilt_effect}
 use Rattle.mos_meaning.specs.Sources.{operator_of, applied, expression_step, expression, shown, procedure, assignment, block, branches, effect_step, effect, top_effect, statements_of}
 use Rattle.bim_compile.specs.Sizes.{size_of, size_of_all, size_of_effect, size_of_branches, size_of_block}
 

@@ -1,16 +1,16 @@
 -- The job of a command that keeps its limits can be opened.
 
-use Rattle.std.proofs.Common.{◌≡◌, ℕ, List, [], ◌∷◌, true, refl, ap, arith}
+use Rattle.std.proofs.Common.{ℕ, List, [], ◌∷◌, true, refl, ap, arith}
 use Rattle.std.specs.Prelude.{◌&&◌, ◌||◌}
 use Rattle.std.proofs.lemmas.List.Elements.{All-nil}
 use Rattle.job_calls.specs.Legal.{CanOpen}
 use Rattle.lane_step.specs.Alone.{opening_with}
 use Rattle.mos_words.specs.Fit.{IsFit}
-use Rattle.mos_text.specs.FileName.{is_source_name, is_image_name}
+use Rattle.mos_text.specs.FileName.{is_image_name}
 use Rattle.mos_words.specs.declared.words.commands.Command.TheVariants.{Run as RunCommand}
 use Rattle.mosel_run.specs.Making.{listed}
 
-pub can_open : (name source : List ℕ) (lanes budget : ℕ) → IsFit (RunCommand name lanes budget) → CanOpen (opening_with lanes budget (listed name source ∷ []))
+pub can_open : (name source : List ℕ) (lanes budget : ℕ) → IsFit (RunCommand name lanes budget) → CanOpen (opening_with lanes budget [] (listed name source ∷ []))
 can_open name source lanes budget fit = record {
   some_lane = fit.2;
   few_lanes = fit.3;

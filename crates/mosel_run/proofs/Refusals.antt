@@ -16,7 +16,7 @@ use Rattle.mosel_run.specs.declared.reader.fault.ReadFault.TheVariants.{At, NoMe
 use Rattle.mosel_run.specs.Accepted.{IsOnlyRefusal, IsSound, IsWrongAt, not_built, found, IsAccepted, IsRefusedAt, unparsed, wrong}
 use Rattle.mosel_run.specs.ReadAnswers.{IsRefusal, IsJudged, GivesTree, GivesRefusal, of_syntax}
 
-abbrev Same : ℕ → Kind → ℕ → Kind → Type 0
+abbrev pub Same : ℕ → Kind → ℕ → Kind → Type 0
 Same line kind at what = (line ≡ at) × (kind ≡ what)
 
 some-one : (line at : ℕ) (kind what : Kind) (x : Option (ℕ × Kind)) → x ≡ Some (line, kind) → x ≡ Some (at, what) → Same line kind at what
@@ -36,14 +36,14 @@ wrong-knows : (line : ℕ) (kind : Kind) (names : Names) (x : Found) → x ≡ W
 wrong-knows line kind names x e f = cc
 
 -- a tree is wrong in one way
-one-wrong : (tree : Tree) (line at : ℕ) (kind what : Kind) → IsWrongAt tree line kind → IsWrongAt tree at what → Same line kind at what
+pub one-wrong : (tree : Tree) (line at : ℕ) (kind what : Kind) → IsWrongAt tree line kind → IsWrongAt tree at what → Same line kind at what
 one-wrong _ _ _ _ _ (not_built tree line kind e) (not_built _ at what f) = some-one line at kind what (unbuilt_of tree) e f
 one-wrong _ _ _ _ _ (not_built tree line kind e) (found _ at what none f) = absurd (some-none (unbuilt_of tree) (line, kind) e none)
 one-wrong _ _ _ _ _ (found tree line kind none e) (not_built _ at what f) = absurd (some-none (unbuilt_of tree) (at, what) f none)
 one-wrong _ _ _ _ _ (found tree line kind none e) (found _ at what also f) = wrong-one line at kind what (check_of tree) e f
 
 -- a sound tree is not wrong
-not-wrong : (tree : Tree) (line : ℕ) (kind : Kind) → IsWrongAt tree line kind → IsSound tree → ⊥
+pub not-wrong : (tree : Tree) (line : ℕ) (kind : Kind) → IsWrongAt tree line kind → IsSound tree → ⊥
 not-wrong _ _ _ (not_built tree line kind e) h = some-none (unbuilt_of tree) (line, kind) e h.built
 not-wrong _ _ _ (found tree line kind none e) h = wrong-knows line kind h.checked.names (check_of tree) e h.checked.known
 
@@ -54,7 +54,7 @@ pub record HasOnly (source : List ℕ) (tree : Tree) : Type 0 where
   pub only_fault : (line : ℕ) (kind : Kind) → IsSyntaxFault source line kind → ⊥
 
 -- what is refused is wrong with the tree
-wrong-there : (source : List ℕ) (tree : Tree) (line : ℕ) (kind : Kind) → HasOnly source tree → IsRefusedAt source line kind → IsWrongAt tree line kind
+pub wrong-there : (source : List ℕ) (tree : Tree) (line : ℕ) (kind : Kind) → HasOnly source tree → IsRefusedAt source line kind → IsWrongAt tree line kind
 wrong-there _ tree _ _ has (unparsed source line kind h) = absurd (has.only_fault line kind h)
 wrong-there _ tree _ _ has (wrong source line kind other h w) = subst (λ (t : Tree). IsWrongAt t line kind) (sym (has.only other h)) w
 

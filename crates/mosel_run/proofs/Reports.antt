@@ -1,10 +1,11 @@
 -- The report of a job over one source.
 
-use Rattle.std.proofs.Common.{◌≡◌, ◌≢◌, ℕ, zero, suc, true, List, [], ◌∷◌, Option, Some, refl, sym, ap, ◌∙◌, subst, ◌-◌, ◌+◌}
+use Rattle.std.proofs.Common.{◌≡◌, ℕ, zero, suc, true, List, [], ◌∷◌, Option, Some, None, refl, sym, ap, ◌∙◌, subst, ◌-◌, ◌+◌, inl, inr, map}
 use Rattle.std.specs.Prelude.{slice_get}
 use Rattle.std.specs.List.{filter_map}
 use Rattle.mos_tree.specs.declared.source.Tree.{Tree}
 use Rattle.job_calls.specs.declared.end.End.{End}
+use Rattle.job_calls.specs.declared.end.End.TheVariants as end
 use Rattle.job_calls.specs.declared.entry.Entry.{Entry}
 use Rattle.job_calls.specs.declared.entry.Listed.{Listed}
 use Rattle.job_calls.specs.declared.reply.Reply.{Reply}
@@ -18,7 +19,7 @@ use Rattle.bim_code.specs.Rules.{KeepsRules}
 use Rattle.bim_compile.specs.Means.{Means}
 use Rattle.lane_step.specs.Alone.{opening_with}
 use Rattle.lane_step.specs.Schedule.{schedule_of, done_entries}
-use Rattle.lane_step.specs.Whole.{IsWhole}
+use Rattle.lane_step.specs.Whole.{IsWhole, HadMemory}
 use Rattle.run_state.specs.Stops.{Outcome, Course}
 use Rattle.bim_machine.specs.Courses.{course_of}
 use Rattle.mos_meaning.specs.Syntax.{Program}
@@ -26,11 +27,13 @@ use Rattle.mos_meaning.specs.Sources.{model_of}
 use Rattle.mos_meaning.specs.Follows.{Behaviour, behaviour_of, FollowsSources, Follows, RunFollows}
 use Rattle.mosel_run.specs.declared.answer.Answer.{Answer}
 use Rattle.mosel_run.specs.Accepted.{IsAccepted, IsOnlyTree}
-use Rattle.mosel_run.specs.Answered.{run_request}
-use Rattle.mosel_run.specs.Jobs.{Model, OneThread}
-use Rattle.mosel_run.specs.Making.{listed}
+use Rattle.mosel_run.specs.Jobs.{Model, accepted as accepted_file, OneThread, IsStatusOf, done, exited, failed, spent}
+use Rattle.mosel_run.specs.Making.{run_request, listed, IsStatusAtEnd}
 use Rattle.mosel_run.specs.Puts.{puts_of, put_of, image_name, last_puts}
-use Rattle.mosel_run.specs.Run.{IsReport, IsStatusOf}
+use Rattle.mosel_run.specs.Run.{IsReport, IsReported}
+use Rattle.mosel_run.specs.declared.answer.Deed.TheVariants.{Write, Store}
+use Rattle.mosel_run.specs.declared.answer.Put.{Put}
+use Rattle.mosel_run.specs.declared.status.Status.{Status}
 use Rattle.mos_text.specs.FileName.{is_source_name}
 
 -- an image that means its model does what the model does
@@ -88,25 +91,39 @@ no_puts files images o end = past 1 (o.lanes - 1)
     past lane (suc many) = past (lane + 1) many
 
 puts_are : (name source : List ℕ) (lanes budget : ℕ) (image : Image) (journal : List Entry) (end : End)
-    → journal ≡ schedule_of (opening_with lanes budget (listed name source ∷ [])) end
-    → puts_of (opening_with lanes budget (listed name source ∷ [])) journal (Some image ∷ [])
+    → journal ≡ schedule_of (opening_with lanes budget [] (listed name source ∷ [])) end
+    → puts_of (opening_with lanes budget [] (listed name source ∷ [])) journal (Some image ∷ [])
     ≡ record { name = image_name name; bytes = image_bytes image } ∷ []
 puts_are name source lanes budget image journal end is =
-    ap (λ (j : List Entry). puts_of (opening_with lanes budget (listed name source ∷ [])) j (Some image ∷ [])) is
+    ap (λ (j : List Entry). puts_of (opening_with lanes budget [] (listed name source ∷ [])) j (Some image ∷ [])) is
     ∙ ap (λ rest. record { name = image_name name; bytes = image_bytes image } ∷ last_puts rest)
-    (no_puts (listed name source ∷ []) (Some image ∷ []) (opening_with lanes budget (listed name source ∷ [])) end)
+    (no_puts (listed name source ∷ []) (Some image ∷ []) (opening_with lanes budget [] (listed name source ∷ [])) end)
+
+-- the status by the end of run 0
+by_end : (o : Opening) (journal : List Entry) (lines : List RunLine) (end : Option End) (status : Status) → HadMemory journal → IsWhole o journal
+    → finish_of 0 journal ≡ end → IsStatusAtEnd end status → IsStatusOf o journal lines status
+by_end o journal lines (Some (end.Code code)) status memory whole finish (inl h) =
+    subst (IsStatusOf o journal lines) (sym h.1) (done memory whole (finish ∙ ap (λ n. Some (end.Code n)) h.0))
+by_end o journal lines (Some (end.Code code)) status memory whole finish (inr h) =
+    subst (IsStatusOf o journal lines) (sym h.1) (exited code h.0 memory whole finish)
+by_end o journal lines (Some (end.Fault kind)) status memory whole finish h =
+    subst (IsStatusOf o journal lines) (sym h) (failed kind memory whole finish)
+by_end o journal lines (Some end.Spent) status memory whole finish h = subst (IsStatusOf o journal lines) (sym h) (spent memory whole finish)
+by_end o journal lines (Some end.Stopped) status memory whole finish h = absurd h
+by_end o journal lines (Some end.NoMemory) status memory whole finish h = absurd h
+by_end o journal lines None status memory whole finish h = absurd h
 
 pub is_report : (name source : List ℕ) (lanes budget : ℕ) (tree : Tree) (image : Image) (journal : List Entry) (lines : List RunLine) (end : End) (answer : Answer)
     → is_source_name name ≡ true → IsAccepted source tree → IsOnlyTree source tree → Means (model_of tree) image → KeepsRules image → FitsFields image
-    → journal ≡ schedule_of (opening_with lanes budget (listed name source ∷ [])) end
-    → IsWhole (opening_with lanes budget (listed name source ∷ [])) journal
+    → journal ≡ schedule_of (opening_with lanes budget [] (listed name source ∷ [])) end
+    → IsWhole (opening_with lanes budget [] (listed name source ∷ [])) journal
     → FollowsSources journal lines (Some (course_of image) ∷ [])
     → finish_of 0 journal ≡ Some end
-    → answer.text ≡ report_text journal lines
-    → answer.puts ≡ record { name = image_name name; bytes = image_bytes image } ∷ []
-    → IsStatusOf (Some end) answer.status
+    → HadMemory journal
+    → answer.deeds ≡ Write (report_text journal lines) ∷ Store (record { name = image_name name; bytes = image_bytes image }) ∷ []
+    → IsStatusAtEnd (Some end) answer.status → IsReported answer.status
     → IsReport OneThread (run_request name lanes budget) (source ∷ []) answer
-is_report name source lanes budget tree image journal lines end answer named accepted only means rules fields is whole follows finish text puts status =
+is_report name source lanes budget tree image journal lines end answer named accepted only means rules fields is whole follows finish memory deeds status reported =
     let model : Model = record { tree = tree; image = image } in
     record {
       files = listed name source ∷ [];
@@ -117,12 +134,11 @@ is_report name source lanes budget tree image journal lines end answer named acc
       judged = (
         refl,
         refl,
-        record { named = named; code = refl; model_is = record { accepted = accepted; only = only; means = means; rules = rules; fields = fields } },
+        accepted_file model named refl (record { accepted = accepted; only = only; means = means; rules = rules; fields = fields }),
         tt,
       );
       master_is = refl;
-      job = record { whole = whole; written = (end, is); follows = follows_source journal lines tree image means follows };
-      text = text;
-      puts = puts ∙ sym (puts_are name source lanes budget image journal end is);
-      status = subst (λ (e : Option End). IsStatusOf e answer.status) (sym finish) status;
+      job = record { ended = by_end (opening_with lanes budget [] (listed name source ∷ [])) journal lines (Some end) answer.status memory whole finish status; written = (end, is); follows = follows_source journal lines tree image means follows };
+      deeds = deeds ∙ ap (λ (puts : List Put). Write (report_text journal lines) ∷ map Store puts) (sym (puts_are name source lanes budget image journal end is));
+      so_far = reported;
     }

@@ -3,9 +3,7 @@
 
 use Rattle.std.specs.Prelude.{◌≡◌, ℕ, List, [], ◌∷◌, Option, Some, None}
 use Rattle.mos_text.specs.Limits.{source_limit}
-use Rattle.job_calls.specs.declared.entry.Entry.{Entry}
 use Rattle.hub_text.specs.ErrorLines.{usage_line}
-use Rattle.job_calls.specs.Runs.{Opening}
 use Rattle.mos_words.specs.CommandLine.{command_of}
 use Rattle.mos_words.specs.declared.words.commands.Command.{Command}
 use Rattle.mos_words.specs.declared.words.commands.Command.TheVariants.{Run}
@@ -14,28 +12,26 @@ use Rattle.mosel_run.specs.declared.status.Status.{Status}
 use Rattle.mosel_run.specs.declared.status.Status.TheVariants.{Usage, NoMemory}
 use Rattle.mosel_run.specs.Answers.{line_answer}
 use Rattle.mosel_run.specs.Delivered.{Delivered}
+use Rattle.mosel_run.specs.Jobs.{Journals}
 use Rattle.mosel_run.specs.Run.{Request, IsRunAnswer}
 use Rattle.mosel_run.specs.States.{FolderState, Devices}
 
--- what `run` of this source asks for
-abbrev pub run_request : List ℕ → ℕ → ℕ → Request
-run_request name lanes budget = record { wanted = record { name = name; limit = source_limit } ∷ []; lanes = lanes; budget = budget; params = [] }
-
 -- what a command asks for
 abbrev pub request_of : Command → Request
-request_of (Run name lanes budget) = run_request name lanes budget
+request_of (Run name lanes budget) =
+    record { ahead = []; listed = record { name = name; limit = source_limit } ∷ []; behind = []; lanes = lanes; budget = budget; params = [] }
 
 -- the answer by the command: words that are none have the usage line
-abbrev pub IsCommandAnswer : (Opening → List Entry → Type 0) → Option Command → FolderState → FolderState → Answer → Type 0
+abbrev pub IsCommandAnswer : Journals → Option Command → FolderState → FolderState → Answer → Type 0
 IsCommandAnswer journals None before after answer = answer ≡ line_answer usage_line Usage
-IsCommandAnswer journals (Some (Run name lanes budget)) before after answer = IsRunAnswer journals (run_request name lanes budget) before after answer
+IsCommandAnswer journals (Some (Run name lanes budget)) before after answer = IsRunAnswer journals (request_of (Run name lanes budget)) before after answer
 
 -- the answer by the words
-abbrev pub IsAnswer : (Opening → List Entry → Type 0) → List (List ℕ) → FolderState → FolderState → Answer → Type 0
+abbrev pub IsAnswer : Journals → List (List ℕ) → FolderState → FolderState → Answer → Type 0
 IsAnswer journals words before after answer = IsCommandAnswer journals (command_of words) before after answer
 
 -- the status says how far the answer was delivered, or that memory was wanting before
-pub data Answered (journals : Opening → List Entry → Type 0) (words : List (List ℕ)) (before after : Devices) : Status → Type 0 where
+pub data Answered (journals : Journals) (words : List (List ℕ)) (before after : Devices) : Status → Type 0 where
   -- the answer was delivered, as far as the status says
   delivered : (status : Status) (answer : Answer) → IsAnswer journals words before.folder after.folder answer
       → Delivered answer before after status → Answered journals words before after status

@@ -1,49 +1,41 @@
--- What the devices did with an answer: the same for all commands. The text comes first, and the files
--- are put when all of it is written.
+-- What the devices did with an answer, the same for all commands: its deeds in order, up to one that was not
+-- done.
 
-use Rattle.std.specs.Prelude.{◌≡◌, ℕ, List, ◌∷◌, ◌++◌, Option}
-use Rattle.mos_text.specs.Content.{Files, lose_file, SameElsewhere}
+use Rattle.std.specs.Prelude.{◌≡◌, ℕ, List, ◌∷◌, ◌++◌}
+use Rattle.mos_text.specs.Content.{lose_file, SameElsewhere}
 use Rattle.mos_text.specs.Faults.{Rose}
-use Rattle.mos_text.specs.SinkBytes.{appended, AppendedPart}
+use Rattle.mos_text.specs.SinkBytes.{AppendedPart}
 use Rattle.mosel_run.specs.declared.answer.Answer.{Answer}
+use Rattle.mosel_run.specs.declared.answer.Deed.{Deed}
+use Rattle.mosel_run.specs.declared.answer.Deed.TheVariants.{Write, Store}
 use Rattle.mosel_run.specs.declared.answer.Put.{Put}
 use Rattle.mosel_run.specs.declared.status.Status.{Status}
 use Rattle.mosel_run.specs.declared.status.Status.TheVariants.{FolderFault, SinkFault, NoMemory}
-use Rattle.mosel_run.specs.Puts.{put_all}
-use Rattle.mosel_run.specs.States.{Devices}
+use Rattle.mosel_run.specs.States.{Devices, Held, held_of, held_after}
 
--- this name could not be put; those before it were, and none behind it: the folder is as `left` says, by
--- what it held before this name
-pub record PutsUpTo (name : List ℕ) (before : Option Files) (puts : List Put) (left : Option Files → Type 0) : Type 0 where
-  pub first : List Put
-  pub failed : Put
-  pub rest : List Put
-  pub puts_are : puts ≡ first ++ failed ∷ rest
-  pub name_is : failed.name ≡ name
-  pub left_so : left (put_all before first)
+-- a first part of a text was written, and no file was touched
+pub record WrotePart (text : List ℕ) (held left : Held) : Type 0 where
+  pub part : AppendedPart held.bytes left.bytes text
+  pub same_files : left.content ≡ held.content
 
--- all of the text was written
-abbrev pub WroteAll : Answer → Devices → Devices → Type 0
-WroteAll answer before after = after.sink.bytes ≡ appended before.sink.bytes answer.text
-
--- a first part of the text was written, and nothing was put
-pub record WrotePart (answer : Answer) (before after : Devices) : Type 0 where
-  pub part : AppendedPart before.sink.bytes after.sink.bytes answer.text
-  pub nothing_put : after.folder.content ≡ before.folder.content
+-- what is left of a deed that was not done, by the status, where the devices held this much before it
+pub data Broke (before after : Devices) (held : Held) : Deed → Status → Type 0 where
+  -- the sink failed, and its count rose
+  unwritten : (text : List ℕ) → WrotePart text held (held_of after) → Rose before.sink.faults after.sink.faults
+      → Broke before after held (Write text) SinkFault
+  -- the folder failed at this name, and its count rose: the bytes of the name are unknown now
+  unput : (put : Put) → after.folder.content ≡ lose_file held.content put.name → after.sink.bytes ≡ held.bytes
+      → Rose before.folder.faults after.folder.faults → Broke before after held (Store put) (FolderFault put.name)
+  -- memory was wanting to write, or to put: of the one name that was to be put then nothing is claimed
+  no_memory_to_write : (text : List ℕ) → WrotePart text held (held_of after) → Broke before after held (Write text) NoMemory
+  no_memory_to_put : (put : Put) → SameElsewhere put.name held.content after.folder.content → after.sink.bytes ≡ held.bytes
+      → Broke before after held (Store put) NoMemory
 
 -- what the devices have taken of an answer, by the status
 pub data Delivered (answer : Answer) (before after : Devices) : Status → Type 0 where
-  -- all was written and put
-  whole : (status : Status) → status ≡ answer.status → WroteAll answer before after → after.folder.content ≡ put_all before.folder.content answer.puts
+  -- all deeds were done
+  whole : (status : Status) → status ≡ answer.status → held_of after ≡ held_after (held_of before) answer.deeds
       → Delivered answer before after status
-  -- the sink failed, and its count rose
-  unwritten : WrotePart answer before after → Rose before.sink.faults after.sink.faults → Delivered answer before after SinkFault
-  -- the folder failed at this name, and its count rose: the bytes of the name are unknown now
-  unput : (name : List ℕ) → WroteAll answer before after
-      → PutsUpTo name before.folder.content answer.puts (λ held. after.folder.content ≡ lose_file held name) → Rose before.folder.faults after.folder.faults
-      → Delivered answer before after (FolderFault name)
-  -- memory was wanting to write, or to put: of the one name that was to be put then nothing is claimed
-  no_memory_to_write : WrotePart answer before after → Delivered answer before after NoMemory
-  no_memory_to_put : (name : List ℕ) → WroteAll answer before after
-      → PutsUpTo name before.folder.content answer.puts (λ held. SameElsewhere name held after.folder.content)
-      → Delivered answer before after NoMemory
+  -- one was not; those before it were done, and none behind it
+  broken : (status : Status) (first rest : List Deed) (deed : Deed) → answer.deeds ≡ first ++ deed ∷ rest
+      → Broke before after (held_after (held_of before) first) deed status → Delivered answer before after status

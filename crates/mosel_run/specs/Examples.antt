@@ -22,7 +22,7 @@ use Rattle.mosel_run.specs.Puts.{puts_of}
 
 -- the job of hello on one lane
 abbrev pub hello_opening : Opening
-hello_opening = opening_with 1 10000000 (hello_file ∷ [])
+hello_opening = opening_with 1 10000000 [] (hello_file ∷ [])
 
 -- its journal is that of the one-thread schedule
 abbrev pub HelloSchedule : Type 0

@@ -1,6 +1,6 @@
 -- Laws of jobs, of what they put, and of sources.
 
-use Rattle.std.specs.Prelude.{◌≡◌, ℕ, ◌<◌, false, List, Option, Some, None, length, slice_get, ◌⊎◌}
+use Rattle.std.specs.Prelude.{◌≡◌, ℕ, ◌<◌, false, List, Option, Some, None, length, map, slice_get, ◌⊎◌}
 use Rattle.mos_text.specs.Content.{Files, Holds, known_of}
 use Rattle.mos_text.specs.declared.kind.Kind.{Kind}
 use Rattle.mos_tree.specs.declared.source.Tree.{Tree}
@@ -14,8 +14,10 @@ use Rattle.mos_parse.specs.Parsed.{IsParsed, IsSyntaxFault}
 use Rattle.job_laws.specs.Lanes.{EndsDone}
 use Rattle.lane_step.specs.Whole.{IsWhole}
 use Rattle.mosel_run.specs.declared.answer.Put.{Put}
-use Rattle.mosel_run.specs.Accepted.{IsAccepted, IsRefusedAt}
-use Rattle.mosel_run.specs.Puts.{bytes_under, last_puts, put_all}
+use Rattle.mosel_run.specs.Accepted.{IsAccepted, IsRefusedAt, IsOnlyTree, IsOnlyRefusal}
+use Rattle.mosel_run.specs.declared.answer.Deed.TheVariants.{Store}
+use Rattle.mosel_run.specs.Puts.{bytes_under, last_puts}
+use Rattle.mosel_run.specs.States.{held_after}
 
 -- a whole job has the lanes, the budget and the files that its `Open` says, and no others
 abbrev pub OneOpening : Type 0
@@ -50,6 +52,10 @@ EachLineNamesItsSource = (journal : List Entry) (lines : List RunLine) (behaviou
     → FollowsSources journal lines behaviours → slice_get lines run ≡ Some line → opening journal ≡ Some o → source_of run journal ≡ Some source
     → slice_get o.files source ≡ Some file → line.source ≡ file.name
 
+-- the folder's content after these puts, one after the other
+abbrev pub put_all : Option Files → List Put → Option Files
+put_all content puts = (held_after (record { content = content; bytes = None }) (map Store puts)).content
+
 -- a name that is given bytes has the last of them when all is put
 abbrev pub LastPutStays : Type 0
 LastPutStays = (files : Files) (puts : List Put) (name bytes : List ℕ) → last_given (bytes_under name) puts ≡ Some bytes
@@ -76,3 +82,18 @@ IsJudgedSource source =
 -- a source that has a tree or a fault is accepted, or refused at a line
 abbrev pub SourcesAreJudged : Type 0
 SourcesAreJudged = (source : List ℕ) → HasATree source ⊎ HasAFault source → IsJudgedSource source
+
+-- there is no source that is neither accepted nor refused
+abbrev pub NoSourceIsNeither : Type 0
+NoSourceIsNeither = (source : List ℕ) → ((tree : Tree) → IsAccepted source tree → ⊥)
+    → ((line : ℕ) (kind : Kind) → IsRefusedAt source line kind → ⊥) → ⊥
+
+-- a source that is accepted has one tree, and is refused nowhere
+abbrev pub AcceptedHaveOneTree : Type 0
+AcceptedHaveOneTree = (source : List ℕ) (tree : Tree) → IsAccepted source tree
+    → IsOnlyTree source tree
+
+-- a source that is refused is so at one line and for one reason, and has no tree that is accepted
+abbrev pub RefusedHaveOneFault : Type 0
+RefusedHaveOneFault = (source : List ℕ) (line : ℕ) (kind : Kind) → IsRefusedAt source line kind
+    → IsOnlyRefusal source line kind

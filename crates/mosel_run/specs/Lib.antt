@@ -11,7 +11,7 @@ pub mod Accepted
 pub mod Puts
 pub mod ReadAnswers
 pub mod Reading
-pub mod Putting
+pub mod Doing
 pub mod Making
 pub mod Examples
 pub mod Laws

@@ -1,8 +1,15 @@
 -- As the code goes about it: a job over one source.
 
-use Rattle.std.specs.Prelude.{◌≡◌, ◌≤◌, ℕ, List, [], ◌∷◌, length}
+use Rattle.std.specs.Prelude.{◌≡◌, ◌≢◌, ◌≤◌, ℕ, List, [], ◌∷◌, Option, Some, None, pos, length, ◌⊎◌}
 use Rattle.mos_text.specs.Limits.{source_limit}
+use Rattle.job_calls.specs.declared.end.End.{End}
+use Rattle.job_calls.specs.declared.end.End.TheVariants as end
 use Rattle.job_calls.specs.declared.entry.Listed.{Listed}
+use Rattle.mos_words.specs.declared.words.commands.Command.TheVariants.{Run}
+use Rattle.mosel_run.specs.declared.status.Status.{Status}
+use Rattle.mosel_run.specs.declared.status.Status.TheVariants.{Done, MasterFailed, MasterSpent}
+use Rattle.mosel_run.specs.Answered.{request_of}
+use Rattle.mosel_run.specs.Run.{Request}
 
 -- an accepted source as a listed file
 abbrev pub listed : List ℕ → List ℕ → Listed
@@ -12,3 +19,16 @@ listed name source = record { name = name; bytes = source; code = 0 }
 abbrev pub IsOneSource : List (List ℕ) → Type 0
 IsOneSource [] = ⊥
 IsOneSource (source ∷ others) = (length source ≤ source_limit) × (others ≡ [])
+
+-- what `run` of this source asks for
+abbrev pub run_request : List ℕ → ℕ → ℕ → Request
+run_request name lanes budget = request_of (Run name lanes budget)
+
+-- the status of a job whose run 0 ended so
+abbrev pub IsStatusAtEnd : Option End → Status → Type 0
+IsStatusAtEnd (Some (end.Code code)) status = ((code ≡ pos 0) × (status ≡ Done)) ⊎ ((code ≢ pos 0) × (status ≡ MasterFailed))
+IsStatusAtEnd (Some (end.Fault kind)) status = status ≡ MasterFailed
+IsStatusAtEnd (Some end.Spent) status = status ≡ MasterSpent
+IsStatusAtEnd (Some end.Stopped) status = ⊥
+IsStatusAtEnd (Some end.NoMemory) status = ⊥
+IsStatusAtEnd None status = ⊥

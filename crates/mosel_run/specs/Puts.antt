@@ -1,10 +1,9 @@
 -- The files that a journal puts, in order: the master's image first, then each name in order of the
 -- first entry that makes it, with what the last such entry gives it.
 
-use Rattle.std.specs.Prelude.{ℕ, ◌-◌, ◌++◌, List, [], ◌∷◌, Option, Some, None, nat_eq, length, take, codes, map, unwrap_or, if◌then◌else◌, slice_get}
+use Rattle.std.specs.Prelude.{ℕ, ◌-◌, ◌++◌, List, [], ◌∷◌, Option, Some, None, nat_eq, length, take, codes, map, unwrap_or, if◌then◌else◌}
 use Rattle.std.specs.List.{list_any, filter_map, starts_with}
 use Rattle.std.specs.Str.{bytes_eq}
-use Rattle.mos_text.specs.Content.{Files, put_file}
 use Rattle.job_calls.specs.declared.call.Call.{Call}
 use Rattle.job_calls.specs.declared.call.Call.TheVariants.{Compile, Write}
 use Rattle.job_calls.specs.declared.reply.Reply.{Reply}
@@ -21,9 +20,8 @@ abbrev pub image_name : List ℕ → List ℕ
 image_name source = take (length source - 4) source ++ codes ".bim"
 
 -- the bytes of an image; a file that has none gives none
-abbrev pub bytes_of_image : Option (Option Image) → List ℕ
-bytes_of_image (Some (Some image)) = image_bytes image
-bytes_of_image (Some None) = []
+abbrev pub bytes_of_image : Option Image → List ℕ
+bytes_of_image (Some image) = image_bytes image
 bytes_of_image None = []
 
 -- the images by the names of their files
@@ -31,7 +29,7 @@ abbrev pub bytes_of_source : List Listed → List (Option Image) → List ℕ �
 bytes_of_source [] images name = []
 bytes_of_source (file ∷ files) [] name = []
 bytes_of_source (file ∷ files) (image ∷ images) name =
-    if bytes_eq file.name name then bytes_of_image (Some image) else bytes_of_source files images name
+    if bytes_eq file.name name then bytes_of_image image else bytes_of_source files images name
 
 -- a block of memory is no file
 abbrev pub plain_write : List ℕ → List ℕ → Option Put
@@ -67,15 +65,10 @@ last_puts puts = map (λ name. record { name = name; bytes = bytes_of puts name 
 
 -- the image of the first file, under its own name
 abbrev pub master_put : List Listed → List (Option Image) → List Put
-master_put [] images = []
-master_put (file ∷ files) images = record { name = image_name file.name; bytes = bytes_of_image (slice_get images 0) } ∷ []
+master_put (file ∷ files) (image ∷ images) = record { name = image_name file.name; bytes = bytes_of_image image } ∷ []
+master_put _ _ = []  -- there is a file, and each has its place among the images
 
 -- what a journal puts, where the listed files have these images
 abbrev pub puts_of : Opening → List Entry → List (Option Image) → List Put
 puts_of o journal images =
     master_put o.files images ++ last_puts (filter_map (λ e. put_of o.files images e.call e.reply) journal)
-
--- the folder's content after these puts, one after the other
-abbrev pub put_all : Option Files → List Put → Option Files
-put_all content [] = content
-put_all content (put ∷ puts) = put_all (put_file content put.name put.bytes) puts

@@ -1,7 +1,11 @@
 -- What is known of the devices, before a call and after it.
 
 use Rattle.std.specs.Prelude.{ℕ, List, Option}
-use Rattle.mos_text.specs.Content.{Files}
+use Rattle.std.specs.List.{fold}
+use Rattle.mos_text.specs.Content.{Files, put_file}
+use Rattle.mos_text.specs.SinkBytes.{appended}
+use Rattle.mosel_run.specs.declared.answer.Deed.{Deed}
+use Rattle.mosel_run.specs.declared.answer.Deed.TheVariants.{Write, Store}
 
 -- what is known of a folder, and its count of faults
 pub record FolderState : Type 0 where
@@ -22,10 +26,24 @@ pub record Devices : Type 0 where
 abbrev pub folder_state : Option Files → ℕ → FolderState
 folder_state content faults = record { content = content; faults = faults }
 
--- the state of a sink
-abbrev pub sink_state : Option (List ℕ) → ℕ → SinkState
-sink_state bytes faults = record { bytes = bytes; faults = faults }
-
 -- a folder's content and count, then a sink's bytes and count
 abbrev pub states : Option Files → ℕ → Option (List ℕ) → ℕ → Devices
-states content folder_faults bytes sink_faults = record { folder = folder_state content folder_faults; sink = sink_state bytes sink_faults }
+states content folder_faults bytes sink_faults = record { folder = folder_state content folder_faults; sink = record { bytes = bytes; faults = sink_faults } }
+
+-- what the devices hold
+pub record Held : Type 0 where
+  pub content : Option Files
+  pub bytes : Option (List ℕ)
+
+-- of these devices
+abbrev pub held_of : Devices → Held
+held_of d = record { content = d.folder.content; bytes = d.sink.bytes }
+
+-- when one deed more is done
+abbrev pub held_by : Held → Deed → Held
+held_by held (Write text) = record { content = held.content; bytes = appended held.bytes text }
+held_by held (Store put) = record { content = put_file held.content put.name put.bytes; bytes = held.bytes }
+
+-- when these are done, one after the other
+abbrev pub held_after : Held → List Deed → Held
+held_after held deeds = fold held_by held deeds

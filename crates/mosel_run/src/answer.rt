@@ -19,30 +19,37 @@ pub struct Put {
     pub bytes: Blob,
 }
 
-/// A text to be written, then files to be put in order; and the status, where all of it is done.
+/// One thing to be done with the devices.
+#[derive(Debug, Drop)]
+pub enum Deed {
+    /// This text is written to the sink.
+    Write(Blob),
+    /// This file is put into the folder.
+    Store(Put),
+}
+
+/// What is to be done, in order; and the status, where all of it is done.
 #[derive(Debug, Drop)]
 pub struct Answer {
-    pub text: Blob,
-    pub puts: Items<Put>,
+    pub deeds: Items<Deed>,
     pub status: Status,
 }
 
 /// One line, and nothing to put.
-fn line_answer(alloc: Global, text: Blob, status: Status) -> Answer
-    ensures { result ≡ line_answer text status }
+fn line_answer(alloc: Global, text: Blob, status: Status) -> Result<Answer, NoMemory>
+    ensures { IfOk result (λ answer. answer ≡ line_answer text status) }
 {
-    Answer {
-        text,
-        puts: Items::new(alloc),
-        status,
-    }
+    let mut deeds = Items::new(alloc);
+    deeds.push(Deed::Write(text))?;
+    Ok(Answer { deeds, status })
 }
 
 /// The answer to words that are no command.
 pub(crate) fn usage(alloc: Global) -> Result<Answer, NoMemory>
     ensures { IfOk result (λ answer. answer ≡ line_answer usage_line Usage) }
 {
-    Ok(line_answer(alloc, write_usage(alloc)?, Status::Usage))
+    let text = write_usage(alloc)?;
+    line_answer(alloc, text, Status::Usage)
 }
 
 /// The answer to a source that is refused.
@@ -51,7 +58,7 @@ pub(crate) fn refusal(alloc: Global, name: &Text, line: u32, kind: Kind) -> Resu
         answer ≡ line_answer (verdict_line name.now line kind) (Refused line kind)) }
 {
     let text = write_verdict(alloc, name, line, &kind)?;
-    Ok(line_answer(alloc, text, Status::Refused { line, kind }))
+    line_answer(alloc, text, Status::Refused { line, kind })
 }
 
 /// The answer to a file that the folder did not give.
@@ -61,15 +68,15 @@ pub(crate) fn unread(alloc: Global, name: Text, lack: Lack) -> Result<Answer, No
     match lack {
         Lack::Missing => {
             let text = write_missing(alloc, &name)?;
-            Ok(line_answer(alloc, text, Status::Missing { name }))
+            line_answer(alloc, text, Status::Missing { name })
         }
         Lack::TooLarge => {
             let text = write_too_large(alloc, &name)?;
-            Ok(line_answer(alloc, text, Status::TooLarge { name }))
+            line_answer(alloc, text, Status::TooLarge { name })
         }
         Lack::Failed => {
             let text = write_read_fault(alloc, &name)?;
-            Ok(line_answer(alloc, text, Status::FolderFault { name }))
+            line_answer(alloc, text, Status::FolderFault { name })
         }
     }
 }

@@ -1,25 +1,30 @@
-//! Hands an answer to the devices: the text to the sink, then the files to the folder.
+//! Hands an answer to the devices: its deeds in order, up to the first that is not done.
 ghost use Rattle.std.specs.Prelude.{◌≡◌, ◌≤◌};
 ghost use Rattle.mosel_run.specs.Delivered.{Delivered};
-ghost use Rattle.mosel_run.specs.Putting.{IsPutting, PutsSo};
-ghost use Rattle.mosel_run.specs.States.{folder_state, states};
+ghost use Rattle.mosel_run.specs.Doing.{IsDone, IsDoing, IsWritten, IsStored, CanBreak, IsStatusBy};
+ghost use Rattle.mosel_run.specs.States.{states};
 
-use crate::answer::{Answer, Put};
+use crate::answer::{Answer, Deed};
 use crate::status::Status;
 use mos_text::{Folder, Sink, Stored, Written, write_whole};
-use sqlite_items::Items;
 use std::alloc::Global;
 
-/// How files were put: all of them, or up to the one at this place.
+/// Why a deed was not done.
 #[derive(Clone, Copy, Debug)]
-pub(crate) enum Putting {
-    All,
-    Failed(usize),
-    NoMemory(usize),
+pub(crate) enum Cause {
+    SinkFault,
+    FolderFault,
+    NoMemory,
 }
 
-/// Writes the text and, when all of it is written, puts the files; the status is that of the answer
-/// where all of it is done.
+/// How deeds were done: all of them, or those before this place.
+#[derive(Clone, Copy, Debug)]
+pub(crate) enum Doing {
+    All,
+    Broke(usize, Cause),
+}
+
+/// Does what is to be done; the status is that of the answer where all of it is done.
 pub(crate) fn deliver<F: Folder, K: Sink>(
     alloc: Global,
     answer: Answer,
@@ -33,47 +38,94 @@ pub(crate) fn deliver<F: Folder, K: Sink>(
     ensures folder_faults { F.faults folder.old ≤ F.faults folder.new }
     ensures sink_faults { K.faults sink.old ≤ K.faults sink.new }
 {
-    let Answer { text, puts, status } = answer;
-    match write_whole(sink, text.as_bytes()) {
-        Written::Whole => put_files(alloc, puts, status, folder),
-        Written::Failed => Status::SinkFault,
-        Written::NoMemory => Status::NoMemory,
+    let Answer { deeds, status } = answer;
+    let mut deeds = deeds;
+    match do_each(alloc, deeds.as_slice(), folder, sink) {
+        Doing::All => status,
+        Doing::Broke(place, cause) => status_by(deeds.remove(place), cause),
     }
 }
 
-/// Puts the files; the status is the one that is handed in where all are put.
-fn put_files<F: Folder>(alloc: Global, puts: Items<Put>, status: Status, folder: &mut F) -> Status
-    ensures put { PutsSo puts status
-        (folder_state (F.content folder.old) (F.faults folder.old))
-        (folder_state (F.content folder.new) (F.faults folder.new))
-        result }
-    ensures later { F.faults folder.old ≤ F.faults folder.new }
+/// The status where this deed was not done.
+fn status_by(deed: Deed, cause: Cause) -> Status
+    requires { CanBreak deed cause }
+    ensures { IsStatusBy deed cause result }
 {
-    let mut puts = puts;
-    match put_each(alloc, puts.as_slice(), folder) {
-        Putting::All => status,
-        Putting::Failed(place) => Status::FolderFault {
-            name: puts.remove(place).name,
-        },
-        Putting::NoMemory(_) => Status::NoMemory,
+    match cause {
+        Cause::SinkFault => Status::SinkFault,
+        Cause::FolderFault => fault_at(deed),
+        Cause::NoMemory => Status::NoMemory,
     }
 }
 
-/// Puts the files in order, up to the first that cannot be put.
-fn put_each<F: Folder>(alloc: Global, puts: &[Put], folder: &mut F) -> Putting
-    ensures put { IsPutting puts.now
-        (folder_state (F.content folder.old) (F.faults folder.old))
-        (folder_state (F.content folder.new) (F.faults folder.new))
+/// The status where the folder failed at this deed.
+fn fault_at(deed: Deed) -> Status
+    requires { CanBreak deed Cause.FolderFault }
+    ensures { IsStatusBy deed Cause.FolderFault result }
+{
+    match deed {
+        Deed::Store(put) => Status::FolderFault { name: put.name },
+        Deed::Write(_) => unreachable!(),
+    }
+}
+
+/// Does the deeds in order, up to the first that is not done.
+fn do_each<F: Folder, K: Sink>(alloc: Global, deeds: &[Deed], folder: &mut F, sink: &mut K) -> Doing
+    ensures deeds { IsDoing deeds.now
+        (states (F.content folder.old) (F.faults folder.old) (K.bytes sink.old) (K.faults sink.old))
+        (states (F.content folder.new) (F.faults folder.new) (K.bytes sink.new) (K.faults sink.new))
         result }
-    ensures later { F.faults folder.old ≤ F.faults folder.new }
+    ensures folder_faults { F.faults folder.old ≤ F.faults folder.new }
+    ensures sink_faults { K.faults sink.old ≤ K.faults sink.new }
 {
     let mut place = 0;
-    for put in puts {
-        match folder.put(alloc, &put.name, put.bytes.as_bytes()) {
-            Stored::Done => place += 1,
-            Stored::Failed => return Putting::Failed(place),
-            Stored::NoMemory => return Putting::NoMemory(place),
+    for deed in deeds {
+        match do_one(alloc, deed, folder, sink) {
+            None => place += 1,
+            Some(cause) => return Doing::Broke(place, cause),
         }
     }
-    Putting::All
+    Doing::All
+}
+
+/// Does one deed, or says why it is not done.
+fn do_one<F: Folder, K: Sink>(
+    alloc: Global,
+    deed: &Deed,
+    folder: &mut F,
+    sink: &mut K,
+) -> Option<Cause>
+    ensures deed { IsDone deed.now
+        (states (F.content folder.old) (F.faults folder.old) (K.bytes sink.old) (K.faults sink.old))
+        (states (F.content folder.new) (F.faults folder.new) (K.bytes sink.new) (K.faults sink.new))
+        result }
+    ensures folder_faults { F.faults folder.old ≤ F.faults folder.new }
+    ensures sink_faults { K.faults sink.old ≤ K.faults sink.new }
+{
+    match deed {
+        Deed::Write(text) => cause_of_write(write_whole(sink, text.as_bytes())),
+        Deed::Store(put) => cause_of_put(folder.put(alloc, &put.name, put.bytes.as_bytes())),
+    }
+}
+
+/// Why a text was not written.
+fn cause_of_write(written: Written) -> Option<Cause>
+    ensures { IsWritten written result }
+{
+    match written {
+        Written::Whole => None,
+        Written::Failed => Some(Cause::SinkFault),
+        Written::NoMemory => Some(Cause::NoMemory),
+    }
+}
+
+/// Why a file was not put.
+fn cause_of_put(stored: Stored) -> Option<Cause>
+    ensures { IsStored stored result }
+{
+    match stored {
+        Stored::Done => None,
+        Stored::Failed => Some(Cause::FolderFault),
+        Stored::NoMemory => Some(Cause::NoMemory),
+    }
 }

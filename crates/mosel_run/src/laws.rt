@@ -1,5 +1,9 @@
 //! Laws of the definitions: functions that do nothing, whose contracts they are.
-ghost use Rattle.mosel_run.specs.Laws.{OneOpening, NobodyQuit, EveryRunEnded, EveryLaneDone, LineForEachRun, EachRunHasASource, EachLineNamesItsSource, LastPutStays, OthersStay, SourcesAreJudged};
+ghost use Rattle.mosel_run.specs.Laws.{OneOpening, NobodyQuit, EveryRunEnded, EveryLaneDone, LineForEachRun, EachRunHasASource, EachLineNamesItsSource, LastPutStays, OthersStay};
+ghost use Rattle.mosel_run.specs.Laws.{SourcesAreJudged, NoSourceIsNeither};
+ghost use Rattle.mosel_run.specs.Laws.{AcceptedHaveOneTree, RefusedHaveOneFault};
+
+use mos_parse::sources_are_parsed_one_way;
 
 /// What a whole job, and one that follows its sources, has and cannot lack.
 pub fn whole_jobs()
@@ -18,7 +22,13 @@ pub fn last_puts_stay()
     ensures others { OthersStay }
 {}
 
-/// A source that has a tree or a fault of tokens or grammar is accepted or refused.
+/// Every source is accepted or refused, never both, never neither: with one tree, or at one line
+/// and for one reason. Which of the two it is follows from its tree or its fault.
 pub fn sources_are_judged()
-    ensures { SourcesAreJudged }
-{}
+    ensures judged { SourcesAreJudged }
+    ensures never_neither { NoSourceIsNeither }
+    ensures accepted { AcceptedHaveOneTree }
+    ensures refused { RefusedHaveOneFault }
+{
+    sources_are_parsed_one_way();
+}

@@ -14,7 +14,7 @@ mod status;
 mod top;
 mod wanted;
 
-pub use answer::{Answer, Put};
+pub use answer::{Answer, Deed, Put};
 pub use examples::{hello_job, hello_model, several_puts};
 pub use laws::{last_puts_stay, sources_are_judged, whole_jobs};
 pub use mos_check::not_built;

@@ -9,15 +9,15 @@ ghost use Rattle.mos_text.specs.Limits.{source_limit};
 ghost use Rattle.mos_words.specs.declared.words.commands.Command.TheVariants.{Run as RunCommand};
 ghost use Rattle.lane_step.specs.Alone.{IsOwnEnd};
 ghost use Rattle.mosel_run.specs.Accepted.{IsAccepted, IsOnlyTree};
-ghost use Rattle.mosel_run.specs.Answered.{run_request};
 ghost use Rattle.mosel_run.specs.Jobs.{OneThread};
-ghost use Rattle.mosel_run.specs.Making.{IsOneSource, listed};
+ghost use Rattle.mosel_run.specs.Making.{IsOneSource, IsStatusAtEnd, listed, run_request};
 ghost use Rattle.mosel_run.specs.Puts.{image_name};
-ghost use Rattle.mosel_run.specs.Run.{IsRunAnswer, IsAnswerTo, IsReport, IsStatusOf};
+ghost use Rattle.mosel_run.specs.Run.{IsRunAnswer, IsAnswerTo, IsReport, IsReported};
+ghost use Rattle.mosel_run.specs.declared.answer.Deed.TheVariants.{Write, Store};
 ghost use Rattle.mosel_run.specs.States.{folder_state};
 ghost use Rattle.mos_tree.specs.Sizes.{size_of_tree};
 
-use crate::answer::{Answer, Put, refusal, unread};
+use crate::answer::{Answer, Deed, Put, refusal, unread};
 use crate::image::{image_of, name_of_image};
 use crate::reader::{ReadFault, read_source};
 use crate::status::Status;
@@ -126,10 +126,17 @@ fn report(
 {
     let image = image_of(alloc, tree)?;
     let files = files(alloc, name, source)?;
-    let stepped = run_alone(alloc, files, &image, lanes, budget)?;
+    let stepped = run_alone(alloc, &image, lanes, budget, no_params(alloc), files)?;
     let put = put_of_image(alloc, name, image)?;
     let answer = answer_of(alloc, put, stepped)?;
     Ok(answer)
+}
+
+/// The empty parameter text.
+fn no_params(alloc: Global) -> Text
+    ensures { result ≡ [] }
+{
+    Text::from_string(String::new(alloc))
 }
 
 /// The source, as the job lists it.
@@ -162,25 +169,28 @@ fn put_of_image(alloc: Global, name: &Text, image: Image) -> Result<Put, NoMemor
 /// The answer with the report of a job that came to its end.
 fn answer_of(alloc: Global, put: Put, stepped: Stepped) -> Result<Answer, NoMemory>
     requires { IsOwnEnd stepped.end }
-    ensures text { IfOk result (λ answer. answer.text ≡ report_text stepped.journal stepped.lines) }
-    ensures puts { IfOk result (λ answer. answer.puts ≡ put ∷ []) }
-    ensures status { IfOk result (λ answer. IsStatusOf (Some stepped.end) answer.status) }
+    ensures deeds { IfOk result (λ answer.
+        answer.deeds ≡ Write (report_text stepped.journal stepped.lines) ∷ Store put ∷ []) }
+    ensures status { IfOk result (λ answer. IsStatusAtEnd (Some stepped.end) answer.status) }
+    ensures reported { IfOk result (λ answer. IsReported answer.status) }
 {
     let report = Report {
         runs: stepped.lines,
         entries: stepped.journal,
     };
     let text = write_report(alloc, &report)?;
-    let mut puts = Items::new(alloc);
-    puts.push(put)?;
+    let mut deeds = Items::new(alloc);
+    deeds.push(Deed::Write(text))?;
+    deeds.push(Deed::Store(put))?;
     let status = status_of(stepped.end);
-    Ok(Answer { text, puts, status })
+    Ok(Answer { deeds, status })
 }
 
 /// The status of a job whose run 0 ended so.
 fn status_of(end: End) -> Status
     requires { IsOwnEnd end }
-    ensures { IsStatusOf (Some end) result }
+    ensures by_end { IsStatusAtEnd (Some end) result }
+    ensures reported { IsReported result }
 {
     match end {
         End::Code(code) => {

@@ -1,9 +1,11 @@
 //! All that the program does.
 ghost use Rattle.std.specs.Prelude.{◌≡◌, ◌≤◌, IfOk};
 ghost use Rattle.mosel_run.specs.Answered.{Answered, IsAnswer};
-ghost use Rattle.mosel_run.specs.Exact.{ExactUsage, ExactMissing, ExactTooLarge, ExactRefused, ExactReport};
+ghost use Rattle.mosel_run.specs.Exact.{ExactUsage, ExactUnread, ExactRefused, ExactReport};
 ghost use Rattle.mosel_run.specs.Jobs.{AnyJournal, OneThread};
 ghost use Rattle.mosel_run.specs.States.{folder_state, states};
+ghost use Rattle.mos_text.specs.declared.folder.Got.TheVariants.{Missing as NotThere, TooLarge as TooLong};
+ghost use Rattle.mosel_run.specs.declared.status.Status.TheVariants.{Missing, TooLarge};
 
 use crate::answer::{Answer, usage};
 use crate::deliver::deliver;
@@ -38,8 +40,8 @@ pub fn tool<F: Folder, K: Sink>(
 
     // By the words and the files alone, where no device fails and memory is there.
     ensures usage { ExactUsage words.now result }
-    ensures missing { ExactMissing words.now (F.content folder.old) result }
-    ensures too_large { ExactTooLarge words.now (F.content folder.old) result }
+    ensures missing { ExactUnread NotThere Missing words.now (F.content folder.old) result }
+    ensures too_large { ExactUnread TooLong TooLarge words.now (F.content folder.old) result }
     ensures refused { ExactRefused words.now (F.content folder.old) result }
     ensures report { ExactReport words.now (F.content folder.old) result }
 

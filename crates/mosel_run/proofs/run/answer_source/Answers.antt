@@ -4,8 +4,8 @@ use Rattle.std.proofs.lemmas.Result.{IfOk-weaker}
 use Rattle.hub_text.specs.ErrorLines.{verdict_line}
 use Rattle.mosel_run.specs.declared.answer.Answer.{Answer}
 use Rattle.mosel_run.specs.declared.status.Status.TheVariants.{Refused}
-use Rattle.mosel_run.specs.Answered.{run_request}
 use Rattle.mosel_run.specs.Answers.{line_answer}
+use Rattle.mosel_run.specs.Making.{run_request}
 use Rattle.mosel_run.specs.Jobs.{OneThread}
 use Rattle.mosel_run.specs.ReadAnswers.{IsRefusal}
 use Rattle.mosel_run.specs.Run.{IsAnswerTo, refusal}

@@ -1,7 +1,7 @@
 -- the answer is delivered; or memory was wanting to find it
 use Rattle.std.proofs.Common.{refl}
 use Rattle.mosel_run.specs.Answered.{no_memory}
-use Rattle.mosel_run.specs.States.{sink_state, states}
+use Rattle.mosel_run.specs.States.{states}
 use Rattle.mosel_run.proofs.Answering.{answered}
 use Rattle.mosel_run.proofs.top.perform.Goals as goal
 
@@ -10,7 +10,7 @@ returns-in-Ok-clause-one_thread g c =
     answered c.args.words.now
     (g.F.Folder.content c.args.folder.now) (g.F.Folder.content c.find_answer.new.folder)
     (g.F.Folder.faults c.args.folder.now) (g.F.Folder.faults c.find_answer.new.folder)
-    (sink_state (g.K.Sink.bytes c.args.sink.now) (g.K.Sink.faults c.args.sink.now))
+    (record { bytes = g.K.Sink.bytes c.args.sink.now; faults = g.K.Sink.faults c.args.sink.now })
     (states (g.F.Folder.content c.deliver.new.folder) (g.F.Folder.faults c.deliver.new.folder) (g.K.Sink.bytes c.deliver.new.sink) (g.K.Sink.faults c.deliver.new.sink))
     c.in-Ok.answer c.deliver.result
     c.in-Ok.ensures.content c.in-Ok.ensures.later c.deliver.ensures.folder_faults
