@@ -41,5 +41,6 @@ not_ready_of run (NotYet call) = Some record { run = run; call = call }
 not_ready_of run (Shut call) = None
 not_ready_of run (NoMemory call) = None
 
+-- the refused call with its run, where it may be made again
 abbrev pub not_ready : HubHeld → Option HubCall
 not_ready held = not_ready_of held.run held.held

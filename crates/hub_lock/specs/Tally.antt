@@ -16,6 +16,8 @@ IsTally log = (total log < 2 ^ 64) × (length log < 2 ^ 32)
 abbrev pub Answers : List Put → ℕ → ℕ → Put → ℕ → Type 0
 Answers log lane amount put sum = (put ≡ record { lane = lane; amount = amount }) × (sum ≡ total log + amount)
 
+-- when an amount is refused, for each reason: it is nothing, the sum would not fit, or the list is full. Want of memory
+-- may come at any time
 abbrev pub Refuses : List Put → ℕ → ℕ → Refusal → Type 0
 Refuses log lane amount Zero = amount ≡ 0
 Refuses log lane amount TooMuch = 2 ^ 64 ≤ total log + amount

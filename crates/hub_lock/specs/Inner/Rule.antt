@@ -41,9 +41,11 @@ turns_held (Holds t) = 1
 turns_held Spent = 0
 
 module _ {E : Type 0} where
+  -- how many tickets are out with the seat of a view
   abbrev pub tickets_out_of : View E → ℕ
   tickets_out_of v = tickets_out v.stage
 
+  -- how many turns the seat of a view has
   abbrev pub turns_held_of : View E → ℕ
   turns_held_of v = turns_held v.stage
 
@@ -86,6 +88,7 @@ module _ {E : Type 0} where
     pub parts : v.lane ≡ 0 → Joined lane_of log v.joined
     pub few : v.lane ≡ 0 → length v.joined < made
 
+  -- of any seat: its ticket, and what it has seen where it is not spent
   pub record Fits (lane_of : E → ℕ) (drawn served made : ℕ) (log : List E) (v : View E) : Type 0 where
     pub tickets : Tickets drawn served log v.seen v.stage
     pub lives : is_alive v.stage ≡ true → Lives lane_of made log v
