@@ -3,9 +3,10 @@
 
 Each check looks at the files alone and takes no time: that a crate's proofs lean on the contracts of the crates below and not
 on their proofs; how long the longest chain of crates is; that docs/definitions.md is what the definitions say (`--write` writes
-it), and that none of those only says how the code goes about it; that each place that docs/extending.md names is there; that the
-paths and links of all pages lead somewhere; and that clauses can be read aloud. tests/run.py counts each of them as a case. The
-last line is `N passed, M failed`; the exit status is 1 where a check failed, else 0.
+it); that no clause of a function which other crates can call leads to a definition that only says how the code goes about it;
+that each place that docs/extending.md names is there; that the paths and links of all pages lead somewhere; and that clauses can
+be read aloud. tests/run.py counts each of them as a case. The last line is `N passed, M failed`; the exit status is 1 where a
+check failed, else 0.
 """
 import re
 import sys
@@ -156,19 +157,41 @@ def alias_of(line):
     return {found[3] or found[2].split(".")[-1]: (found[1], found[2])}
 
 
-class Reading:
-    """The definitions behind the clauses of a function, in the order in which a reader meets them."""
+def clauses(text):
+    """The lines of each clause of a text, with the number of the first."""
+    number, lines, depth = 0, [], 0
+    for at, line in enumerate(text.splitlines(), 1):
+        if not lines and re.match(r"\s*(ensures|requires)\b", line):
+            number, depth = at, 0
+        if number:
+            lines.append(line)
+            depth += line.count("{") - line.count("}")
+            if depth <= 0:
+                yield number, lines
+                number, lines = 0, []
 
-    def __init__(self, crate, path, function):
+
+class Reading:
+    """The definitions behind clauses, in the order in which a reader meets them."""
+
+    def __init__(self):
         self.modules, self.met = {}, {}
-        text = path.read_text()
-        uses = {}
-        for line in re.findall(r"^ghost use .*$", joined_imports(text.replace("ghost use", "use")).replace("\nuse", "\nghost use"), re.M):
+
+    def read(self, text, parts):
+        """Reads the clauses of these parts of the text of a file."""
+        uses, aliases = {}, {}
+        for line in re.findall(r"ghost (use [^;]+);", text):
+            line = re.sub(r"\s+", " ", line)
             uses.update(imported(line))
-        header = re.search(rf"pub fn {function}\b.*?\n\{{", text, re.S)[0]
-        for name in re.findall(NAME, " ".join(re.findall(r"ensures.*", header))):
-            if name in uses:
-                self.meet(*uses[name])
+            aliases.update(alias_of(line))
+        for clause in (" ".join(lines) for part in parts for _, lines in clauses(part)):
+            for alias, word in re.findall(rf"(?<![\w.])(\w+)\.({NAME})", clause):
+                if alias in aliases:
+                    self.meet(*aliases[alias], word)
+            for name in re.findall(NAME, clause):
+                if name in uses:
+                    self.meet(*uses[name])
+        return self
 
     def module(self, crate, name):
         if (crate, name) not in self.modules:
@@ -205,10 +228,41 @@ class Reading:
         return "\n".join(lines) + "\n"
 
 
+def functions(text):
+    """Each function of a text: its name, the type or trait around it, whether it begins with `pub`, and its head with its clauses."""
+    owner = ""
+    for found in re.finditer(r"^(?:pub )?trait (\w+)|^impl\b[^{]*?\b(\w+)(?:<[^{]*>)? \{|^\}|^( *)(pub )?fn (\w+)\b.*?(?:;|\n\3\{)", text, re.M | re.S):
+        if found[5]:
+            yield found[5], owner if found[3] else "", bool(found[4]), found[0]
+        else:
+            owner = found[1] or found[2] or ""
+
+
+def exported(crate):
+    """The parts of each file of a crate that are heads of functions which other crates can call."""
+    root = CRATES / crate / "src" / "lib.rt"
+    if not root.is_file():
+        return
+    names = set(re.findall(r"\w+", " ".join(re.findall(r"pub use ([^;]+);", root.read_text()))))
+    opened = set(re.findall(r"pub mod (\w+);", root.read_text()))
+    for path in files(crate, "src", ".rt"):
+        text = path.read_text()
+        traits = re.findall(r"^pub trait (\w+)", text, re.M)
+        heads = [
+            head
+            for name, owner, public, head in functions(text)
+            if (owner in names and (public or owner in traits)) or (not owner and public and (name in names or path == root or path.stem in opened))
+        ]
+        yield path, text, heads
+
+
 def promise():
     crate = "mosel_run"
-    path = next(path for path in files(crate, "src", ".rt") if re.search(r"^pub fn tool\b", path.read_text(), re.M))
-    return Reading(crate, path, "tool")
+    for path in files(crate, "src", ".rt"):
+        text = path.read_text()
+        for name, _, public, head in functions(text):
+            if public and name == "tool":
+                return Reading().read(text, [head])
 
 
 def definitions():
@@ -216,13 +270,16 @@ def definitions():
         yield "docs/definitions.md is old: python3 tests/house.py --write writes it"
 
 
-# What the code is like is no part of the promise: files that begin with "As the code" or its like do not stand behind it.
+# What the code is like is no part of a promise: files that begin with "As the code" or its like stand behind no clause of a
+# function that other crates can call.
 def models():
-    reading = promise()
-    for place, met in reading.met.items():
-        module = reading.modules[place]
-        if met and module.sentence.startswith("As the "):
-            yield f"{module.path.relative_to(TOP)} says how the code goes about it, and stands behind the promise: {met[0]}"
+    for crate in crates():
+        for path, text, heads in exported(crate):
+            reading = Reading().read(text, heads)
+            for place, met in reading.met.items():
+                module = reading.modules[place]
+                if met and module.sentence.startswith("As the "):
+                    yield f"{module.path.relative_to(TOP)} says how the code goes about it, and stands behind {path.relative_to(TOP)}: {met[0]}"
 
 
 # Each row `| `path` | `word` | ..` of the page names a place that is there: the file has the word.
@@ -251,24 +308,12 @@ def pages():
             yield f"{crate} has no README.md"
 
 
-def clauses():
-    """The width of the widest line of each clause, with its place."""
+def wide_clauses():
+    """Clauses that are too wide to be read aloud, each by its widest line."""
+    widths = []
     for crate in crates():
         for path in files(crate, "src", ".rt"):
-            open_braces, width, place = 0, 0, ""
-            for number, line in enumerate(path.read_text().splitlines(), 1):
-                if re.match(r"\s*(ensures|requires)\b", line):
-                    open_braces, width, place = 0, 0, f"{path.relative_to(TOP)}:{number}"
-                if place:
-                    width = max(width, len(line))
-                    open_braces += line.count("{") - line.count("}")
-                    if open_braces <= 0:
-                        yield width, place
-                        place = ""
-
-
-def wide_clauses():
-    widths = list(clauses())
+            widths += [(max(map(len, lines)), f"{path.relative_to(TOP)}:{number}") for number, lines in clauses(path.read_text())]
     for width, place in sorted(widths, reverse=True):
         if width > WIDEST:
             yield f"{place}: a clause of {width} columns"

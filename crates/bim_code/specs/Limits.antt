@@ -2,15 +2,22 @@
 use Rattle.std.specs.Prelude.{◌≢◌, ◌≤◌, ◌<◌, ◌^◌, Some, length, All}
 use Rattle.bim_code.specs.declared.image.Image.{Image}
 use Rattle.bim_code.specs.declared.image.ImageType.{ImageType}
-use Rattle.bim_code.specs.declared.image.ImageType.TheVariants.{Array, Record}
+use Rattle.bim_code.specs.declared.image.ImageType.TheVariants.{Integer, Boolean, Str, Model, Event, Range, Set, List, Array, Record}
 use Rattle.bim_code.specs.declared.image.Routine.{Routine}
 use Rattle.bim_code.specs.Code.{code_size}
 
 -- an array's number of indexes stands in one byte, the number of a record's fields in two
 abbrev pub TypeFits : ImageType → Type 0
+TypeFits Integer = Unit {0}
+TypeFits Boolean = Unit {0}
+TypeFits Str = Unit {0}
+TypeFits Model = Unit {0}
+TypeFits Event = Unit {0}
+TypeFits Range = Unit {0}
+TypeFits (Set member) = Unit {0}
+TypeFits (List member) = Unit {0}
 TypeFits (Array dynamic indexes cell) = length indexes < 2 ^ 8
 TypeFits (Record fields) = length fields < 2 ^ 16
-TypeFits _ = Unit {0}
 
 -- each count fits its field; such an image has bytes
 pub record FitsFields (image : Image) : Type 0 where
@@ -28,9 +35,16 @@ pub record FitsFields (image : Image) : Type 0 where
 
 -- an array has 1 to 8 indexes, and a record at most 65,535 fields
 abbrev pub TypeWithin : ImageType → Type 0
+TypeWithin Integer = Unit {0}
+TypeWithin Boolean = Unit {0}
+TypeWithin Str = Unit {0}
+TypeWithin Model = Unit {0}
+TypeWithin Event = Unit {0}
+TypeWithin Range = Unit {0}
+TypeWithin (Set member) = Unit {0}
+TypeWithin (List member) = Unit {0}
 TypeWithin (Array dynamic indexes cell) = (1 ≤ length indexes) × (length indexes ≤ 8)
 TypeWithin (Record fields) = length fields < 2 ^ 16
-TypeWithin _ = Unit {0}
 
 -- a routine has at most 65,535 slots, and its result is not the number that says that there is none
 pub record RoutineWithin (routine : Routine) : Type 0 where

@@ -2,7 +2,7 @@
 ghost use Rattle.bim_compile.specs.Examples.{HelloCompiled, DownCode, LastWayCode, UntilTwoCode, LastWayCourse, DownCourse, DownSpent, EndlessSpent, UntilTwoCourse};
 
 /// What small models are compiled to.
-pub fn compiled_models()
+pub(crate) fn compiled_models()
     ensures hello { HelloCompiled }
     ensures down { DownCode }
     ensures last_way { LastWayCode }
@@ -10,12 +10,12 @@ pub fn compiled_models()
 {}
 
 /// What the machine does with the image of an `if`.
-pub fn course_of_a_choice()
+pub(crate) fn course_of_a_choice()
     ensures { LastWayCourse }
 {}
 
 /// What the machine does with the images of loops.
-pub fn courses_of_loops()
+pub(crate) fn courses_of_loops()
     ensures down { DownCourse }
     ensures spent { DownSpent }
     ensures endless { EndlessSpent }

@@ -13,4 +13,3 @@ mod names;
 mod statements;
 
 pub use compiler::compile;
-pub use examples::{compiled_models, course_of_a_choice, courses_of_loops};

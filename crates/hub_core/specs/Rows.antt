@@ -1,4 +1,4 @@
--- Rows of the hub's table with what they look up, for the code that answers.
+-- As the code goes about it: rows of the hub's table with what they look up. No public clause cites it.
 use Rattle.std.specs.Prelude.{ℕ, List}
 use Rattle.job_calls.specs.declared.entry.Entry.{Entry}
 use Rattle.job_calls.specs.declared.reply.Answer.{Answer}

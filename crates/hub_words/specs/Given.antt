@@ -1,4 +1,4 @@
--- What a closure says of an entry.
+-- As the code goes about it: what a closure says of an entry. No public clause cites it.
 use Rattle.std.specs.Prelude.{◌≡◌}
 use Rattle.std.specs.Fn.{FnReturnsAt, Shared}
 use denote.Bor.{Bor}

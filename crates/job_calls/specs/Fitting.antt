@@ -17,8 +17,29 @@ use Rattle.job_calls.specs.Pipes.{opened_session, lets_go}
 -- the run that a lane holds after one more entry of its own
 abbrev pub held_after : Option ℕ → Call → Reply → Option ℕ
 held_after held Claim (Claimed run source params) = Some run
+held_after held (Open lanes budget params files) reply = held
+held_after held Claim reply = held
+held_after held Quit reply = held
 held_after held (Finish end) reply = None
-held_after held call reply = held
+held_after held (Compile src dst) reply = held
+held_after held (Load file) reply = held
+held_after held (Run model params) reply = held
+held_after held Wait reply = held
+held_after held Next reply = held
+held_after held Peek reply = held
+held_after held Drop reply = held
+held_after held IsEmpty reply = held
+held_after held (Send to class value) reply = held
+held_after held (Status model) reply = held
+held_after held (ExitCode model) reply = held
+held_after held (Stop model) reply = held
+held_after held (Unload model) reply = held
+held_after held (Read name) reply = held
+held_after held (Write name bytes) reply = held
+held_after held (PipeOpen name way) reply = held
+held_after held (PipePut name bytes) reply = held
+held_after held (PipeTake name) reply = held
+held_after held (PipeClose name) reply = held
 
 -- the live run that the lane of these entries holds
 abbrev pub held_run : List Entry → Option ℕ

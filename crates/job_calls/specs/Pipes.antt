@@ -5,7 +5,7 @@ use Rattle.std.specs.List.{list_any}
 use Rattle.std.specs.Option.{option_map_or}
 use Rattle.std.specs.Str.{bytes_eq}
 use Rattle.job_calls.specs.declared.call.Call.{Call}
-use Rattle.job_calls.specs.declared.call.Call.TheVariants.{PipeOpen, PipePut, PipeTake, PipeClose}
+use Rattle.job_calls.specs.declared.call.Call.TheVariants as call
 use Rattle.job_calls.specs.declared.call.Way.{Way}
 use Rattle.job_calls.specs.declared.call.Way.TheVariants.{Reads, Writes}
 use Rattle.job_calls.specs.declared.reply.Reply.{Reply}
@@ -24,8 +24,30 @@ is_way _ _ = false
 
 -- this end of the pipe was opened, for the session that began at the place
 abbrev pub opened_session : Way → List ℕ → Call → Reply → Option ℕ
-opened_session way name (PipeOpen opened end) (Session place) = if is_way way end && bytes_eq opened name then Some place.0 else None
-opened_session way name _ _ = None
+opened_session way name (call.PipeOpen opened end) (Session place) = if is_way way end && bytes_eq opened name then Some place.0 else None
+opened_session way name (call.Open lanes budget params files) reply = None
+opened_session way name call.Claim reply = None
+opened_session way name call.Quit reply = None
+opened_session way name (call.Finish end) reply = None
+opened_session way name (call.Compile src dst) reply = None
+opened_session way name (call.Load file) reply = None
+opened_session way name (call.Run model params) reply = None
+opened_session way name call.Wait reply = None
+opened_session way name call.Next reply = None
+opened_session way name call.Peek reply = None
+opened_session way name call.Drop reply = None
+opened_session way name call.IsEmpty reply = None
+opened_session way name (call.Send to class value) reply = None
+opened_session way name (call.Status model) reply = None
+opened_session way name (call.ExitCode model) reply = None
+opened_session way name (call.Stop model) reply = None
+opened_session way name (call.Unload model) reply = None
+opened_session way name (call.Read other) reply = None
+opened_session way name (call.Write other bytes) reply = None
+opened_session way name (call.PipeOpen other end) reply = None
+opened_session way name (call.PipePut other bytes) reply = None
+opened_session way name (call.PipeTake other) reply = None
+opened_session way name (call.PipeClose other) reply = None
 
 -- an entry opens this end of the pipe
 abbrev pub opens : Way → List ℕ → Entry → Bool
@@ -33,8 +55,30 @@ opens way name e = is_some (opened_session way name e.call e.reply)
 
 -- the pipe was closed
 abbrev pub is_close : List ℕ → Call → Reply → Bool
-is_close name (PipeClose closed) reply.Unit = bytes_eq closed name
-is_close name _ _ = false
+is_close name (call.PipeClose closed) reply.Unit = bytes_eq closed name
+is_close name (call.Open lanes budget params files) reply = false
+is_close name call.Claim reply = false
+is_close name call.Quit reply = false
+is_close name (call.Finish end) reply = false
+is_close name (call.Compile src dst) reply = false
+is_close name (call.Load file) reply = false
+is_close name (call.Run model params) reply = false
+is_close name call.Wait reply = false
+is_close name call.Next reply = false
+is_close name call.Peek reply = false
+is_close name call.Drop reply = false
+is_close name call.IsEmpty reply = false
+is_close name (call.Send to class value) reply = false
+is_close name (call.Status model) reply = false
+is_close name (call.ExitCode model) reply = false
+is_close name (call.Stop model) reply = false
+is_close name (call.Unload model) reply = false
+is_close name (call.Read other) reply = false
+is_close name (call.Write other bytes) reply = false
+is_close name (call.PipeOpen other end) reply = false
+is_close name (call.PipePut other bytes) reply = false
+is_close name (call.PipeTake other) reply = false
+is_close name (call.PipeClose other) reply = false
 
 -- a run lets go of its ends of the pipe: it closes them, or finishes
 abbrev pub lets_go : List ℕ → Call → Reply → Bool
@@ -87,13 +131,57 @@ in_session name journal = option_map_or (λ place. drop (place + 1) journal) (se
 
 -- the bytes that a call puts into the pipe
 abbrev pub put_by : List ℕ → Call → Reply → List ℕ
-put_by name (PipePut put bytes) reply.Unit = if bytes_eq put name then bytes else []
-put_by name _ _ = []
+put_by name (call.PipePut put bytes) reply.Unit = if bytes_eq put name then bytes else []
+put_by name (call.Open lanes budget params files) reply = []
+put_by name call.Claim reply = []
+put_by name call.Quit reply = []
+put_by name (call.Finish end) reply = []
+put_by name (call.Compile src dst) reply = []
+put_by name (call.Load file) reply = []
+put_by name (call.Run model params) reply = []
+put_by name call.Wait reply = []
+put_by name call.Next reply = []
+put_by name call.Peek reply = []
+put_by name call.Drop reply = []
+put_by name call.IsEmpty reply = []
+put_by name (call.Send to class value) reply = []
+put_by name (call.Status model) reply = []
+put_by name (call.ExitCode model) reply = []
+put_by name (call.Stop model) reply = []
+put_by name (call.Unload model) reply = []
+put_by name (call.Read other) reply = []
+put_by name (call.Write other bytes) reply = []
+put_by name (call.PipeOpen other end) reply = []
+put_by name (call.PipePut other bytes) reply = []
+put_by name (call.PipeTake other) reply = []
+put_by name (call.PipeClose other) reply = []
 
 -- the bytes that a call takes out of it
 abbrev pub taken_by : List ℕ → Call → Reply → List ℕ
-taken_by name (PipeTake taken) (Bytes bytes) = if bytes_eq taken name then bytes else []
-taken_by name _ _ = []
+taken_by name (call.PipeTake taken) (Bytes bytes) = if bytes_eq taken name then bytes else []
+taken_by name (call.Open lanes budget params files) reply = []
+taken_by name call.Claim reply = []
+taken_by name call.Quit reply = []
+taken_by name (call.Finish end) reply = []
+taken_by name (call.Compile src dst) reply = []
+taken_by name (call.Load file) reply = []
+taken_by name (call.Run model params) reply = []
+taken_by name call.Wait reply = []
+taken_by name call.Next reply = []
+taken_by name call.Peek reply = []
+taken_by name call.Drop reply = []
+taken_by name call.IsEmpty reply = []
+taken_by name (call.Send to class value) reply = []
+taken_by name (call.Status model) reply = []
+taken_by name (call.ExitCode model) reply = []
+taken_by name (call.Stop model) reply = []
+taken_by name (call.Unload model) reply = []
+taken_by name (call.Read other) reply = []
+taken_by name (call.Write other bytes) reply = []
+taken_by name (call.PipeOpen other end) reply = []
+taken_by name (call.PipePut other bytes) reply = []
+taken_by name (call.PipeTake other) reply = []
+taken_by name (call.PipeClose other) reply = []
 
 -- the bytes that were put into the pipe by these entries
 abbrev pub put_in : List ℕ → List Entry → List ℕ

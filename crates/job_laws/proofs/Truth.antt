@@ -3,7 +3,7 @@
 use Rattle.std.proofs.Common.{◌≡◌, ◌<◌, ℕ, Bool, true, false, List, [], ◌∷◌, ◌++◌, Option, Some, None, refl, sym, ap, ◌∙◌, subst, inl, inr, ◌⊎◌, nat_lt, length, arith, append-nil, codes}
 use Rattle.std.proofs.lemmas.Bool.{ltb-false}
 use Rattle.job_calls.specs.declared.call.Call.{Call}
-use Rattle.job_calls.specs.declared.call.Call.TheVariants.{Read, Next, Drop}
+use Rattle.job_calls.specs.declared.call.Call.TheVariants.{Claim, Read, Next, Drop}
 use Rattle.job_calls.specs.declared.reply.Reply.{Reply}
 use Rattle.job_calls.specs.declared.reply.Reply.TheVariants.{Opened, Claimed, Loaded, Took, Found, Bytes, PipeEnd, Unit as Accepted}
 use Rattle.job_calls.specs.declared.entry.Entry.{Entry}
@@ -34,6 +34,7 @@ idle_says log run call (Loaded model source) e = absurd (false_true e)
 idle_says log run call (Found place bytes) e = absurd (false_true e)
 idle_says log run call (Bytes bytes) e = absurd (false_true e)
 idle_says log run call PipeEnd e = absurd (false_true e)
+idle_says log run Claim reply e = tt
 idle_says log run call reply e = tt
 
 no_bytes : (xs : List ℕ) → nat_lt 0 (length xs) ≡ false → xs ≡ []
@@ -47,6 +48,7 @@ took_says log run call event q =
     (record { taker = run; by = refl; taking = taking log run event q })
 
 granted_says : (log : List Entry) (run : Option ℕ) (call : Call) → SaysTrue log run call Accepted
+granted_says log run Claim = tt
 granted_says log run call = tt
 
 says_outcome : (log : List Entry) (run : ℕ) (call : Call) (reply : Reply) → IsLegal log → ((name : List ℕ) → Piped name (in_session name log))
@@ -85,8 +87,12 @@ says_entering log lane _ _ _ h p (enter.acts run call reply held fresh ends_fit_
 pub says_true : (log : List Entry) (e : Entry) → IsLegal log → Follows log e → SaysTrue log e.run e.call e.reply
 says_true log e h f = says_entering log e.lane e.run e.call e.reply h (λ name. piped name log h) (entering log e f)
 
+opened_says : (log : List Entry) (run : Option ℕ) (call : Call) → SaysTrue log run call Opened
+opened_says log run Claim = tt
+opened_says log run call = tt
+
 opening_says : (log : List Entry) (run : Option ℕ) (call : Call) (reply : Reply) → reply ≡ Opened → SaysTrue log run call reply
-opening_says log run call reply q = subst (SaysTrue log run call) (sym q) tt
+opening_says log run call reply q = subst (SaysTrue log run call) (sym q) (opened_says log run call)
 
 says_cut : (before : List Entry) (e : Entry) → IsCut before e → SaysTrue before e.run e.call e.reply
 says_cut before e (cut_opens none o) = opening_says before e.run e.call e.reply o.reply

@@ -4,7 +4,7 @@ use Rattle.std.specs.Prelude.{◌≡◌, ◌<◌, ℕ, ℤ, pos, false, true, Li
 use Rattle.std.specs.List.{list_any}
 use Rattle.mos_text.specs.FileName.{is_source_name}
 use Rattle.job_calls.specs.declared.call.Call.{Call}
-use Rattle.job_calls.specs.declared.call.Call.TheVariants.{Claim, Finish, Load, Send, Read, Write, PipeTake}
+use Rattle.job_calls.specs.declared.call.Call.TheVariants.{Open, Claim, Quit, Finish, Compile, Load, Run, Wait, Next, Peek, Drop, IsEmpty, Send, Status, ExitCode, Stop, Unload, Read, Write, PipeOpen, PipePut, PipeTake, PipeClose}
 use Rattle.job_calls.specs.declared.end.End.{End}
 use Rattle.job_calls.specs.declared.reply.Reply.{Reply}
 use Rattle.job_calls.specs.declared.reply.Reply.TheVariants.{Claimed, Loaded, Took, Queued, Found, Bytes, PipeEnd, Unit as Accepted}
@@ -94,7 +94,29 @@ SaysTrue journal run (PipeTake name) (Bytes bytes) =
     put_in name (in_session name journal) ≡ taken_in name (in_session name journal) ++ bytes
 SaysTrue journal run (PipeTake name) PipeEnd =
     put_in name (in_session name journal) ≡ taken_in name (in_session name journal)
-SaysTrue journal run call reply = Unit {0}
+SaysTrue journal run (Open lanes budget params files) reply = Unit {0}
+SaysTrue journal run Claim reply = Unit {0}
+SaysTrue journal run Quit reply = Unit {0}
+SaysTrue journal run (Finish end) reply = Unit {0}
+SaysTrue journal run (Compile src dst) reply = Unit {0}
+SaysTrue journal run (Load file) reply = Unit {0}
+SaysTrue journal run (Run model params) reply = Unit {0}
+SaysTrue journal run Wait reply = Unit {0}
+SaysTrue journal run Next reply = Unit {0}
+SaysTrue journal run Peek reply = Unit {0}
+SaysTrue journal run Drop reply = Unit {0}
+SaysTrue journal run IsEmpty reply = Unit {0}
+SaysTrue journal run (Send to class value) reply = Unit {0}
+SaysTrue journal run (Status model) reply = Unit {0}
+SaysTrue journal run (ExitCode model) reply = Unit {0}
+SaysTrue journal run (Stop model) reply = Unit {0}
+SaysTrue journal run (Unload model) reply = Unit {0}
+SaysTrue journal run (Read name) reply = Unit {0}
+SaysTrue journal run (Write name bytes) reply = Unit {0}
+SaysTrue journal run (PipeOpen name way) reply = Unit {0}
+SaysTrue journal run (PipePut name bytes) reply = Unit {0}
+SaysTrue journal run (PipeTake name) reply = Unit {0}
+SaysTrue journal run (PipeClose name) reply = Unit {0}
 
 -- each reply of a legal journal says what is true of the entries before it
 abbrev pub RepliesAreTrue : Type 0

@@ -2,10 +2,11 @@
 
 use Rattle.std.specs.Prelude.{Bool, true, false}
 use Rattle.mos_tree.specs.declared.expr.Expr.{Expr}
-use Rattle.mos_tree.specs.declared.expr.Expr.TheOpen.{Expr-F, Integer, Text, Truth, Name, Binary}
+use Rattle.mos_tree.specs.declared.expr.Expr.TheOpen.{Expr-F}
+use Rattle.mos_tree.specs.declared.expr.Expr.TheOpen as expr
 use Rattle.mos_tree.specs.declared.expr.Expr.TheFolds.{fold-Expr}
 use Rattle.mos_tree.specs.declared.expr.BinaryOperator.{BinaryOperator}
-use Rattle.mos_tree.specs.declared.expr.BinaryOperator.TheVariants.{Plus, Minus, Equal, NotEqual, Less, AtMost, Greater, AtLeast}
+use Rattle.mos_tree.specs.declared.expr.BinaryOperator.TheVariants.{Times, Div, Mod, Inter, Plus, Minus, Union, Range, Equal, NotEqual, Less, AtMost, Greater, AtLeast, In, NotIn, And, Or}
 use Rattle.mos_check.specs.declared.form.Form.{Form}
 use Rattle.mos_check.specs.declared.form.Form.TheVariants as form
 
@@ -24,16 +25,35 @@ form_of_binary Less a b = of_sums form.Condition a b
 form_of_binary AtMost a b = of_sums form.Condition a b
 form_of_binary Greater a b = of_sums form.Condition a b
 form_of_binary AtLeast a b = of_sums form.Condition a b
-form_of_binary _ a b = form.Other
+form_of_binary Times a b = form.Other
+form_of_binary Div a b = form.Other
+form_of_binary Mod a b = form.Other
+form_of_binary Inter a b = form.Other
+form_of_binary Union a b = form.Other
+form_of_binary Range a b = form.Other
+form_of_binary In a b = form.Other
+form_of_binary NotIn a b = form.Other
+form_of_binary And a b = form.Other
+form_of_binary Or a b = form.Other
 
 -- an expression, by the forms of its parts
 abbrev pub form_step : Expr-F Form → Form
-form_step (Integer n) = form.Sum
-form_step (Name n) = form.Sum
-form_step (Text t) = form.Text
-form_step (Truth b) = form.Condition
-form_step (Binary operator a b) = form_of_binary operator a b
-form_step _ = form.Other
+form_step (expr.Integer n) = form.Sum
+form_step (expr.Text t) = form.Text
+form_step (expr.Truth b) = form.Condition
+form_step (expr.Name n) = form.Sum
+form_step expr.Returned = form.Other
+form_step (expr.Call n all) = form.Other
+form_step (expr.Field n field) = form.Other
+form_step (expr.CallField n all field) = form.Other
+form_step (expr.Set all) = form.Other
+form_step (expr.List all) = form.Other
+form_step (expr.If a b c) = form.Other
+form_step (expr.Convert to a) = form.Other
+form_step (expr.Unary operator a) = form.Other
+form_step (expr.Binary operator a b) = form_of_binary operator a b
+form_step (expr.Aggregate operator over a) = form.Other
+form_step (expr.Count over) = form.Other
 
 -- what an expression is
 abbrev pub form_of : Expr → Form

@@ -5,7 +5,8 @@ use Rattle.std.specs.Prelude.{◌≡◌, ℕ, Bool, true, false, if◌then◌els
 use Rattle.mos_text.specs.declared.kind.Kind.{Kind}
 use Rattle.mos_text.specs.declared.kind.Kind.TheVariants.{Unknown, Loop}
 use Rattle.mos_tree.specs.declared.expr.Expr.{Expr}
-use Rattle.mos_tree.specs.declared.expr.Expr.TheOpen.{Expr-F, Name, Binary}
+use Rattle.mos_tree.specs.declared.expr.Expr.TheOpen.{Expr-F}
+use Rattle.mos_tree.specs.declared.expr.Expr.TheOpen as expr
 use Rattle.mos_tree.specs.declared.expr.Expr.TheFolds.{fold-Expr}
 use Rattle.mos_tree.specs.declared.statement.Assignment.{Assignment}
 use Rattle.mos_tree.specs.declared.statement.Assignment.TheVariants.{Set}
@@ -13,7 +14,7 @@ use Rattle.mos_tree.specs.declared.statement.Reference.{Reference}
 use Rattle.mos_tree.specs.declared.statement.Reference.TheVariants as target
 use Rattle.mos_tree.specs.declared.statement.Arm.{Arm}
 use Rattle.mos_tree.specs.declared.statement.Statement.{Statement}
-use Rattle.mos_tree.specs.declared.statement.Statement.TheOpen.{Statement-F, Assign, Call, If, While, Do, Break, Next}
+use Rattle.mos_tree.specs.declared.statement.Statement.TheOpen.{Statement-F, Assign, Fill, Call, If, Case, Forall, While, Repeat, Do, Break, Next, Initializations}
 use Rattle.mos_tree.specs.declared.statement.Statement.TheFolds.{fold-Statement}
 use Rattle.mos_tree.specs.declared.source.Top.{Top}
 use Rattle.mos_tree.specs.declared.source.Top.TheVariants as top
@@ -47,9 +48,22 @@ unless_known known n = if has_name n known then None else Some n
 
 -- the first name of an expression, from the left, that is none of these
 abbrev pub unknown_step : Expr-F (Names → Option (List ℕ)) → Names → Option (List ℕ)
-unknown_step (Name n) known = unless_known known n
-unknown_step (Binary operator a b) known = or_other (a known) (b known)
-unknown_step _ known = None
+unknown_step (expr.Integer n) known = None
+unknown_step (expr.Text t) known = None
+unknown_step (expr.Truth b) known = None
+unknown_step (expr.Name n) known = unless_known known n
+unknown_step expr.Returned known = None
+unknown_step (expr.Call n all) known = None
+unknown_step (expr.Field n field) known = None
+unknown_step (expr.CallField n all field) known = None
+unknown_step (expr.Set all) known = None
+unknown_step (expr.List all) known = None
+unknown_step (expr.If a b c) known = None
+unknown_step (expr.Convert to a) known = None
+unknown_step (expr.Unary operator a) known = None
+unknown_step (expr.Binary operator a b) known = or_other (a known) (b known)
+unknown_step (expr.Aggregate operator over a) known = None
+unknown_step (expr.Count over) known = None
 
 -- that of an expression
 abbrev pub unknown_in : Expr → Names → Option (List ℕ)
@@ -64,12 +78,19 @@ unknown_in_all (e ∷ es) known = or_other (unknown_in e known) (unknown_in_all 
 abbrev pub unknown_target : Reference → Assignment → Names → Option (List ℕ)
 unknown_target (target.Name n) Set known = None
 unknown_target (target.Name n) operator known = unless_known known n
-unknown_target _ operator known = None
+unknown_target (target.Cell n all) operator known = None
+unknown_target (target.Field n field) operator known = None
+unknown_target (target.CellField n all field) operator known = None
+unknown_target target.Returned operator known = None
 
 -- the names behind an assignment
 abbrev pub with_target : Reference → Assignment → Names → Names
 with_target (target.Name n) Set known = with_name known n
-with_target _ operator known = known
+with_target (target.Name n) operator known = known
+with_target (target.Cell n all) operator known = known
+with_target (target.Field n field) operator known = known
+with_target (target.CellField n all field) operator known = known
+with_target target.Returned operator known = known
 
 -- a piece on this line that uses a name which is not known, or none
 abbrev pub uses : ℕ → Names → Option (List ℕ) → Found
@@ -106,7 +127,11 @@ check_step (While line condition body) inside known = and_then (uses line known 
 check_step (Do line body) inside known = check_all body inside known
 check_step (Break line) inside known = in_loop inside line known
 check_step (Next line) inside known = in_loop inside line known
-check_step _ inside known = Knows known
+check_step (Fill line name values) inside known = Knows known
+check_step (Case line value alternatives last) inside known = Knows known
+check_step (Forall line over body) inside known = Knows known
+check_step (Repeat line body until_line condition) inside known = Knows known
+check_step (Initializations line direction name labels) inside known = Knows known
 
 -- what is found of a statement
 abbrev pub check_statement : Statement → Checks
@@ -115,7 +140,10 @@ check_statement = fold-Statement Checks check_step
 -- what is found of a part of a model
 abbrev pub check_top : Top → Names → Found
 check_top (top.Statement statement) known = check_statement statement false known
-check_top _ known = Knows known
+check_top (top.Parameters line parameters) known = Knows known
+check_top (top.Declarations declared) known = Knows known
+check_top (top.Routine routine) known = Knows known
+check_top (top.Forward heading) known = Knows known
 
 -- what is found of the parts of a model
 abbrev pub check_tops : List Top → Names → Found

@@ -6,7 +6,8 @@ use Rattle.mos_text.specs.declared.scalar.Scalar.TheVariants.{Int}
 use Rattle.mos_tree.specs.declared.expr.Expr.{Expr}
 use Rattle.mos_tree.specs.declared.expr.BinaryOperator.{BinaryOperator}
 use Rattle.mos_tree.specs.declared.expr.BinaryOperator.TheVariants.{Times, Div, Mod, Inter, Plus, Minus, Union, Range, Equal, NotEqual, Less, AtMost, Greater, AtLeast, In, NotIn, And, Or}
-use Rattle.mos_tree.specs.declared.expr.Expr.TheOpen.{Expr-F, Integer, Text, Truth, Name as Named, Binary}
+use Rattle.mos_tree.specs.declared.expr.Expr.TheOpen.{Expr-F}
+use Rattle.mos_tree.specs.declared.expr.Expr.TheOpen as expr
 use Rattle.mos_tree.specs.declared.expr.Expr.TheFolds.{fold-Expr}
 use Rattle.mos_tree.specs.declared.statement.Reference.{Reference}
 use Rattle.mos_tree.specs.declared.statement.Reference.TheVariants as target
@@ -54,12 +55,22 @@ applied (Some operator) a b = apply operator a b
 
 -- each name is the model's: there are no routines
 abbrev pub expression_step : Expr-F Expression → Expression
-expression_step (Integer n) = number n
-expression_step (Text t) = text t
-expression_step (Truth b) = truth b
-expression_step (Named n) = variable Model n
-expression_step (Binary op a b) = applied (operator_of op) a b
-expression_step _ = unbuilt
+expression_step (expr.Integer n) = number n
+expression_step (expr.Text t) = text t
+expression_step (expr.Truth b) = truth b
+expression_step (expr.Name n) = variable Model n
+expression_step expr.Returned = unbuilt
+expression_step (expr.Call n all) = unbuilt
+expression_step (expr.Field n field) = unbuilt
+expression_step (expr.CallField n all field) = unbuilt
+expression_step (expr.Set all) = unbuilt
+expression_step (expr.List all) = unbuilt
+expression_step (expr.If a b c) = unbuilt
+expression_step (expr.Convert to a) = unbuilt
+expression_step (expr.Unary operator a) = unbuilt
+expression_step (expr.Binary operator a b) = applied (operator_of operator) a b
+expression_step (expr.Aggregate operator over a) = unbuilt
+expression_step (expr.Count over) = unbuilt
 
 -- of the tree of an expression
 abbrev pub expression : Expr → Expression

@@ -1,5 +1,3 @@
-pub mod Cut
 pub mod Forms
-pub mod Fronts
 pub mod OneWay
 pub mod Whole

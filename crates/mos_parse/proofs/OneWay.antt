@@ -10,7 +10,7 @@ use Rattle.mos_tree.specs.Forms.{piece}
 use Rattle.mos_scan.specs.declared.token.Token.{Token}
 use Rattle.mos_scan.specs.declared.piece.Piece.{Piece}
 use Rattle.mos_scan.specs.Cuts.{line_of}
-use Rattle.mos_scan.specs.Laws.{OneTokenList, OneLexicalFault, ListOrFault, OneListOfPieces}
+use Rattle.mos_scan.specs.Laws.{OneTokenList, OneLexicalFault, ListOrFault, SomeListOrFault, OneListOfPieces, SomeListOfPieces}
 use Rattle.mos_scan.specs.Pieces.{ArePieces}
 use Rattle.mos_scan.specs.Reading.{piece_words}
 use Rattle.mos_form.specs.Laws.{NoWordsLackAForm, HaveOneForm}
@@ -21,7 +21,6 @@ use Rattle.mos_source.specs.Laws.{HaveOneTree, HaveOneFault, HaveNotBoth, HaveOn
 use Rattle.mos_parse.specs.Parsed.{AreForms, no_piece, one_piece, HasForms, IsParsed, IsFaultyLine, IsSyntaxFault, lexical, misplaced}
 use Rattle.mos_parse.specs.Laws.{NoSourceHasNeither, NoSourceHasBoth, SourcesHaveOneTree, SourcesHaveOneFault, SourcesHaveOneListOfForms}
 use Rattle.mos_parse.proofs.Whole.{never_both, one_line}
-use Rattle.mos_parse.proofs.Cut.{tokens_or_fault, some_pieces}
 
 -- ---- the forms of a source are determined
 
@@ -70,12 +69,14 @@ some_kind : (before after : List PieceForm) → ((kind : Kind) → IsKind before
 some_kind before [] none = none k.Syntax too_early
 some_kind before (x ∷ after) none = none k.Syntax (out_of_place x after (λ could. none (broken x.form) (beyond x after could)))
 
-neither : NoWordsLackAForm → HaveOneOfBoth → (source : List ℕ) → ((tree : Tree) → IsParsed source tree → ⊥) → ((line : ℕ) (kind : Kind) → IsSyntaxFault source line kind → ⊥) → ⊥
-neither law both source no_tree no_fault =
-    tokens_or_fault source
-    (λ tokens cut. let ps = some_pieces tokens in
-    some_forms law source tokens ps.0 (λ forms are. of_forms forms (record { tokens = tokens; cut = cut; pieces = ps.0; parted = ps.1; forms_are = are }) (both forms)))
-    (λ place kind fault. no_fault _ kind (lexical _ (record { place = place; fault = fault; line_is = refl; column_is = refl })))
+neither : SomeListOrFault → SomeListOfPieces → NoWordsLackAForm → HaveOneOfBoth → (source : List ℕ) → ((tree : Tree) → IsParsed source tree → ⊥) → ((line : ℕ) (kind : Kind) → IsSyntaxFault source line kind → ⊥) → ⊥
+neither scanned cut law both source no_tree no_fault =
+    elim (scanned source) [
+      | inl found ↦ (let ps = cut found.0 in
+          some_forms law source found.0 ps.0
+          (λ forms are. of_forms forms (record { tokens = found.0; cut = found.1; pieces = ps.0; parted = ps.1; forms_are = are }) (both forms)))
+      | inr fault ↦ no_fault _ fault.1 (lexical _ (record { place = fault.0; fault = fault.2; line_is = refl; column_is = refl }))
+    ]
   where
     of_forms : (forms : List PieceForm) → HasForms source forms → ((x : Source) × IsSource forms x) ⊎ HasFault forms → ⊥
     of_forms forms read (inl x) = no_tree (tree_of x.0) (record { forms = forms; read = read; tree_is = (x.0, x.1, refl) })
@@ -86,5 +87,5 @@ neither law both source no_tree no_fault =
           line_is = refl;
         })))
 
-pub not_neither : NoWordsLackAForm → HaveOneOfBoth → NoSourceHasNeither
-not_neither law both = neither law both
+pub not_neither : SomeListOrFault → SomeListOfPieces → NoWordsLackAForm → HaveOneOfBoth → NoSourceHasNeither
+not_neither scanned cut law both = neither scanned cut law both

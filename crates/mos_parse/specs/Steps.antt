@@ -1,4 +1,4 @@
--- What the steps of the parser say to one another. No public clause cites it.
+-- As the code goes about it: what the steps of the parser say to one another. No public clause cites it.
 
 use Rattle.std.specs.Prelude.{◌≡◌, ◌≤◌, ℕ, List, length, Result, Ok, Err}
 use Rattle.mos_tree.specs.declared.source.Tree.{Tree}

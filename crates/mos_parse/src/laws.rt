@@ -17,6 +17,7 @@ pub fn sources_are_parsed_one_way()
     sources_have_one_list_of_forms();
     words_have_one_form();
     source_is_scanned_once();
+    tokens_are_cut_once();
     pieces_are_read_one_way();
 }
 

@@ -248,6 +248,10 @@ cut_are _ _ _ (whole_piece before xs (t ∷ ts) ps u e more) =
 pub one_cut : (tokens : List Token) (ps qs : List Piece) → ArePieces tokens ps → ArePieces tokens qs → ps ≡ qs
 one_cut tokens ps qs a b = cut_are [] tokens ps a ∙ sym (cut_are [] tokens qs b)
 
+pub some_cut : (tokens : List Token) → (ps : List Piece) × ArePieces tokens ps
+unfolding IsOpen nothing_at
+some_cut tokens = (cut_pieces tokens, pieces_here [] [] tokens tt)
+
 pub found_pieces : {V E : Type 0} (items : V → List Piece) (tokens : List Token) (r : Result V E) → IfOk r (λ v. items v ≡ cut_pieces tokens) → IfOk r (λ v. ArePieces tokens (items v))
 unfolding IsOpen nothing_at
 found_pieces items tokens (Ok v) e = subst (λ ps. ArePieces tokens ps) (sym e) (pieces_here [] [] tokens tt)

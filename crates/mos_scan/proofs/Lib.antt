@@ -7,5 +7,6 @@ pub mod One
 pub mod CutPieces
 pub mod Scans
 pub mod Short
+pub mod SomeCut
 pub mod Texts
 pub mod Verdicts

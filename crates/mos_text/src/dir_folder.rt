@@ -1,5 +1,8 @@
 //! The folder of the system, as a place that keeps files.
-ghost use Rattle.std.specs.Prelude.{◌≡◌, None};
+ghost use Rattle.std.specs.Prelude.{◌≡◌, ◌≢◌, ◌≤◌, None};
+ghost use Rattle.mos_text.specs.Content.{Unknown};
+ghost use Rattle.mos_text.specs.Faults.{Rose};
+ghost use Rattle.mos_text.specs.Gets.{Answers};
 
 use crate::{Blob, Folder, Got, Stored, Text};
 use std::alloc::Global;
@@ -42,12 +45,20 @@ fn read_start<R: Files>(rt: &R, alloc: Global, name: &str, limit: u32) -> io::Re
     Ok(bytes)
 }
 
-impl<R: Files> Folder for DirFolder<'_, R> {
+impl<'a, R: Files> Folder for DirFolder<'a, R> {
     ghost content = { λ _. None };
 
     ghost faults = { λ f. f.faults };
 
-    fn get(&mut self, alloc: Global, name: &Text, limit: u32) -> Got {
+    fn get(&mut self, alloc: Global, name: &Text, limit: u32) -> Got
+        ensures answer { Answers Unknown limit result }
+        ensures later { ⟦<DirFolder<'a, R> as Folder>⟧.faults self.old
+            ≤ ⟦<DirFolder<'a, R> as Folder>⟧.faults self.new }
+        ensures failed { result ≡ Got.Failed
+            → Rose (⟦<DirFolder<'a, R> as Folder>⟧.faults self.old) (⟦<DirFolder<'a, R> as Folder>⟧.faults self.new) }
+        ensures steady { result ≢ Got.Failed
+            → ⟦<DirFolder<'a, R> as Folder>⟧.faults self.new ≡ ⟦<DirFolder<'a, R> as Folder>⟧.faults self.old }
+    {
         match read_start(self.rt, alloc, name.as_str(), limit) {
             Ok(bytes) if bytes.len() > limit as usize => Got::TooLarge,
             Ok(bytes) => Got::Bytes(Blob::from_vec(bytes)),
@@ -62,7 +73,14 @@ impl<R: Files> Folder for DirFolder<'_, R> {
         }
     }
 
-    fn put(&mut self, _alloc: Global, name: &Text, bytes: &[u8]) -> Stored {
+    fn put(&mut self, _alloc: Global, name: &Text, bytes: &[u8]) -> Stored
+        ensures later { ⟦<DirFolder<'a, R> as Folder>⟧.faults self.old
+            ≤ ⟦<DirFolder<'a, R> as Folder>⟧.faults self.new }
+        ensures failed { result ≡ Stored.Failed
+            → Rose (⟦<DirFolder<'a, R> as Folder>⟧.faults self.old) (⟦<DirFolder<'a, R> as Folder>⟧.faults self.new) }
+        ensures steady { result ≢ Stored.Failed
+            → ⟦<DirFolder<'a, R> as Folder>⟧.faults self.new ≡ ⟦<DirFolder<'a, R> as Folder>⟧.faults self.old }
+    {
         match fs::write(self.rt, name.as_str(), bytes) {
             Ok(()) => Stored::Done,
             Err(_) => {

@@ -1,5 +1,7 @@
 //! A writer of the system as a sink.
-ghost use Rattle.std.specs.Prelude.{◌≡◌, ◌≤◌, [], length, IfSome, None};
+ghost use Rattle.std.specs.Prelude.{◌≡◌, ◌≢◌, ◌≤◌, [], length, IfSome, None};
+ghost use Rattle.mos_text.specs.Faults.{Rose};
+ghost use Rattle.mos_text.specs.SinkBytes.{TakesSome};
 
 use crate::{Sink, Wrote};
 use std::io::{ErrorKind, Write};
@@ -57,7 +59,14 @@ impl<W: Write + Drop> Sink for OutSink<W> {
 
     ghost faults = { λ s. s.faults };
 
-    fn write(&mut self, piece: &[u8]) -> Wrote {
+    fn write(&mut self, piece: &[u8]) -> Wrote
+        ensures some { TakesSome result piece.now }
+        ensures later { ⟦<OutSink<W> as Sink>⟧.faults self.old ≤ ⟦<OutSink<W> as Sink>⟧.faults self.new }
+        ensures failed { result ≡ Wrote.Failed
+            → Rose (⟦<OutSink<W> as Sink>⟧.faults self.old) (⟦<OutSink<W> as Sink>⟧.faults self.new) }
+        ensures steady { result ≢ Wrote.Failed
+            → ⟦<OutSink<W> as Sink>⟧.faults self.new ≡ ⟦<OutSink<W> as Sink>⟧.faults self.old }
+    {
         match write_and_flush(&mut self.writer, piece) {
             Some(count) => Wrote::Took(count),
             None => {

@@ -1,7 +1,7 @@
 //! A folder in memory that never fails.
-ghost use Rattle.std.specs.Prelude.{◌≡◌, Some, OnOk, OnErr, option_copied};
+ghost use Rattle.std.specs.Prelude.{◌≡◌, ◌≢◌, Some, OnOk, OnErr, option_copied};
 ghost use Rattle.std.specs.FinMap.{insert};
-ghost use Rattle.mos_text.specs.Content.{known_of, known_bytes, held_of, files_of};
+ghost use Rattle.mos_text.specs.Content.{known_of, known_bytes, held_of, files_of, SameElsewhere};
 
 use crate::entries::{find_bytes, give};
 use crate::{Blob, Folder, Got, NoMemory, Stored, Text};
@@ -66,7 +66,13 @@ impl Folder for SureFolder {
         give(alloc, self.content(name), limit)
     }
 
-    fn put(&mut self, alloc: Global, name: &Text, bytes: &[u8]) -> Stored {
+    fn put(&mut self, alloc: Global, name: &Text, bytes: &[u8]) -> Stored
+        ensures done { result ≡ Stored.Done
+            → self.new ≡ insert self.old name.now (Some bytes.now) }
+        ensures never { result ≢ Stored.Failed }
+        ensures memory { result ≡ Stored.NoMemory → self.new ≡ self.old }
+        ensures others { SameElsewhere name.now (Some self.old) (Some self.new) }
+    {
         match self.add(alloc, name, bytes) {
             Ok(()) => Stored::Done,
             Err(_) => Stored::NoMemory,

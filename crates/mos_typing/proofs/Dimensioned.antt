@@ -19,7 +19,7 @@ use Rattle.mos_typing.specs.Joining.{on_ok, or_nothing, both, alone, first_of}
 use Rattle.mos_typing.specs.Reader.{base_of}
 use Rattle.mos_typing.specs.Shapes.{is_range, set_of}
 use Rattle.mos_expr.specs.Said.{IsExpression, Says, Gives}
-use Rattle.mos_typing.specs.Spellings.{IsDimension, AreDimensions}
+use Rattle.mos_typing.specs.Parts.{IsDimension, AreDimensions}
 use Rattle.mos_typing.proofs.Bases.{base_known, base_read, IsBase, says_base}
 use Rattle.mos_typing.proofs.Cases.{none_some, some_same}
 use Rattle.mos_typing.proofs.Cuts.{Goes, any, loose, joined, led, same, comma, syntax_goes, cut_sound, cut_none, cut_at}

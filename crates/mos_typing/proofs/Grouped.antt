@@ -17,7 +17,8 @@ use Rattle.mos_typing.specs.Cutting.{Halves, Group, cut, first_group, typed_cut,
 use Rattle.mos_typing.specs.Joining.{on_ok, both, alone, first_of}
 use Rattle.mos_typing.specs.Reader.{names_of, group_of}
 use Rattle.mos_expr.specs.Said.{Says}
-use Rattle.mos_typing.specs.Spellings.{IsTypeForm, AreGroups, IsGroup, IsOnlyGroup, AreFormalGroups}
+use Rattle.mos_typing.specs.Parts.{AreGroups, IsGroup, IsOnlyGroup}
+use Rattle.mos_typing.specs.Spellings.{IsTypeForm, AreFormalGroups}
 use Rattle.mos_typing.proofs.Cases.{none_some, some_same}
 use Rattle.mos_typing.proofs.Cuts.{Goes, any, nothing, joined, led, same, open_round, close, closed, cut_sound, cut_none, cut_at, colon_at}
 use Rattle.mos_typing.proofs.Dimensioned.{base_goes, member_goes, dims_go}

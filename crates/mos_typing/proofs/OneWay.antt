@@ -18,7 +18,8 @@ use Rattle.mos_typing.specs.Joining.{on_ok, both, alone, first_of}
 use Rattle.mos_typing.specs.Reader.{group_of}
 use Rattle.mos_typing.specs.Shapes.{is_range, set_of}
 use Rattle.mos_typing.specs.Laws.{AreOneType, AreOneList}
-use Rattle.mos_typing.specs.Spellings.{IsDimension, AreDimensions, IsTypeForm, AreGroups, IsGroup, AreFormalGroups}
+use Rattle.mos_typing.specs.Parts.{IsDimension, AreDimensions, AreGroups, IsGroup}
+use Rattle.mos_typing.specs.Spellings.{IsTypeForm, AreFormalGroups}
 use Rattle.mos_typing.proofs.Bases.{base_read}
 use Rattle.mos_typing.proofs.Cases.{on_bool}
 use Rattle.mos_typing.proofs.Cuts.{syntax_goes, cut_none, cut_at, colon_at}

@@ -16,7 +16,8 @@ use Rattle.mos_typing.specs.Typing.{Dims, Typing, of_base, a_range, a_set, a_lis
 use Rattle.mos_typing.specs.Joining.{on_ok, or_nothing}
 use Rattle.mos_typing.specs.Reader.{base_of, plain_type}
 use Rattle.mos_typing.specs.Shapes.{set_of, array_of}
-use Rattle.mos_typing.specs.Spellings.{AreDimensions, IsTypeForm}
+use Rattle.mos_typing.specs.Parts.{AreDimensions}
+use Rattle.mos_typing.specs.Spellings.{IsTypeForm}
 use Rattle.mos_typing.proofs.Bases.{base_known, base_read}
 use Rattle.mos_typing.proofs.Cases.{some_same, none_some}
 use Rattle.mos_typing.proofs.Ended.{SameEnd, behind_same}

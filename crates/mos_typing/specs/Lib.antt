@@ -1,6 +1,7 @@
 pub mod Cutting
 pub mod Joining
 pub mod Laws
+pub mod Parts
 pub mod Reader
 pub mod Shapes
 pub mod Spellings

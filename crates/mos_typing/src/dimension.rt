@@ -3,7 +3,7 @@ ghost use Rattle.std.specs.Prelude.{◌≡◌};
 ghost use Rattle.mos_tree.specs.declared.declaration.Dimension.TheVariants as dimension;
 ghost use Rattle.mos_typing.specs.Joining as joining;
 ghost use Rattle.mos_expr.specs.Said.{Says};
-ghost use Rattle.mos_typing.specs.Spellings as spelling;
+ghost use Rattle.mos_typing.specs.Parts as part;
 
 use crate::base::base_form;
 use crate::cut::{Mark, cut_at};
@@ -35,7 +35,7 @@ fn index_set(set: Result<Expr, ExprFault>) -> Result<Dimension, ExprFault>
 
 /// What stands for one index.
 fn dimension(alloc: Global, words: &[Word]) -> Result<Dimension, ExprFault>
-    ensures { Says (spelling.IsDimension words.now) result }
+    ensures { Says (part.IsDimension words.now) result }
 {
     if is_range(words) {
         return Ok(Dimension::Range);
@@ -48,7 +48,7 @@ fn dimension(alloc: Global, words: &[Word]) -> Result<Dimension, ExprFault>
 
 /// What stands for the indexes of an array, with commas between them.
 pub(crate) fn dimensions(alloc: Global, words: &[Word]) -> Result<Items<Dimension>, ExprFault>
-    ensures { Says (spelling.AreDimensions words.now) result }
+    ensures { Says (part.AreDimensions words.now) result }
 {
     let mut done = Some(Items::new(alloc));
     let mut rest = words;

@@ -5,6 +5,7 @@ ghost use Rattle.mos_typing.specs.Cutting as cutting;
 ghost use Rattle.mos_typing.specs.Joining as joining;
 ghost use Rattle.mos_typing.specs.Reader as reads;
 ghost use Rattle.mos_expr.specs.Said.{Says};
+ghost use Rattle.mos_typing.specs.Parts as part;
 ghost use Rattle.mos_typing.specs.Spellings as spelling;
 
 use crate::cut::{Mark, cut_at};
@@ -36,7 +37,7 @@ fn group_of(
 
 /// Formals of one type: their names, and their type.
 fn group(alloc: Global, names: &[Word], typ: &[Word]) -> Result<FormalGroup, ExprFault>
-    ensures { Says (spelling.IsGroup names.now typ.now) result }
+    ensures { Says (part.IsGroup names.now typ.now) result }
 {
     match names_of_words(alloc, names)? {
         None => Err(ExprFault::NoExpr),
@@ -62,7 +63,7 @@ fn first_group(words: &[Word]) -> Option<(&[Word], &[Word], &[Word])>
 
 /// A group behind which no other stands.
 fn last_group(alloc: Global, words: &[Word]) -> Result<FormalGroup, ExprFault>
-    ensures { Says (spelling.IsOnlyGroup words.now) result }
+    ensures { Says (part.IsOnlyGroup words.now) result }
 {
     match cut_at(Mark::Colon, words) {
         None => Err(ExprFault::NoExpr),
@@ -72,7 +73,7 @@ fn last_group(alloc: Global, words: &[Word]) -> Result<FormalGroup, ExprFault>
 
 /// Formals, with a comma behind each group but the last.
 fn groups(alloc: Global, words: &[Word]) -> Result<Items<FormalGroup>, ExprFault>
-    ensures { Says (spelling.AreGroups words.now) result }
+    ensures { Says (part.AreGroups words.now) result }
 {
     let mut done = Some(Items::new(alloc));
     let mut rest = words;

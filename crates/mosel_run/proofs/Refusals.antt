@@ -4,6 +4,7 @@ use Rattle.std.proofs.Common.{◌≡◌, ℕ, List, Option, Some, None, Result, 
 use Rattle.std.specs.Prelude.{IfErr}
 use Rattle.std.specs.Result.{IsErrAnd}
 use Rattle.mos_text.specs.declared.kind.Kind.{Kind}
+use Rattle.mos_tree.specs.declared.refusal.Refusal.{Refusal}
 use Rattle.mos_tree.specs.declared.source.Tree.{Tree}
 use Rattle.mos_parse.specs.Parsed.{IsParsed, IsSyntaxFault}
 use Rattle.mos_parse.specs.Answers.{IsFaultOf, GivesTree as ParsesTo, GivesFault as ParsesNot}
@@ -12,7 +13,7 @@ use Rattle.mos_parse.specs.declared.fault.SyntaxFault.TheVariants as syntax
 use Rattle.mos_check.specs.NotBuilt.{unbuilt_of}
 use Rattle.mos_check.specs.Names.{Names, Found, Wrong, Knows, check_of}
 use Rattle.mosel_run.specs.declared.reader.fault.ReadFault.{ReadFault}
-use Rattle.mosel_run.specs.declared.reader.fault.ReadFault.TheVariants.{At, NoMemory}
+use Rattle.mosel_run.specs.declared.reader.fault.ReadFault.TheVariants.{Refused, NoMemory}
 use Rattle.mosel_run.specs.Accepted.{IsOnlyRefusal, IsSound, IsWrongAt, not_built, found, IsAccepted, IsRefusedAt, unparsed, wrong}
 use Rattle.mosel_run.specs.ReadAnswers.{IsRefusal, IsJudged, GivesTree, GivesRefusal, of_syntax}
 
@@ -65,18 +66,19 @@ syntax-refusal source (syntax.Refused refusal) (Err x) h e = subst (IsRefusal so
 syntax-refusal source syntax.NoMemory (Err x) h e = subst (IsRefusal source) (sym e) tt
 
 pub judged-refusal : (source : List ℕ) (tree : Tree) (fault : ReadFault) → HasOnly source tree → IsJudged tree fault → IsRefusal source fault
-judged-refusal source tree (At line kind) has h = wrong source line kind tree has.parsed h
+judged-refusal source tree (Refused refusal) has h = wrong source refusal.line refusal.kind tree has.parsed h
 judged-refusal source tree NoMemory has h = tt
 
 pub judged-only_tree : (source : List ℕ) (tree : Tree) (fault : ReadFault) → HasOnly source tree → IsJudged tree fault
     → (other : Tree) → IsAccepted source other → GivesTree (Err fault) other
-judged-only_tree source tree (At line kind) has h other accepted =
-    not-wrong tree line kind h (subst IsSound (sym (has.only other accepted.parsed)) accepted.sound)
+judged-only_tree source tree (Refused refusal) has h other accepted =
+    not-wrong tree refusal.line refusal.kind h (subst IsSound (sym (has.only other accepted.parsed)) accepted.sound)
 judged-only_tree source tree NoMemory has h other accepted = tt
 
 pub judged-only_refusal : (source : List ℕ) (tree : Tree) (fault : ReadFault) → HasOnly source tree → IsJudged tree fault
     → (line : ℕ) (kind : Kind) → IsRefusedAt source line kind → GivesRefusal (Err fault) line kind
-judged-only_refusal source tree (At at what) has h line kind refused = one-wrong tree at line what kind h (wrong-there source tree line kind has refused)
+judged-only_refusal source tree (Refused refusal) has h line kind refused =
+    one-wrong tree refusal.line line refusal.kind kind h (wrong-there source tree line kind has refused)
 judged-only_refusal source tree NoMemory has h line kind refused = tt
 
 pub sound-only_refusal : (source : List ℕ) (tree : Tree) → HasOnly source tree → IsSound tree
@@ -98,16 +100,16 @@ pub syntax-only_refusal : (source : List ℕ) (fault : SyntaxFault) (result : Re
     → ((line : ℕ) (kind : Kind) → IsSyntaxFault source line kind → ParsesNot (Err fault) line kind) → IsErrAnd result (λ x. x ≡ of_syntax fault)
     → (line : ℕ) (kind : Kind) → IsRefusedAt source line kind → GivesRefusal result line kind
 syntax-only_refusal _ (syntax.Refused refusal) result only named e _ _ (unparsed source line kind h) =
-    handed-on (λ (r : Result Tree ReadFault). GivesRefusal r line kind) (At refusal.line refusal.kind) result (named line kind h) e
+    handed-on (λ (r : Result Tree ReadFault). GivesRefusal r line kind) (Refused refusal) result (named line kind h) e
 syntax-only_refusal _ (syntax.Refused refusal) result only named e _ _ (wrong source line kind tree h w) = absurd (only tree h)
 syntax-only_refusal source syntax.NoMemory result only named e line kind refused = handed-on (λ (r : Result Tree ReadFault). GivesRefusal r line kind) NoMemory result tt e
 
 -- a refusal of the reader is the only one
-pub only-refusal : (source : List ℕ) (fault : ReadFault) (line : ℕ) (kind : Kind) → fault ≡ At line kind
+pub only-refusal : (source : List ℕ) (fault : ReadFault) (refusal : Refusal) → fault ≡ Refused refusal
     → ((tree : Tree) → IsAccepted source tree → GivesTree (Err fault) tree)
     → ((at : ℕ) (what : Kind) → IsRefusedAt source at what → GivesRefusal (Err fault) at what)
-    → IsOnlyRefusal source line kind
-only-refusal source fault line kind is no_tree one = record {
+    → IsOnlyRefusal source refusal.line refusal.kind
+only-refusal source fault refusal is no_tree one = record {
   one = λ at what h. subst (λ (f : ReadFault). GivesRefusal (Err f) at what) is (one at what h);
   never = λ tree h. subst (λ (f : ReadFault). GivesTree (Err f) tree) is (no_tree tree h);
 }

@@ -5,7 +5,7 @@ use Rattle.std.specs.Prelude.{ℕ, ◌-◌, ◌++◌, List, [], ◌∷◌, Optio
 use Rattle.std.specs.List.{list_any, filter_map, starts_with}
 use Rattle.std.specs.Str.{bytes_eq}
 use Rattle.job_calls.specs.declared.call.Call.{Call}
-use Rattle.job_calls.specs.declared.call.Call.TheVariants.{Compile, Write}
+use Rattle.job_calls.specs.declared.call.Call.TheVariants as call
 use Rattle.job_calls.specs.declared.reply.Reply.{Reply}
 use Rattle.job_calls.specs.declared.reply.Reply.TheVariants.{Code, Unit as Acknowledged}
 use Rattle.job_calls.specs.declared.entry.Entry.{Entry}
@@ -37,10 +37,32 @@ plain_write name bytes = if starts_with nat_eq name (codes "shmem:") then None e
 
 -- what an entry puts
 abbrev pub put_of : List Listed → List (Option Image) → Call → Reply → Option Put
-put_of files images (Compile src dst) (Code code) =
+put_of files images (call.Compile src dst) (Code code) =
     if nat_eq code 0 then Some record { name = dst; bytes = bytes_of_source files images src } else None
-put_of files images (Write name bytes) Acknowledged = plain_write name bytes
-put_of files images call reply = None  -- nothing else puts a file
+put_of files images (call.Write name bytes) Acknowledged = plain_write name bytes
+put_of files images (call.Open lanes budget params listed) reply = None
+put_of files images call.Claim reply = None
+put_of files images call.Quit reply = None
+put_of files images (call.Finish end) reply = None
+put_of files images (call.Compile src dst) reply = None
+put_of files images (call.Load file) reply = None
+put_of files images (call.Run model params) reply = None
+put_of files images call.Wait reply = None
+put_of files images call.Next reply = None
+put_of files images call.Peek reply = None
+put_of files images call.Drop reply = None
+put_of files images call.IsEmpty reply = None
+put_of files images (call.Send to class value) reply = None
+put_of files images (call.Status model) reply = None
+put_of files images (call.ExitCode model) reply = None
+put_of files images (call.Stop model) reply = None
+put_of files images (call.Unload model) reply = None
+put_of files images (call.Read name) reply = None
+put_of files images (call.Write name bytes) reply = None
+put_of files images (call.PipeOpen name way) reply = None
+put_of files images (call.PipePut name bytes) reply = None
+put_of files images (call.PipeTake name) reply = None
+put_of files images (call.PipeClose name) reply = None
 
 -- the bytes of a put of this name
 abbrev pub bytes_under : List ℕ → Put → Option (List ℕ)

@@ -3,6 +3,8 @@
 use Rattle.std.specs.Prelude.{ℕ, List, Option}
 use Rattle.std.specs.List.{fold}
 use Rattle.mos_text.specs.Content.{Files, put_file}
+use Rattle.mos_text.specs.declared.folder.Folder.{Ghosts as FolderGhosts}
+use Rattle.mos_text.specs.declared.sink.Sink.{Ghosts as SinkGhosts}
 use Rattle.mos_text.specs.SinkBytes.{appended}
 use Rattle.mosel_run.specs.declared.answer.Deed.{Deed}
 use Rattle.mosel_run.specs.declared.answer.Deed.TheVariants.{Write, Store}
@@ -29,6 +31,14 @@ folder_state content faults = record { content = content; faults = faults }
 -- a folder's content and count, then a sink's bytes and count
 abbrev pub states : Option Files → ℕ → Option (List ℕ) → ℕ → Devices
 states content folder_faults bytes sink_faults = record { folder = folder_state content folder_faults; sink = record { bytes = bytes; faults = sink_faults } }
+
+-- a folder, by what its trait says of it
+abbrev pub folder_of : {F : Type 0} → FolderGhosts F → F → FolderState
+folder_of told folder = folder_state (told.content folder) (told.faults folder)
+
+-- both devices, by what their traits say of them
+abbrev pub devices_of : {F K : Type 0} → FolderGhosts F → SinkGhosts K → F → K → Devices
+devices_of told noted folder sink = states (told.content folder) (told.faults folder) (noted.bytes sink) (noted.faults sink)
 
 -- what the devices hold
 pub record Held : Type 0 where

@@ -2,7 +2,7 @@
 ghost use Rattle.std.specs.Prelude.{◌≡◌, ◌≤◌};
 ghost use Rattle.mosel_run.specs.Delivered.{Delivered};
 ghost use Rattle.mosel_run.specs.Doing.{IsDone, IsDoing, IsWritten, IsStored, CanBreak, IsStatusBy};
-ghost use Rattle.mosel_run.specs.States.{states};
+ghost use Rattle.mosel_run.specs.States.{devices_of};
 
 use crate::answer::{Answer, Deed};
 use crate::status::Status;
@@ -32,9 +32,8 @@ pub(crate) fn deliver<F: Folder, K: Sink>(
     sink: &mut K,
 ) -> Status
     ensures delivered { Delivered answer
-        (states (F.content folder.old) (F.faults folder.old) (K.bytes sink.old) (K.faults sink.old))
-        (states (F.content folder.new) (F.faults folder.new) (K.bytes sink.new) (K.faults sink.new))
-        result }
+        (devices_of F.Folder K.Sink folder.old sink.old)
+        (devices_of F.Folder K.Sink folder.new sink.new) result }
     ensures folder_faults { F.faults folder.old ≤ F.faults folder.new }
     ensures sink_faults { K.faults sink.old ≤ K.faults sink.new }
 {
@@ -72,9 +71,8 @@ fn fault_at(deed: Deed) -> Status
 /// Does the deeds in order, up to the first that is not done.
 fn do_each<F: Folder, K: Sink>(alloc: Global, deeds: &[Deed], folder: &mut F, sink: &mut K) -> Doing
     ensures deeds { IsDoing deeds.now
-        (states (F.content folder.old) (F.faults folder.old) (K.bytes sink.old) (K.faults sink.old))
-        (states (F.content folder.new) (F.faults folder.new) (K.bytes sink.new) (K.faults sink.new))
-        result }
+        (devices_of F.Folder K.Sink folder.old sink.old)
+        (devices_of F.Folder K.Sink folder.new sink.new) result }
     ensures folder_faults { F.faults folder.old ≤ F.faults folder.new }
     ensures sink_faults { K.faults sink.old ≤ K.faults sink.new }
 {
@@ -96,9 +94,8 @@ fn do_one<F: Folder, K: Sink>(
     sink: &mut K,
 ) -> Option<Cause>
     ensures deed { IsDone deed.now
-        (states (F.content folder.old) (F.faults folder.old) (K.bytes sink.old) (K.faults sink.old))
-        (states (F.content folder.new) (F.faults folder.new) (K.bytes sink.new) (K.faults sink.new))
-        result }
+        (devices_of F.Folder K.Sink folder.old sink.old)
+        (devices_of F.Folder K.Sink folder.new sink.new) result }
     ensures folder_faults { F.faults folder.old ≤ F.faults folder.new }
     ensures sink_faults { K.faults sink.old ≤ K.faults sink.new }
 {

@@ -9,13 +9,12 @@ ghost use Rattle.mos_tree.specs.Sizes.{size_of_tree};
 ghost use Rattle.mos_check.specs.NotBuilt.{unbuilt_of};
 ghost use Rattle.mosel_run.specs.Accepted.{IsAccepted, IsRefusedAt, IsSound, IsChecked};
 ghost use Rattle.mosel_run.specs.ReadAnswers.{IsRefusal, IsJudged, GivesTree, GivesRefusal};
-ghost use Rattle.mosel_run.specs.declared.reader.fault.ReadFault.TheVariants.{At};
 
 pub use fault::ReadFault;
 use mos_check::{check, not_built};
 use mos_parse::parse;
 use mos_text::NoMemory;
-use mos_tree::{Refusal, Tree};
+use mos_tree::Tree;
 use std::alloc::Global;
 
 /// The tree of a source, or why and where it is refused: at its first fault of tokens or grammar;
@@ -54,7 +53,7 @@ fn refuse_unbuilt(alloc: Global, tree: &Tree) -> Result<(), ReadFault>
     ensures wrong { IfErr result (IsJudged tree.now) }
 {
     match not_built(alloc, tree)? {
-        Some(refusal) => Err(fault_of(refusal)),
+        Some(refusal) => Err(ReadFault::Refused(refusal)),
         None => Ok(()),
     }
 }
@@ -66,13 +65,4 @@ fn refuse_unchecked(alloc: Global, tree: &Tree) -> Result<(), ReadFault>
 {
     check(alloc, tree)?;
     Ok(())
-}
-
-fn fault_of(refusal: Refusal) -> ReadFault
-    ensures { result ≡ At refusal.line refusal.kind }
-{
-    ReadFault::At {
-        line: refusal.line,
-        kind: refusal.kind,
-    }
 }

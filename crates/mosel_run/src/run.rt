@@ -14,7 +14,7 @@ ghost use Rattle.mosel_run.specs.Making.{IsOneSource, IsStatusAtEnd, listed, run
 ghost use Rattle.mosel_run.specs.Puts.{image_name};
 ghost use Rattle.mosel_run.specs.Run.{IsRunAnswer, IsAnswerTo, IsReport, IsReported};
 ghost use Rattle.mosel_run.specs.declared.answer.Deed.TheVariants.{Write, Store};
-ghost use Rattle.mosel_run.specs.States.{folder_state};
+ghost use Rattle.mosel_run.specs.States.{folder_of};
 ghost use Rattle.mos_tree.specs.Sizes.{size_of_tree};
 
 use crate::answer::{Answer, Deed, Put, refusal, unread};
@@ -45,8 +45,7 @@ pub(crate) fn answer_run<F: Folder>(
 ) -> Result<Answer, NoMemory>
     requires { IsFit (RunCommand name lanes budget) }
     ensures answer { IfOk result (IsRunAnswer OneThread (run_request name lanes budget)
-        (folder_state (F.content folder.old) (F.faults folder.old))
-        (folder_state (F.content folder.new) (F.faults folder.new))) }
+        (folder_of F.Folder folder.old) (folder_of F.Folder folder.new)) }
     ensures content { F.content folder.new ≡ F.content folder.old }
     ensures later { F.faults folder.old ≤ F.faults folder.new }
 {
@@ -103,7 +102,7 @@ fn answer_source(
 {
     match read_source(alloc, source) {
         Ok(tree) => report(alloc, name, lanes, budget, source, &tree),
-        Err(ReadFault::At { line, kind }) => refusal(alloc, name, line, kind),
+        Err(ReadFault::Refused(found)) => refusal(alloc, name, found.line, found.kind),
         Err(ReadFault::NoMemory) => Err(NoMemory),
     }
 }

@@ -3,7 +3,7 @@ ghost use Rattle.std.specs.Prelude.{◌≡◌, ◌≤◌, IfOk};
 ghost use Rattle.mosel_run.specs.Answered.{Answered, IsAnswer};
 ghost use Rattle.mosel_run.specs.Exact.{ExactUsage, ExactUnread, ExactRefused, ExactReport};
 ghost use Rattle.mosel_run.specs.Jobs.{AnyJournal, OneThread};
-ghost use Rattle.mosel_run.specs.States.{folder_state, states};
+ghost use Rattle.mosel_run.specs.States.{devices_of, folder_of};
 ghost use Rattle.mos_text.specs.declared.folder.Got.TheVariants.{Missing as NotThere, TooLarge as TooLong};
 ghost use Rattle.mosel_run.specs.declared.status.Status.TheVariants.{Missing, TooLarge};
 
@@ -28,15 +28,13 @@ pub fn tool<F: Folder, K: Sink>(
 ) -> Status
     // The answer that the words ask for is delivered, as far as the status says.
     ensures answered { Answered AnyJournal words.now
-        (states (F.content folder.old) (F.faults folder.old) (K.bytes sink.old) (K.faults sink.old))
-        (states (F.content folder.new) (F.faults folder.new) (K.bytes sink.new) (K.faults sink.new))
-        result }
+        (devices_of F.Folder K.Sink folder.old sink.old)
+        (devices_of F.Folder K.Sink folder.new sink.new) result }
 
     // Its journal is the one that a single thread writes.
     ensures one_thread { Answered OneThread words.now
-        (states (F.content folder.old) (F.faults folder.old) (K.bytes sink.old) (K.faults sink.old))
-        (states (F.content folder.new) (F.faults folder.new) (K.bytes sink.new) (K.faults sink.new))
-        result }
+        (devices_of F.Folder K.Sink folder.old sink.old)
+        (devices_of F.Folder K.Sink folder.new sink.new) result }
 
     // By the words and the files alone, where no device fails and memory is there.
     ensures usage { ExactUsage words.now result }
@@ -58,9 +56,8 @@ fn perform<F: Folder, K: Sink>(
     sink: &mut K,
 ) -> Status
     ensures one_thread { Answered OneThread words.now
-        (states (F.content folder.old) (F.faults folder.old) (K.bytes sink.old) (K.faults sink.old))
-        (states (F.content folder.new) (F.faults folder.new) (K.bytes sink.new) (K.faults sink.new))
-        result }
+        (devices_of F.Folder K.Sink folder.old sink.old)
+        (devices_of F.Folder K.Sink folder.new sink.new) result }
     ensures folder_faults { F.faults folder.old ≤ F.faults folder.new }
     ensures sink_faults { K.faults sink.old ≤ K.faults sink.new }
 {
@@ -73,8 +70,7 @@ fn perform<F: Folder, K: Sink>(
 /// The answer that the words ask for. Nothing is written or put.
 fn find_answer<F: Folder>(alloc: Global, words: &[Text], folder: &mut F) -> Result<Answer, NoMemory>
     ensures answer { IfOk result (IsAnswer OneThread words.now
-        (folder_state (F.content folder.old) (F.faults folder.old))
-        (folder_state (F.content folder.new) (F.faults folder.new))) }
+        (folder_of F.Folder folder.old) (folder_of F.Folder folder.new)) }
     ensures content { F.content folder.new ≡ F.content folder.old }
     ensures later { F.faults folder.old ≤ F.faults folder.new }
 {

@@ -1,7 +1,7 @@
 //! The files that a command wants, read in order.
 ghost use Rattle.std.specs.Prelude.{◌≡◌, ◌≤◌, IfOk};
 ghost use Rattle.mosel_run.specs.Reading.{IsReadOf};
-ghost use Rattle.mosel_run.specs.States.{folder_state};
+ghost use Rattle.mosel_run.specs.States.{folder_of};
 
 use mos_text::{Blob, Folder, Got, NoMemory, Text};
 use sqlite_items::Items;
@@ -41,8 +41,7 @@ pub(crate) fn read_all<F: Folder>(
     folder: &mut F,
 ) -> Result<Read, NoMemory>
     ensures read { IfOk result (IsReadOf wanted.now
-        (folder_state (F.content folder.old) (F.faults folder.old))
-        (folder_state (F.content folder.new) (F.faults folder.new))) }
+        (folder_of F.Folder folder.old) (folder_of F.Folder folder.new)) }
     ensures content { F.content folder.new ≡ F.content folder.old }
     ensures later { F.faults folder.old ≤ F.faults folder.new }
 {

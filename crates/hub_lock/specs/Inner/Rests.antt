@@ -1,4 +1,4 @@
--- What holds of a seat between two calls.
+-- As the code goes about it: what holds of a seat between two calls.
 use Rattle.std.specs.Prelude.{◌≡◌, ℕ, ◌<◌, [], length, Option}
 use Rattle.atomic_table.specs.Table.{Me}
 use Rattle.hub_lock.specs.declared.rule.Stage.TheVariants.{Idle}

@@ -1,4 +1,5 @@
--- The lock's rule: what holds between any two atomic steps, of the three words, of the slot and of the views of all seats.
+-- As the code goes about it: the lock's rule, which is what holds between any two atomic steps, of the three words, of the slot and
+-- of the views of all seats.
 -- The words are `ticket`, `serving` and `count`, all modulo 2^64. The slot is out with the seat that has the turn, and else at home.
 use Rattle.std.specs.Prelude.{◌≡◌, ◌≢◌, ℕ, ◌+◌, ◌%◌, ◌^◌, ◌<◌, ◌≤◌, ◌⊎◌, Bool, true, false, List, [], ◌∷◌, length, All, Option, Some}
 use Rattle.std.specs.List.{sum_by}

@@ -1,4 +1,4 @@
--- The kinds of atomic step: what each makes of the views, and what it tells the seat that steps.
+-- As the code goes about it: the kinds of atomic step, what each makes of the views, and what it tells the seat that steps.
 use Rattle.std.specs.Prelude.{◌≡◌, ◌≢◌, ℕ, ◌+◌, ◌%◌, ◌^◌, List, [], ◌∷◌, ◌++◌, length, Option, Some}
 use Rattle.atomic_table.specs.Table.{Me, Step, rest}
 use Rattle.hub_lock.specs.declared.mark.Mark.{Mark}

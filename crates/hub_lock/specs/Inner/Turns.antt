@@ -1,4 +1,4 @@
--- What the parts of a call make of a seat of the table.
+-- As the code goes about it: what the parts of a call make of a seat of the table.
 use Rattle.std.specs.Prelude.{◌≡◌, ℕ, ◌^◌, ◌<◌, List, [], ◌∷◌, ◌++◌, length, Option, None}
 use Rattle.atomic_table.specs.declared.shared.Seat.{Seat}
 use Rattle.hub_lock.specs.declared.mark.Mark.{Mark}

@@ -1,13 +1,14 @@
 //! Why a source has given no tree.
 use mos_check::CheckFault;
 use mos_parse::SyntaxFault;
-use mos_text::{Kind, NoMemory};
+use mos_text::NoMemory;
+use mos_tree::Refusal;
 
 /// Why a source has given no tree.
 #[derive(Debug, Drop)]
 pub enum ReadFault {
-    /// The line that is at fault, from 1, and what is wrong with it.
-    At { line: u32, kind: Kind },
+    /// The line that is at fault, and what is wrong with it.
+    Refused(Refusal),
     NoMemory,
 }
 
@@ -30,10 +31,7 @@ impl From<SyntaxFault> for ReadFault {
 
     fn from(found: SyntaxFault) -> ReadFault {
         match found {
-            SyntaxFault::Refused(refusal) => ReadFault::At {
-                line: refusal.line,
-                kind: refusal.kind,
-            },
+            SyntaxFault::Refused(refusal) => ReadFault::Refused(refusal),
             SyntaxFault::NoMemory => ReadFault::NoMemory,
         }
     }
@@ -47,10 +45,7 @@ impl From<CheckFault> for ReadFault {
 
     fn from(found: CheckFault) -> ReadFault {
         match found {
-            CheckFault::Refused(refusal) => ReadFault::At {
-                line: refusal.line,
-                kind: refusal.kind,
-            },
+            CheckFault::Refused(refusal) => ReadFault::Refused(refusal),
             CheckFault::NoMemory => ReadFault::NoMemory,
         }
     }

@@ -1,5 +1,5 @@
 use Rattle.std.proofs.lemmas.Result.{err_from_is_err_and}
-use Rattle.mos_typing.specs.Spellings.{AreDimensions}
+use Rattle.mos_typing.specs.Parts.{AreDimensions}
 use Rattle.mos_typing.proofs.Carrying.{carries_more, carries_fault, carries_end}
 use Rattle.mos_typing.proofs.Dimensioned.{says_last, says_more}
 use Rattle.mos_typing.proofs.dimension.dimensions.Goals as goal

@@ -1,5 +1,5 @@
 use Rattle.std.proofs.Common.{length}
-use Rattle.mos_typing.specs.Spellings.{AreDimensions}
+use Rattle.mos_typing.specs.Parts.{AreDimensions}
 use Rattle.mos_typing.proofs.Carrying.{Carries}
 use Rattle.mos_typing.proofs.dimension.dimensions.Given as goal
 

@@ -1,6 +1,6 @@
 use Rattle.std.proofs.Common.{sym, ◌∙◌}
 use Rattle.std.proofs.lemmas.Result.{err_from_is_err_and}
-use Rattle.mos_typing.specs.Spellings.{IsGroup}
+use Rattle.mos_typing.specs.Parts.{IsGroup}
 use Rattle.mos_typing.proofs.Saying.{says_want}
 use Rattle.mos_typing.proofs.Grouped.{says_no_names, says_group}
 use Rattle.mos_typing.proofs.formal.group.Goals as goal

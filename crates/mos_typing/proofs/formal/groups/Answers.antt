@@ -1,5 +1,5 @@
 use Rattle.std.proofs.lemmas.Result.{err_from_is_err_and}
-use Rattle.mos_typing.specs.Spellings.{AreGroups}
+use Rattle.mos_typing.specs.Parts.{AreGroups}
 use Rattle.mos_typing.proofs.Carrying.{carries_more, carries_fault, carries_end}
 use Rattle.mos_typing.proofs.Grouped.{says_last, says_more}
 use Rattle.mos_typing.proofs.formal.groups.Goals as goal

@@ -1,5 +1,5 @@
 use Rattle.std.proofs.Common.{length}
-use Rattle.mos_typing.specs.Spellings.{AreGroups}
+use Rattle.mos_typing.specs.Parts.{AreGroups}
 use Rattle.mos_typing.proofs.Carrying.{Carries}
 use Rattle.mos_typing.proofs.formal.groups.Given as goal
 

@@ -1,10 +1,8 @@
 -- the piece that is found is wrong
-use Rattle.std.proofs.Common.{sym, subst}
 use Rattle.mosel_run.specs.Accepted.{not_built}
-use Rattle.mosel_run.specs.ReadAnswers.{IsJudged}
 use Rattle.mosel_run.proofs.reader.refuse_unbuilt.Goals as goal
 
 pub returns-in-Some-clause-wrong : goal.returns-in-Some-clause-wrong
 returns-in-Some-clause-wrong c =
     let h = rw c.in-Some.is at c.in_ok-refusal.ensures in
-    subst (IsJudged c.args.tree.now) (sym c.fault_of.ensures) (not_built c.args.tree.now c.in-Some.refusal.line c.in-Some.refusal.kind h)
+    not_built c.args.tree.now c.in-Some.refusal.line c.in-Some.refusal.kind h

@@ -12,10 +12,10 @@ use Rattle.mosel_run.specs.Run.{IsAnswerTo, refusal}
 use Rattle.mosel_run.proofs.Refusals.{only-refusal}
 use Rattle.mosel_run.proofs.run.answer_source.Goals as goal
 
-pub returns-in-Err-At : goal.returns-in-Err-At
-returns-in-Err-At c =
-    let line = c.in-Err-At.line in
-    let kind = c.in-Err-At.kind in
+pub returns-in-Err-Refused : goal.returns-in-Err-Refused
+returns-in-Err-Refused c =
+    let line = c.in-Err-Refused.found.line in
+    let kind = c.in-Err-Refused.found.kind in
     IfOk-weaker c.refusal.result (λ (answer : Answer). answer ≡ line_answer (verdict_line c.args.name.now line kind) (Refused line kind))
     (IsAnswerTo OneThread (run_request c.args.name.now c.args.lanes c.args.budget) (c.args.source.now ∷ []))
     (λ answer is. refusal line kind (record {
@@ -23,8 +23,8 @@ returns-in-Err-At c =
       source = c.args.source.now;
       want_is = refl;
       source_is = refl;
-      refused = subst (IsRefusal c.args.source.now) c.in-Err-At.field-0-is c.in-Err-At.ensures.refusal;
-      only = only-refusal c.args.source.now c.in-Err-At.field-0 line kind c.in-Err-At.field-0-is c.in-Err-At.ensures.only_tree c.in-Err-At.ensures.only_refusal;
+      refused = subst (IsRefusal c.args.source.now) c.in-Err-Refused.field-0-is c.in-Err-Refused.ensures.refusal;
+      only = only-refusal c.args.source.now c.in-Err-Refused.field-0 c.in-Err-Refused.found c.in-Err-Refused.field-0-is c.in-Err-Refused.ensures.only_tree c.in-Err-Refused.ensures.only_refusal;
       answer_is = is;
     }))
     c.refusal.ensures
