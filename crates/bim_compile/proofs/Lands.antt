@@ -101,7 +101,7 @@ marked line (Halts stop inner s) l = record { by = l.by }
 -- one instruction, then the rest
 pub instruct : {image : Image} {w : World} {A : Type 0} {k : Known} {to : A → State → Machine} {o : Out A} (i : Instruction) {address : ℕ} {work : Work} {here : Here} {s : State}
     → instruction_at image.code address ≡ Some i
-    → Lands image w k to (settle image w (act image.constants i here.slots work s.memory.store) (site_of i address) here s) o
+    → Lands image w k to (settle image w (act image i here.slots work s.memory.store) (site_of i address) here s) o
     → Lands image w k to (At address work here s) o
 instruct {o = o} i {address = address} {work = work} {here = here} {s = s} h l =
     onward (At address work here s) _ o (then_one i address work here s _ h (same _)) l

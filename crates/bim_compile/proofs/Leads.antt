@@ -21,7 +21,7 @@ chain {image = image} {w = w} _ _ c (then_step address work here s to p) q = the
 -- one instruction, then the rest
 pub then_one : {image : Image} {w : World} (i : Instruction) (address : ℕ) (work : Work) (here : Here) (s : State) (to : Machine)
     → instruction_at image.code address ≡ Some i
-    → Leads image w (settle image w (act image.constants i here.slots work s.memory.store) (site_of i address) here s) to
+    → Leads image w (settle image w (act image i here.slots work s.memory.store) (site_of i address) here s) to
     → Leads image w (At address work here s) to
 then_one {image = image} {w = w} i address work here s to h p =
     then_step address work here s to (subst (λ (m : Machine). Leads image w m to) (sym (ap (λ found. decoded image w found address work here s) h)) p)

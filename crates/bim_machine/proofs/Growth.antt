@@ -219,7 +219,7 @@ settle_later image w (Leaves result) site here s = leaves_later w here.callers r
 
 decoded_later : (image : Image) (w : World) (found : Option Instruction) (address : ℕ) (work : Work) (here : Here) (s : State) → Later w s (decoded image w found address work here s)
 decoded_later image w None address work here s = stays w s _ refl refl tt
-decoded_later image w (Some i) address work here s = settle_later image w (act image.constants i here.slots work s.memory.store) (site_of i address) here s
+decoded_later image w (Some i) address work here s = settle_later image w (act image i here.slots work s.memory.store) (site_of i address) here s
 
 -- after any number of steps
 pub run_later : (image : Image) (w : World) (n steps address : ℕ) (work : Work) (here : Here) (s : State) → Later w s (run image w n steps (At address work here s)).machine

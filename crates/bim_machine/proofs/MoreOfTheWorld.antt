@@ -107,7 +107,7 @@ decoded_more : (image : Image) (w : World) (replies : List Reply) (extra : ℕ) 
     → decoded image (more w replies extra) found address work here s ≡ decoded image w found address work here s
 decoded_more image w replies extra None address work here s g = refl
 decoded_more image w replies extra (Some i) address work here s g =
-    settle_more image w replies extra (act image.constants i here.slots work s.memory.store) (site_of i address) here s g
+    settle_more image w replies extra (act image i here.slots work s.memory.store) (site_of i address) here s g
 
 -- what goes on later went on before
 goes_before : (image : Image) (w : World) (n steps : ℕ) (m : Machine) → Goes (run image w n steps m).machine → Goes m

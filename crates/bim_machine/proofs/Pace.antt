@@ -242,7 +242,7 @@ step_fewer image w keeps address work here s = seen (instruction_at image.code a
         let two = next.1 in
         let within = spare_within many (instruction_at image.code (address + width i)) in
         let on : left_at image (address + width i) here.callers (ticks_left w s) < left_at image address here.callers (ticks_left w s) = omega (arith, one, two, within, spared) in
-        settled_fewer image w _ (act image.constants i here.slots work s.memory.store) (site_of i address) here s (ticks_left w s) refl
+        settled_fewer image w _ (act image i here.slots work s.memory.store) (site_of i address) here s (ticks_left w s) refl
         on (jumps i (named_address i) refl found spared on) (omega (arith, two, spared))
 
     by_instruction : (i : Instruction) → instruction_at image.code address ≡ Some i

@@ -26,7 +26,7 @@ site_of i address = record {
 abbrev pub decoded : Image → World → Option Instruction → ℕ → Work → Here → State → Machine
 decoded image w None address work here s = Over Stuck address s
 decoded image w (Some i) address work here s =
-    settle image w (act image.constants i here.slots work s.memory.store) (site_of i address) here s
+    settle image w (act image i here.slots work s.memory.store) (site_of i address) here s
 
 -- one step: an instruction is begun
 abbrev pub step : Image → World → ℕ → Work → Here → State → Machine

@@ -1,10 +1,11 @@
--- What each instruction asks of the machine, given the constants of its image, the places of the slots,
--- what is at hand, and the store. It changes none of them.
+-- What each instruction asks of the machine, given its image, whose tables it may look at, the places of
+-- the slots, what is at hand, and the store. It changes none of them.
 
 use Rattle.std.specs.Prelude.{ℕ, zero, suc, ℤ, Bool, true, false, List, [], ◌∷◌, ◌++◌, Option, Some, None, slice_get}
 use Rattle.mos_text.specs.declared.fault_kind.FaultKind.{FaultKind}
 use Rattle.mos_text.specs.declared.fault_kind.FaultKind.TheVariants.{Overflow, DivZero, Range, Empty, TooBig, Depth, OutFull, BadParam, EventClass, BadName, BadData, NoLabel}
 use Rattle.mos_text.specs.declared.scalar.Scalar.TheVariants.{Int, Bool as Truth, Str}
+use Rattle.bim_code.specs.declared.image.Image.{Image}
 use Rattle.bim_code.specs.declared.instruction.Comparison.{Comparison}
 use Rattle.bim_code.specs.declared.instruction.Comparison.TheVariants.{Equal, NotEqual, Less, AtMost, Greater, AtLeast}
 use Rattle.bim_code.specs.declared.instruction.Instruction.{Instruction}
@@ -115,24 +116,24 @@ abbrev pub global : ℕ → Place
 global slot = record { frame = 0; slot = slot }
 
 -- the act of each instruction
-abbrev pub act : List (List ℕ) → Instruction → List Place → Work → List (List Value) → Act
-act constants Tick slots work store = Ticks (On work)
-act constants (PushInt n) slots work store = On (push (One (Int n)) work)
-act constants (PushBool n) slots work store = on_some (truth_of_operand n) (λ b. On (push (One (Truth b)) work))
-act constants (PushText k) slots work store = on_some (slice_get constants k) (λ t. resulted (text t) work)
-act constants (LoadGlobal slot) slots work store = on_some (load (global slot) store) (λ value. On (push value work))
-act constants (StoreGlobal slot) slots work store = on_value work.stack work (λ value below. Puts ((global slot, value) ∷ []) below)
-act constants Swap slots work store =
+abbrev pub act : Image → Instruction → List Place → Work → List (List Value) → Act
+act image Tick slots work store = Ticks (On work)
+act image (PushInt n) slots work store = On (push (One (Int n)) work)
+act image (PushBool n) slots work store = on_some (truth_of_operand n) (λ b. On (push (One (Truth b)) work))
+act image (PushText k) slots work store = on_some (slice_get image.constants k) (λ t. resulted (text t) work)
+act image (LoadGlobal slot) slots work store = on_some (load (global slot) store) (λ value. On (push value work))
+act image (StoreGlobal slot) slots work store = on_value work.stack work (λ value below. Puts ((global slot, value) ∷ []) below)
+act image Swap slots work store =
     on_operand work.stack work (λ b rest. on_operand rest.stack rest (λ a below. On (with_stack (a ∷ b ∷ below.stack) below)))
-act constants Add slots work store = operate (between sum) 2 work
-act constants Subtract slots work store = operate (between difference) 2 work
-act constants (Compare comparison) slots work store = operate (between (compare (comparison_of comparison))) 2 work
-act constants (Jump address) slots work store = Jumps work
-act constants (JumpIf address) slots work store = on_truth work.stack work jumps_if
-act constants (JumpNot address) slots work store = on_truth work.stack work jumps_not
-act constants Show slots work store = operate show 1 work
-act constants Write slots work store = on_text work.stack work (λ t below. On (record below { held = below.held ++ t }))
-act constants Line slots work store =
+act image Add slots work store = operate (between sum) 2 work
+act image Subtract slots work store = operate (between difference) 2 work
+act image (Compare comparison) slots work store = operate (between (compare (comparison_of comparison))) 2 work
+act image (Jump address) slots work store = Jumps work
+act image (JumpIf address) slots work store = on_truth work.stack work jumps_if
+act image (JumpNot address) slots work store = on_truth work.stack work jumps_not
+act image Show slots work store = operate show 1 work
+act image Write slots work store = on_text work.stack work (λ t below. On (record below { held = below.held ++ t }))
+act image Line slots work store =
     on_truth work.stack work (λ newline below. Prints (below.held ++ line_end newline) (record below { held = [] }))
-act constants End slots work store = on_integer work.stack work (λ code below. Stops (Exits code))
-act constants (Fault kind) slots work store = on_some (own_fault kind) (λ k. Stops (Fails k))
+act image End slots work store = on_integer work.stack work (λ code below. Stops (Exits code))
+act image (Fault kind) slots work store = on_some (own_fault kind) (λ k. Stops (Fails k))

@@ -35,6 +35,13 @@ abbrev pub changed : Operator → Option Place → Value → State → Out Flow
 changed operator place value s =
     bind (loaded place s) (λ old s1. bind (answered (answer (between operator) (old ∷ value ∷ [])) s1) (λ new s2. assigned place new s2))
 
+-- Calls.
+
+-- what a procedure did; a function has a value, and is lost here
+abbrev pub no_value : Option Value → State → Out Flow
+no_value None s = Gave Goes s
+no_value (Some value) s = Halts Lost None s
+
 -- Printing.
 
 -- the text of a printed form
@@ -82,10 +89,10 @@ abbrev mutual
   effect_of w call names (write line newline all) env s = on_line line (ticking w s (λ s1. written w call names newline all env [] s1))
   effect_of w call names (perform line routine all) env s =
       on_line line (ticking w s (λ s1. bind (arguments_of w call names all env [] s1) (λ given s2.
-      bind (calling w call routine (reverse given) s2) (λ none s3. Gave Goes s3))))
+      bind (calling w call routine (reverse given) s2) no_value)))
   effect_of w call names (tell_hub line function all) env s =
       on_line line (ticking w s (λ s1. bind (arguments_of w call names all env [] s1) (λ given s2.
-      bind (asking w function (reverse given) s2) (λ none s3. Gave Goes s3))))
+      bind (asking w function (reverse given) s2) no_value)))
   effect_of w call names (if_ line all) env s = on_line line (ticking w s (λ s1. branch_of w call names all env s1))
   effect_of w call names (while_ line e body) env s =
       on_line line (ticking w s (λ s1. passes w (suc (w.budget - s1.counts.ticks)) (value_of w call names e env) (effect_of w call names body env) s1))

@@ -2,7 +2,7 @@
 -- reference, and a call of the hub. The meaning has them; the instructions that they want are written
 -- here, and the machine that carries them out settles their acts as it settles all others.
 
-use Rattle.std.specs.Prelude.{◌≡◌, ◌++◌, ℕ, ◌+◌, zero, suc, List, [], ◌∷◌, Option, Some, None, pos, true, false, codes, slice_get, unwrap_or, map}
+use Rattle.std.specs.Prelude.{◌≡◌, ◌++◌, ℕ, ◌+◌, zero, suc, Bool, List, [], ◌∷◌, Option, Some, None, pos, true, false, codes, slice_get, unwrap_or, map, replicate}
 use Rattle.mos_text.specs.declared.fault_kind.FaultKind.TheVariants.{Depth}
 use Rattle.mos_text.specs.declared.scalar.Scalar.TheVariants.{Int}
 use Rattle.job_calls.specs.declared.call.Call.{Call}
@@ -16,7 +16,7 @@ use Rattle.bim_code.specs.declared.instruction.Instruction.TheVariants.{Tick, Pu
 use Rattle.bim_code.specs.Rows.{named_address}
 use Rattle.mos_value.specs.Values.{Value, One, Place, Operand, Holds, Points, Walks, members_of}
 use Rattle.mos_value.specs.Answers.{sum, compare, not_equal, range}
-use Rattle.run_state.specs.Stops.{Outcome, Exited, Failed, Spent, Stopped, Asking, Stuck}
+use Rattle.run_state.specs.Stops.{Outcome, Exited, Failed, Spent, Stopped, Asking, Stuck, Lost}
 use Rattle.run_state.specs.State.{World, State}
 use Rattle.run_state.specs.Calls.{Once, Answer, Replied, Drained}
 use Rattle.run_state.specs.HubFunctions.{HubFunction, isqueueempty, Calling, Makes, Refuses, Unfit, call_of, HubResult, HasValue, NoValue, NoReply, result_of_reply}
@@ -24,7 +24,7 @@ use Rattle.run_state.specs.Places.{load}
 use Rattle.bim_machine.specs.Machine.{Work, Here, Machine, At, Over, Fails, Sticks, Act, On, Jumps, Stops, Puts, Asks, Enters, Leaves, push, settle}
 use Rattle.bim_machine.specs.Instructions.{on_some, on_value, with_stack, values_off, operate, global, act}
 use Rattle.bim_machine.specs.Courses.{start, told}
-use Rattle.mos_meaning.specs.Syntax.{Own, Model, number, variable, index, apply, range_of, sum_over, ask_hub, Arguments, no_argument, by_value, by_place, nothing, one_more, no_more, first, assign, change, write, perform, invoke, Body, Program}
+use Rattle.mos_meaning.specs.Syntax.{Own, Model, number, variable, index, apply, range_of, sum_over, ask_hub, Arguments, no_argument, by_value, by_place, nothing, one_more, no_more, Effect, first, assign, change, write, perform, tell_hub, invoke, Formal, Body, Program}
 use Rattle.mos_meaning.specs.Meaning.{meaning_of}
 
 -- The model.
@@ -35,11 +35,15 @@ one_and_three =
     by_value (sum_over (codes "i") (range_of (number (pos 1)) (number (pos 3)))
     (apply (compare not_equal) (index (codes "i")) (number (pos 2))) (index (codes "i"))) no_argument
 
+-- a formal of type integer
+abbrev pub whole : (shared : Bool) → Formal
+whole shared = record { shared = shared; default = One (Int (pos 0)) }
+
 -- procedure addto(r, n): y:=n, r+=y; r is shared with the caller
 abbrev pub addto : Body
 addto = record {
   own = codes "r" ∷ codes "n" ∷ codes "y" ∷ [];
-  formals = 2;
+  formals = whole true ∷ whole false ∷ [];
   defaults = One (Int (pos 0)) ∷ [];
   result = None;
   block = first (assign 3 Own (codes "y") (variable Own (codes "n"))) (first (change 4 sum Own (codes "r") (variable Own (codes "y"))) no_more);
@@ -62,7 +66,7 @@ example = record {
 abbrev pub endless_body : Body
 endless_body = record {
   own = codes "returned" ∷ [];
-  formals = 0;
+  formals = [];
   defaults = One (Int (pos 0)) ∷ [];
   result = Some (codes "returned");
   block = first (assign 3 Own (codes "returned") (invoke 0 no_argument)) no_more;
@@ -123,20 +127,20 @@ calls function (Refuses kind) work = Stops (Fails kind)
 calls function Unfit work = Stops Sticks
 
 -- the act of each
-abbrev pub wider_act : List (List ℕ) → Wider → List Place → Work → List (List Value) → Act
-wider_act constants (plain i) slots work store = act constants i slots work store
-wider_act constants (load_local slot) slots work store =
+abbrev pub wider_act : Image → Wider → List Place → Work → List (List Value) → Act
+wider_act image (plain i) slots work store = act image i slots work store
+wider_act image (load_local slot) slots work store =
     on_some (slice_get slots slot) (λ place. on_some (load place store) (λ value. On (push value work)))
-wider_act constants (store_local slot) slots work store =
+wider_act image (store_local slot) slots work store =
     on_some (slice_get slots slot) (λ place. on_value work.stack work (λ value below. Puts ((place, value) ∷ []) below))
-wider_act constants (refer_global slot) slots work store = On (with_stack (Points (global slot) ∷ work.stack) work)
-wider_act constants span slots work store = operate range 2 work
-wider_act constants walk slots work store =
+wider_act image (refer_global slot) slots work store = On (with_stack (Points (global slot) ∷ work.stack) work)
+wider_act image span slots work store = operate range 2 work
+wider_act image walk slots work store =
     on_value work.stack work (λ value below. on_some (members_of value) (λ xs. On (with_stack (Walks xs ∷ below.stack) below)))
-wider_act constants (step_to address) slots work store = steps work.stack work
-wider_act constants (call_routine routine) slots work store = Enters routine work
-wider_act constants return slots work store = returns work.stack
-wider_act constants (hub function many) slots work store =
+wider_act image (step_to address) slots work store = steps work.stack work
+wider_act image (call_routine routine) slots work store = Enters routine work
+wider_act image return slots work store = returns work.stack
+wider_act image (hub function many) slots work store =
     on_some (values_off many work.stack []) (λ (off : List Value × List Operand). calls function (call_of function off.0) (with_stack off.1 work))
 
 -- the address that one names; here the addresses are the places in the code
@@ -149,7 +153,7 @@ wider_named _ = None
 abbrev pub wider_decoded : Image → World → Option Wider → ℕ → Work → Here → State → Machine
 wider_decoded image w None address work here s = Over Stuck address s
 wider_decoded image w (Some i) address work here s =
-    settle image w (wider_act image.constants i here.slots work s.memory.store)
+    settle image w (wider_act image i here.slots work s.memory.store)
     (record { at = address; next = address + 1; named = unwrap_or (wider_named i) (address + 1) }) here s
 
 -- at most so many steps
@@ -266,3 +270,41 @@ abbrev pub EarlyIsStuck : Type 0
 EarlyIsStuck =
     told (wider_run too_deep_image early_code (record { replies = []; budget = 10 }) 10 (start (One (Int (pos 0)) ∷ [])))
     ≡ record { output = []; calls = []; ticks = 1; stop = Stuck }
+
+-- What no accepted model holds.
+
+-- procedure nothing
+abbrev pub idle_body : Body
+idle_body = record { own = []; formals = []; defaults = []; result = None; block = no_more }
+
+-- function nought
+abbrev pub nought_body : Body
+nought_body = record endless_body { block = no_more }
+
+-- one statement over a variable x and three routines: addto, a procedure and a function
+abbrev pub only : Effect → Program
+only effect = record example { bodies = addto ∷ idle_body ∷ nought_body ∷ []; block = first effect no_more }
+
+-- a procedure in the place of a function and a function in that of a procedure are lost, when the routine has
+-- ended; so are those of the hub, when they are answered
+abbrev pub OtherKindsAreLost : Type 0
+OtherKindsAreLost =
+    map (λ (effect : Effect). meaning_of (only effect) [] (reply.Flag true ∷ []) 9)
+    (assign 6 Model (codes "x") (invoke 1 no_argument)
+    ∷ perform 6 2 no_argument
+    ∷ tell_hub 6 isqueueempty no_argument
+    ∷ [])
+    ≡ record { output = []; calls = []; ticks = 2; stop = Lost }
+    ∷ record { output = []; calls = []; ticks = 2; stop = Lost }
+    ∷ record { output = []; calls = call.IsEmpty ∷ []; ticks = 1; stop = Lost }
+    ∷ []
+
+-- a value for a formal that is shared, a variable for one that is not, and too few arguments are lost
+abbrev pub OtherArgumentsAreLost : Type 0
+OtherArgumentsAreLost =
+    map (λ (all : Arguments). meaning_of (only (perform 6 0 all)) [] [] 9)
+    (by_value (number (pos 1)) (by_value (number (pos 2)) no_argument)
+    ∷ by_place Model (codes "x") (by_place Model (codes "x") no_argument)
+    ∷ by_place Model (codes "x") no_argument
+    ∷ [])
+    ≡ replicate 3 (record { output = []; calls = []; ticks = 2; stop = Lost })

@@ -29,7 +29,7 @@ write_total line e = write line true (one_more (sum_over (codes "i") e (truth tr
 abbrev pub replace : Body
 replace = record {
   own = codes "a" ∷ [];
-  formals = 1;
+  formals = record { shared = true; default = SetOf member.Integer [] } ∷ [];
   defaults = [];
   result = None;
   block =

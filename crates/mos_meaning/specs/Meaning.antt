@@ -1,7 +1,7 @@
 -- The meaning of a model: what it writes, which calls it makes, how many ticks it takes and how it
 -- ends, given its parameter text, the replies to its calls and its budget of ticks.
 
-use Rattle.std.specs.Prelude.{ℕ, zero, suc, pos, List, [], ◌++◌, Option, Some, None, map, length, slice_get, nat_eq, if◌then◌else◌}
+use Rattle.std.specs.Prelude.{ℕ, zero, suc, pos, Bool, true, false, not, ◌&&◌, List, [], ◌∷◌, ◌++◌, Option, Some, None, map, length, slice_get, if◌then◌else◌}
 use Rattle.mos_text.specs.declared.fault_kind.FaultKind.TheVariants.{Depth}
 use Rattle.mos_text.specs.declared.scalar.Scalar.{Scalar}
 use Rattle.job_calls.specs.declared.reply.Reply.{Reply}
@@ -9,9 +9,9 @@ use Rattle.mos_names.specs.NameLists.{Name, place_of}
 use Rattle.mos_value.specs.Values.{Value}
 use Rattle.run_state.specs.Stops.{Exited, Failed, Lost, Outcome}
 use Rattle.run_state.specs.State.{World, State, beginning, over, outcome_of, Out, Gave, Halts, bind}
-use Rattle.run_state.specs.Places.{Argument, by_values, argument_places, entered, left, most_calls}
+use Rattle.run_state.specs.Places.{Argument, ByValue, ByPlace, by_values, argument_places, entered, left, most_calls}
 use Rattle.run_state.specs.Parameters.{Parameter, given_values, with_values, refused}
-use Rattle.mos_meaning.specs.Syntax.{Own, Body, Program}
+use Rattle.mos_meaning.specs.Syntax.{Own, Formal, Body, Program}
 use Rattle.mos_meaning.specs.Values.{Names, Env, Routine, place_in, loaded}
 use Rattle.mos_meaning.specs.Effects.{Flow, effects_of}
 
@@ -30,11 +30,22 @@ body_of w call names body given s =
     let env : Env = record { bound = []; places = argument_places (length s.memory.store) 0 slots } in
     bind (effects_of w call inner body.block env (over (entered slots s.memory.store) s)) (λ flow s1. result_of inner env body.result s1)
 
--- there is such a routine, and it takes so many arguments
+-- a variable that is shared, or a value for a formal that is not
+abbrev pub takes : Formal → Argument → Bool
+takes formal (ByValue value) = not formal.shared
+takes formal (ByPlace place) = formal.shared
+
+-- an argument for each formal
+abbrev pub takes_all : List Formal → List Argument → Bool
+takes_all [] [] = true
+takes_all (formal ∷ formals) (argument ∷ arguments) = takes formal argument && takes_all formals arguments
+takes_all _ _ = false
+
+-- there is such a routine, and it takes these arguments
 abbrev pub found : Option Body → World → Routine → Names → List Argument → State → Out (Option Value)
 found None w call names given s = Halts Lost None s
 found (Some body) w call names given s =
-    if nat_eq (length given) body.formals then body_of w call names body given s else Halts Lost None s
+    if takes_all body.formals given then body_of w call names body given s else Halts Lost None s
 
 -- the names of a model, outside of routines
 abbrev pub names_of : Program → Names

@@ -66,11 +66,17 @@ mutual
     no_more : Block
     first : Effect → Block → Block
 
--- a routine: its formals and then its variables by name, how many of these are formals, the defaults of
--- the others, the variable that holds its result if it is a function, and its statements
+-- a formal of a routine: whether it is shared with the caller, and the default of its type, which says its
+-- type as that of a variable does
+pub record Formal : Type 0 where
+  pub shared : Bool
+  pub default : Value
+
+-- a routine: its formals and then its variables by name, its formals, the defaults of its variables, the
+-- variable that holds its result if it is a function, and its statements
 pub record Body : Type 0 where
   pub own : List Name
-  pub formals : ℕ
+  pub formals : List Formal
   pub defaults : List Value
   pub result : Option Name
   pub block : Block

@@ -109,7 +109,7 @@ sums w condition body (x ∷ xs) sofar s =
     (sums w condition body xs sofar s2)))
 
 abbrev mutual
-  -- the value of an expression
+  -- the value of an expression; where a procedure stands in the place of a function, it is lost
   pub value_of : World → Routine → Names → Expression → Env → State → Out Value
   value_of w call names (number n) env s = Gave (One (Int n)) s
   value_of w call names (text t) env s = answered (how.text t) s
@@ -124,9 +124,9 @@ abbrev mutual
       bind (value_of w call names set env s) (λ v s1. bind (or_stop Stuck (members_of v) s1) (λ xs s2.
       sums w (λ x. value_of w call names condition (with_index i x env)) (λ x. value_of w call names body (with_index i x env)) xs (One (Int (pos 0))) s2))
   value_of w call names (invoke routine all) env s =
-      bind (arguments_of w call names all env [] s) (λ given s1. bind (calling w call routine (reverse given) s1) (λ v s2. or_stop Stuck v s2))
+      bind (arguments_of w call names all env [] s) (λ given s1. bind (calling w call routine (reverse given) s1) (λ v s2. or_stop Lost v s2))
   value_of w call names (ask_hub function all) env s =
-      bind (arguments_of w call names all env [] s) (λ given s1. bind (asking w function (reverse given) s1) (λ v s2. or_stop Stuck v s2))
+      bind (arguments_of w call names all env [] s) (λ given s1. bind (asking w function (reverse given) s1) (λ v s2. or_stop Lost v s2))
   value_of w call names unbuilt env s = Halts Lost None s
 
   -- arguments in their order, on top of those so far, the last first

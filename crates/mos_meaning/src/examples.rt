@@ -1,6 +1,6 @@
 //! Worked examples of the definitions: functions that do nothing, whose contracts are the examples.
 ghost use Rattle.mos_meaning.specs.Examples.{HelloMeans, HelloSpent, HelloRefused, FiveMeans, TooMuchMeans, LastWayMeans, ParameterMeans, DownMeans, DownSpent, DownEnough, EndlessSpent, UntilTwoMeans, HelloCourse, HelloCourseSpent, ParameterCourses, MeaninglessOperands, HelloFollows, TooFewLines, NoModel, AnotherSource};
-ghost use Rattle.mos_meaning.specs.FormsToCome.{ExampleMeans, ExampleAgrees, TooDeepMeans, TooDeepAgrees, EarlyIsStuck};
+ghost use Rattle.mos_meaning.specs.FormsToCome.{ExampleMeans, ExampleAgrees, TooDeepMeans, TooDeepAgrees, EarlyIsStuck, OtherKindsAreLost, OtherArgumentsAreLost};
 ghost use Rattle.mos_meaning.specs.FreshSets.{CopyMeans, CopyAgrees, SomeMeans};
 
 /// What a few models mean.
@@ -32,13 +32,16 @@ pub fn courses()
 {}
 
 /// A model with an aggregate, a routine by reference and a call of the hub: what it means, and that the
-/// machine does the same; calls that are too deep; and a function that leaves without its value.
+/// machine does the same; calls that are too deep; a function that leaves without its value; and routines
+/// and arguments of a kind that is not wanted.
 pub fn forms_to_come()
     ensures means { ExampleMeans }
     ensures agrees { ExampleAgrees }
     ensures too_deep { TooDeepMeans }
     ensures too_deep_agrees { TooDeepAgrees }
     ensures early_is_stuck { EarlyIsStuck }
+    ensures other_kinds_are_lost { OtherKindsAreLost }
+    ensures other_arguments_are_lost { OtherArgumentsAreLost }
 {}
 
 /// A model that passes a set as a fresh value to a routine that changes it, and sends a message: what

@@ -2,6 +2,7 @@
 -- has done with the operands what it does.
 
 use Rattle.std.specs.Prelude.{◌≡◌, ℕ, List, [], ◌∷◌, Option, Some, None}
+use Rattle.bim_code.specs.declared.image.Image.{Image}
 use Rattle.bim_code.specs.declared.instruction.Instruction.{Instruction}
 use Rattle.mos_value.specs.Values.{Value}
 use Rattle.mos_value.specs.Answers.{Result, Gives, Faults, Sticks as NoAnswer}
@@ -29,13 +30,17 @@ act_of (asked.Puts slot value) work = Puts ((global slot, value) ∷ []) work
 act_of asked.Prints work = Prints work.held (record work { held = [] })
 act_of asked.Ticks work = Ticks (On work)
 
--- the instruction asks for that, with these constants and these values in the global slots
-abbrev pub Asks : List (List ℕ) → Instruction → List Value → Work → Asked → Work → Type 0
-Asks constants i globals before asked after = act constants i [] before (globals ∷ []) ≡ act_of asked after
+-- the instruction asks for that, in this image and with these values in the global slots
+abbrev pub Asks : Image → Instruction → List Value → Work → Asked → Work → Type 0
+Asks image i globals before asked after = act image i [] before (globals ∷ []) ≡ act_of asked after
+
+-- an image in which there is nothing
+abbrev pub blank : Image
+blank = record { constants = []; types = []; params = []; globals = []; routines = []; points = []; code = [] }
 
 -- the same for an instruction that looks at neither
 abbrev pub AsksAnywhere : Instruction → Work → Asked → Work → Type 0
-AsksAnywhere i before asked after = Asks [] i [] before asked after
+AsksAnywhere i before asked after = Asks blank i [] before asked after
 
 -- the answer of an operator or a function
 abbrev pub result_of : Answer → Result

@@ -44,7 +44,7 @@ Settles budget asked before control after = (image : Image) (site : Site)
 abbrev pub IsStep : Image → ℕ → Instruction → Kept → Control → Kept → Type 0
 IsStep image budget i before control after = (site : Site)
     → settle image (world budget)
-    (act image.constants i main.slots before.work before.state.memory.store) site main before.state
+    (act image i main.slots before.work before.state.memory.store) site main before.state
     ≡ machine_after site control after
 
 -- the result of a machine that stopped so, after so many steps

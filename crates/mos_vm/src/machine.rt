@@ -84,7 +84,7 @@ impl Machine {
         let asked = carry_out(
             alloc,
             &mut self.work,
-            image.constants.as_slice(),
+            image,
             self.globals.as_slice(),
             instruction,
         )?;

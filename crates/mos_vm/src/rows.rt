@@ -2,32 +2,32 @@
 ghost use Rattle.std.specs.Prelude.{◌≡◌, [], IfOk};
 ghost use Rattle.bim_machine.specs.Machine.{Work as Hand};
 ghost use Rattle.bim_machine.specs.Instructions.{resulted, truth_of_operand, own_fault};
-ghost use Rattle.mos_vm.specs.Rows.{Asks, AsksAnywhere, act_of, result_of};
+ghost use Rattle.mos_vm.specs.Rows.{Asks, AsksAnywhere, blank, act_of, result_of};
 
 use crate::answers::{Answer, comparison, difference, printed_text, sum, text};
 use crate::asked::{Asked, Halt};
 use crate::value::Value;
 use crate::work::Work;
-use bim_code::{Comparison, Instruction};
-use mos_text::{FaultKind, NoMemory, Scalar, Text};
+use bim_code::{Comparison, Image, Instruction};
+use mos_text::{FaultKind, NoMemory, Scalar};
 use std::alloc::Global;
 
 /// Carries out an instruction over what is at hand, and says what it asks for.
 pub(crate) fn carry_out(
     alloc: Global,
     work: &mut Work,
-    constants: &[Text],
+    image: &Image,
     globals: &[Value],
     instruction: Instruction,
 ) -> Result<Asked, NoMemory>
     ensures { IfOk result
-        (λ asked. Asks constants.now instruction globals.now work.old asked work.new) }
+        (λ asked. Asks image.now instruction globals.now work.old asked work.new) }
 {
     match instruction {
         Instruction::Tick => Ok(Asked::Ticks),
         Instruction::PushInt(number) => push_integer(work, number),
         Instruction::PushBool(number) => push_truth(work, number),
-        Instruction::PushText(constant) => push_text(alloc, work, constants, constant),
+        Instruction::PushText(constant) => push_text(alloc, work, image, constant),
         Instruction::LoadGlobal(slot) => load(alloc, work, globals, slot),
         Instruction::StoreGlobal(slot) => Ok(store(work, slot)),
         Instruction::Swap => swap(work),
@@ -94,13 +94,13 @@ fn truth_of_operand(number: u32) -> Option<bool>
 fn push_text(
     alloc: Global,
     work: &mut Work,
-    constants: &[Text],
+    image: &Image,
     constant: u32,
 ) -> Result<Asked, NoMemory>
     ensures { IfOk result
-        (λ asked. Asks constants.now (Instruction.PushText constant) [] work.old asked work.new) }
+        (λ asked. Asks image.now (Instruction.PushText constant) [] work.old asked work.new) }
 {
-    match sqlite_items::at(constants, constant as usize) {
+    match sqlite_items::at(image.constants.as_slice(), constant as usize) {
         Some(found) => answered(work, text(found.copy(alloc)?)),
         None => Ok(Asked::Stops(Halt::Sticks)),
     }
@@ -108,7 +108,7 @@ fn push_text(
 
 fn load(alloc: Global, work: &mut Work, globals: &[Value], slot: u32) -> Result<Asked, NoMemory>
     ensures { IfOk result
-        (λ asked. Asks [] (Instruction.LoadGlobal slot) globals.now work.old asked work.new) }
+        (λ asked. Asks blank (Instruction.LoadGlobal slot) globals.now work.old asked work.new) }
 {
     match sqlite_items::at(globals, slot as usize) {
         Some(value) => {

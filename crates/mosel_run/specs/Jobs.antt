@@ -30,8 +30,8 @@ pub record Model : Type 0 where
   pub tree : Tree
   pub image : Image
 
--- the source has this tree and no other; the image means it, keeps the rules of images, and has a file that
--- can hold it
+-- the source has this tree and no other; the image means it, keeps the rules of images but for those on
+-- stacks, and has a file that can hold it
 pub record IsModelOf (source : List ℕ) (model : Model) : Type 0 where
   pub accepted : IsAccepted source model.tree
   pub only : IsOnlyTree source model.tree

@@ -12,7 +12,7 @@ pub data Stop : Type 0 where
   Stopped : Stop  -- it was asked to
   Asking : (call : Call) → Stop  -- no reply was left for this call
   Stuck : Stop  -- a value or an instruction did not find what it wants: no accepted model does this
-  Lost : Stop  -- a name, a routine or a pass was not there: no model whose names are bound does this
+  Lost : Stop  -- a name, a routine of that kind or a pass was not there: no accepted model does this
 
 -- what can be told of a run from outside
 pub record Outcome : Type 0 where
