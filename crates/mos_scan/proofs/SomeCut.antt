@@ -26,9 +26,6 @@ use Rattle.mos_scan.proofs.Scans.{end_model}
 abbrev place_at : ℕ → Option ℕ
 place_at n = Some n
 
-abbrev no_place : Option ℕ
-no_place = None
-
 begun : (c : ℕ) (xs : List ℕ) → begins_with c xs ≡ true → 0 < length xs
 begun c [] e = absurd cc
 begun c (x ∷ xs) e = omega arith
@@ -60,12 +57,12 @@ gap_long (a ∷ bs) m e = on_bool (is_blank a)
     let r = comment_long 2 (drop 1 bs) m q in
     let s = begun 33 bs (and_parts (a == 40) (begins_with 33 bs) h).1 in
     (omega (arith, r.0), omega (arith, r.1, s, length-drop 1 bs)))
-    (λ h. let q : no_place ≡ place_at m = sym (rw (b, l, h) refl) ∙ e in absurd cc)))
+    (λ h. let q : None ≡ place_at m = sym (rw (b, l, h) refl) ∙ e in absurd cc)))
 
 -- ---- a cut of all bytes, or up to a fault
 
-abbrev CutOrStops : List ℕ → Type 0
-CutOrStops bytes = ((parts : List Part) × (left : List ℕ) × Whole bytes left parts) ⊎ ((place : ℕ) × (kind : Kind) × Stops bytes place kind)
+abbrev Ends : List ℕ → Type 0
+Ends bytes = ((parts : List Part) × (left : List ℕ) × Whole bytes left parts) ⊎ ((place : ℕ) × (kind : Kind) × Stops bytes place kind)
 
 whole_ahead : (x : Part) (bytes rest left : List ℕ) (parts : List Part) → bytes ≡ text_of x ++ rest → IsPart x rest → is_end x ≡ false → Whole rest left parts → Whole bytes left (x ∷ parts)
 whole_ahead x bytes rest left parts e part not_end (up_to_the_end xs cuts nothing) = up_to_the_end (x ∷ xs) (rest, e, part, not_end, cuts) nothing
@@ -82,16 +79,16 @@ stops_ahead x bytes rest place kind e part not_end s = record {
   there = omega (arith, s.there, ap length e, length-append (text_of x) rest);
 }
 
-ahead : (x : Part) (bytes rest : List ℕ) → bytes ≡ text_of x ++ rest → IsPart x rest → is_end x ≡ false → CutOrStops rest → CutOrStops bytes
+ahead : (x : Part) (bytes rest : List ℕ) → bytes ≡ text_of x ++ rest → IsPart x rest → is_end x ≡ false → Ends rest → Ends bytes
 ahead x bytes rest e part not_end (inl w) = inl (x ∷ w.0, w.1, whole_ahead x bytes rest w.1 w.0 e part not_end w.2)
 ahead x bytes rest e part not_end (inr s) = inr (length (text_of x) + s.0, s.1, stops_ahead x bytes rest s.0 s.1 e part not_end s.2)
 
 -- what holds of shorter bytes
 abbrev Shorter : ℕ → Type 0
-Shorter n = (rest : List ℕ) → length rest ≤ n → CutOrStops rest
+Shorter n = (rest : List ℕ) → length rest ≤ n → Ends rest
 
 by_token : (n : ℕ) (bytes : List ℕ) → length bytes ≤ suc n → Shorter n → gap_at bytes ≡ None → fault_at bytes ≡ None
-    → (kind : TokenKind) (m : ℕ) → Longest bytes kind m → CutOrStops bytes
+    → (kind : TokenKind) (m : ℕ) → Longest bytes kind m → Ends bytes
 by_token n bytes small again no_gap no_fault kind m l =
     let is : IsToken kind l.text l.rest = record {
       no_gap = subst (λ z. gap_at z ≡ None) l.parts no_gap;
@@ -104,12 +101,12 @@ by_token n bytes small again no_gap no_fault kind m l =
     (λ q. ahead (token kind l.text) bytes l.rest l.parts is q
     (again l.rest (omega (arith, small, l.some, l.long, ap length l.parts, length-append l.text l.rest))))
 
-by_fault : (n : ℕ) (bytes : List ℕ) → bytes ≢ [] → length bytes ≤ suc n → Shorter n → gap_at bytes ≡ None → (o : Option (Kind × ℕ)) → fault_at bytes ≡ o → CutOrStops bytes
+by_fault : (n : ℕ) (bytes : List ℕ) → bytes ≢ [] → length bytes ≤ suc n → Shorter n → gap_at bytes ≡ None → (o : Option (Kind × ℕ)) → fault_at bytes ≡ o → Ends bytes
 by_fault n bytes some small again no_gap None e = by_token n bytes small again no_gap e (token_at bytes).0 (token_at bytes).1 (longest_at bytes some e)
 by_fault n bytes some small again no_gap (Some (kind, offset)) e =
     inr (offset, kind, record { parts = []; left = bytes; cuts = refl; no_gap = no_gap; offset = offset; fault = e; there = omega arith })
 
-by_gap : (n : ℕ) (bytes : List ℕ) → bytes ≢ [] → length bytes ≤ suc n → Shorter n → (o : Option ℕ) → gap_at bytes ≡ o → CutOrStops bytes
+by_gap : (n : ℕ) (bytes : List ℕ) → bytes ≢ [] → length bytes ≤ suc n → Shorter n → (o : Option ℕ) → gap_at bytes ≡ o → Ends bytes
 by_gap n bytes some small again None e = by_fault n bytes some small again e (fault_at bytes) refl
 by_gap n bytes some small again (Some m) e =
     let long = gap_long bytes m e in
@@ -119,7 +116,7 @@ by_gap n bytes some small again (Some m) e =
     ahead (gap (take m bytes)) bytes (drop m bytes) parts is refl
     (again (drop m bytes) (omega (arith, small, long.0, ap length parts, so_long, length-append (take m bytes) (drop m bytes))))
 
-end_of : (n : ℕ) (bytes : List ℕ) → length bytes ≤ n → CutOrStops bytes
+end_of : (n : ℕ) (bytes : List ℕ) → length bytes ≤ n → Ends bytes
 end_of n [] small = inl ([], [], up_to_the_end [] refl refl)
 end_of zero (b ∷ bs) small = absurd (omega (arith, small))
 end_of (suc n) (b ∷ bs) small = by_gap n (b ∷ bs) (λ q. cc) small (end_of n) (gap_at (b ∷ bs)) refl
@@ -140,9 +137,9 @@ of_stop bytes place kind s = on_bool (nat_le (utf8_valid_len bytes) place)
     (λ e. inr (utf8_valid_len bytes, k.Utf8, no_utf8 (place + 1) (read_to_fault place kind s) (omega (arith, leb-true (utf8_valid_len bytes) place e))))
     (λ e. inr (place, kind, no_token place kind s (omega (arith, leb-false (utf8_valid_len bytes) place e))))
 
-of_cut : (bytes : List ℕ) → CutOrStops bytes → HasOne bytes
-of_cut bytes (inl w) = of_whole bytes w.1 w.0 w.2
-of_cut bytes (inr s) = of_stop bytes s.0 s.1 s.2
+of_ends : (bytes : List ℕ) → Ends bytes → HasOne bytes
+of_ends bytes (inl w) = of_whole bytes w.1 w.0 w.2
+of_ends bytes (inr s) = of_stop bytes s.0 s.1 s.2
 
 pub some_list_or_fault : SomeListOrFault
-some_list_or_fault bytes = of_cut bytes (end_of (length bytes) bytes (omega arith))
+some_list_or_fault bytes = of_ends bytes (end_of (length bytes) bytes (omega arith))
