@@ -1,8 +1,9 @@
 #!/usr/bin/env python3
 """Times sets that grow by one member at a time and are asked for each, here, in Lua and in Python:  python3 bench/values.py PROGRAM
 
-PROGRAM is the built program of crates/tests_value (`rt run` there leaves it in out/). For each size each is
-run three times, by turns, and the least time counts. A peer that is not installed is left out.
+PROGRAM is the built program of crates/tests_value (`rt run` there leaves it in out/). Each is run three times, by turns, and the
+least time counts, without what the same words take for a set of no members. A row has nanoseconds a member, built and asked,
+and the ratio to the quicker of the two peers. A peer that is not installed is left out.
 """
 import shutil
 import subprocess
@@ -11,16 +12,21 @@ import time
 from pathlib import Path
 
 TURNS = 3
-SIZES = (1_000, 10_000, 100_000, 1_000_000)
-LONGEST = 20.0
+SIZES = (10_000, 100_000, 1_000_000)
+LONGEST = 60.0
 
 # what a member is made of a number by, in Lua and in Python
-KEYS = {"grow": ("i", "i"), "grow-texts": ("tostring(i)", "str(i)")}
+KEYS = {"grow": ("i", "i"), "grow-mixed": ("i * 7919", "i * 7919"), "grow-texts": ("tostring(i)", "str(i)")}
 LUA = """local s = {} for i = 0, N - 1 do s[KEY] = true end
 local f = 0 for i = 0, N - 1 do if s[KEY] then f = f + 1 end end print(f)"""
-PYTHON = """s = set()
-for i in range(N): s.add(KEY)
-print(sum(1 for i in range(N) if KEY in s))"""
+PYTHON = """def run():
+    s = set()
+    for i in range(N): s.add(KEY)
+    f = 0
+    for i in range(N):
+        if KEY in s: f += 1
+    print(f)
+run()"""
 
 
 def filled(program, key, size):
@@ -47,12 +53,14 @@ def seconds(words, given, size):
     return took
 
 
-def least(words, given, size):
-    """The least time of some turns, or none where one takes too long."""
-    try:
-        return min(seconds(words, given, size) for _ in range(TURNS))
-    except subprocess.TimeoutExpired:
-        return None
+def least(program, subject, size):
+    """Each peer's least time of some turns, which go round."""
+    best = {}
+    for _ in range(TURNS):
+        for name, (words, given) in commands(program, subject, size).items():
+            took = seconds(words, given, size)
+            best[name] = min(took, best.get(name, took))
+    return best
 
 
 def main(words):
@@ -61,11 +69,12 @@ def main(words):
         return 2
     program = str(Path(words[0]).resolve())
     for subject in KEYS:
+        idle = least(program, subject, 0)
         for size in SIZES:
-            for name, (command, given) in commands(program, subject, size).items():
-                took = least(command, given, size)
-                shown = "too long" if took is None else f"{took:8.3f} s  {took / size * 1e9:9.0f} ns a member"
-                print(f"{subject:10} {size:>9} {name:8} {shown}", flush=True)
+            took = {name: (best - idle[name]) / size * 1e9 for name, best in least(program, subject, size).items()}
+            peer = min(ns for name, ns in took.items() if name != "mosel")
+            shown = "".join(f"{name} {ns:6.0f}   " for name, ns in took.items())
+            print(f"{subject:10} {size:>9}   {shown}ratio {took['mosel'] / peer:.2f}", flush=True)
     return 0
 
 

@@ -1,5 +1,5 @@
 -- when items make a collection
-use Rattle.std.proofs.Common.{◌≡◌, ℕ, ◌<◌, ◌≤◌, Bool, true, false, List, Result, Ok, Err, length, refl, ap, sym, ◌∙◌, ⊎_elim, true≢false, arith, if◌then◌else◌}
+use Rattle.std.proofs.Common.{◌≡◌, ◌<◌, ◌≤◌, Bool, true, false, List, Result, Ok, Err, length, refl, ap, sym, ◌∙◌, ⊎_elim, true≢false, arith, if◌then◌else◌}
 use Rattle.std.specs.Prelude.{nat_le}
 use Rattle.std.proofs.lemmas.Bool.{leb-true, le-leb}
 use Rattle.std.proofs.lemmas.Bool.Decides.{leb_tells}
@@ -26,12 +26,14 @@ collection_many items many = ap (λ (b : Bool). if b then Ok items else Err TooB
 pub collection_is : (items made : List Scalar) → collection_of items ≡ Ok made → (made ≡ items) × (length items ≤ collection_limit)
 collection_is items made is = by (nat_le (length items) collection_limit) refl is
   where
-    by : (b : Bool) → nat_le (length items) collection_limit ≡ b → (if b then Ok items else Err TooBig) ≡ Ok made → (made ≡ items) × (length items ≤ collection_limit)
+    by : (b : Bool) → nat_le (length items) collection_limit ≡ b
+        → (if b then Ok items else Err TooBig) ≡ Ok made → (made ≡ items) × (length items ≤ collection_limit)
     by true few e = (cc, leb-true (length items) collection_limit few)
     by false few e = cc
 
 -- and where some are too many, more are
-pub collection_further : (items more : List Scalar) (kind : FaultKind) → length items ≤ length more → collection_of items ≡ Err kind → collection_of more ≡ Err kind
+pub collection_further : (items more : List Scalar) (kind : FaultKind) → length items ≤ length more
+    → collection_of items ≡ Err kind → collection_of more ≡ Err kind
 collection_further items more kind longer is = by (nat_le (length items) collection_limit) refl is
   where
     many : nat_le (length items) collection_limit ≡ false → collection_limit < length more
@@ -41,10 +43,13 @@ collection_further items more kind longer is = by (nat_le (length items) collect
     by true few e = cc
     by false few e = collection_many more (many few) ∙ e
 
-pub cause_further : (items more : List Scalar) → length items ≤ length more → (fault : ValueFault) → IsCause fault (collection_of items) → IsCause fault (collection_of more)
+-- so a call that is refused one item more is refused all that come
+pub cause_further : (items more : List Scalar) → length items ≤ length more
+    → (fault : ValueFault) → IsCause fault (collection_of items) → IsCause fault (collection_of more)
 cause_further items more longer (Fault kind) is = collection_further items more kind longer is
 cause_further items more longer NoMemory is = tt
 
+-- a refusal has its cause
 pub refused_by : {A : Type 0} (fault : ValueFault) (defined : Result A FaultKind) → IsCause fault defined → UpToMemory (Err fault) defined
 refused_by (Fault kind) defined is = is
 refused_by NoMemory defined is = tt

@@ -3,6 +3,7 @@ mod NumberLemmas
 mod TextOrder
 pub mod CollectionLemmas
 mod SetLemmas
+mod IndexLemmas
 mod SetLaws
 mod RangeLemmas
 mod RangeLaws

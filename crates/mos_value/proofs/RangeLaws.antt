@@ -1,13 +1,12 @@
 -- the laws of ranges
-use Rattle.std.proofs.Common.{◌≡◌, ℕ, zero, suc, ◌+◌, ℤ, pos, negsuc, ◌+ℤ◌, ◌-ℤ◌, Bool, true, false, List, [], ◌∷◌, length, refl, ap, sym, ◌∙◌, true≢false, arith, ⊎_elim, inl, inr}
-use Rattle.std.specs.Prelude.{◌≤ℤ◌, ◌<ℤ◌, ◌||◌, ◌⊎◌, int_lt}
+use Rattle.std.proofs.Common.{◌≡◌, ℕ, zero, suc, ℤ, pos, ◌+ℤ◌, Bool, true, false, length, refl, ap, sym, ◌∙◌, true≢false, arith, ⊎_elim}
+use Rattle.std.specs.Prelude.{◌≤ℤ◌, ◌<ℤ◌, ◌||◌}
 use Rattle.std.specs.Ordering.{int_eq}
 use Rattle.std.proofs.lemmas.Int.{ints}
 use Rattle.std.proofs.lemmas.Bool.Decides.{Decides-int_eq}
-use Rattle.mos_text.specs.declared.scalar.Scalar.{Scalar}
 use Rattle.mos_text.specs.declared.scalar.Scalar.TheVariants.{Int}
 use Rattle.mos_value.specs.Values.{integers_from}
-use Rattle.mos_value.specs.Sets.{has_member, IsSet, set_from}
+use Rattle.mos_value.specs.Sets.{has_member, IsSet}
 use Rattle.mos_value.specs.Ranges.{range_count, range_members}
 use Rattle.mos_value.specs.Laws.{RangeHasItsSize, RangeHasJustBetween}
 use Rattle.mos_value.proofs.SetLaws.{set_stays}
@@ -19,7 +18,8 @@ between x n zero is = absurd (true≢false (sym is))
 between x n (suc many) is =
     by (int_eq x n) refl (λ e. between x (n +ℤ pos 1) many (ap (λ b. b || has_member (Int x) (integers_from (n +ℤ pos 1) many)) (sym e) ∙ is))
   where
-    by : (same : Bool) → int_eq x n ≡ same → (int_eq x n ≡ false → ((n +ℤ pos 1) ≤ℤ x) × (x <ℤ ((n +ℤ pos 1) +ℤ pos many))) → (n ≤ℤ x) × (x <ℤ (n +ℤ pos (suc many)))
+    by : (same : Bool) → int_eq x n ≡ same
+        → (int_eq x n ≡ false → ((n +ℤ pos 1) ≤ℤ x) × (x <ℤ ((n +ℤ pos 1) +ℤ pos many))) → (n ≤ℤ x) × (x <ℤ (n +ℤ pos (suc many)))
     by true e rest =
         let equal = (Decides-int_eq x n).0 e in
         (omega (arith, ints, equal), omega (arith, ints, equal))
@@ -41,7 +41,7 @@ among x n (suc many) low high = by (int_eq x n) refl (λ more. among x (n +ℤ p
     by true e rest = refl
     by false e rest = rest (higher (λ equal. true≢false (sym ((Decides-int_eq x n).1 equal) ∙ e)))
 
-IsSet-integers_from : (n : ℤ) (many : ℕ) → IsSet (integers_from n many)
+pub IsSet-integers_from : (n : ℤ) (many : ℕ) → IsSet (integers_from n many)
 IsSet-integers_from n zero = tt
 IsSet-integers_from n (suc many) = (by (has_member (Int n) (integers_from (n +ℤ pos 1) many)) refl, IsSet-integers_from (n +ℤ pos 1) many)
   where

@@ -1,5 +1,5 @@
 -- how many integers a range has, and which comes first
-use Rattle.std.proofs.Common.{◌≡◌, ℕ, zero, suc, ◌<◌, ◌≤◌, ◌+◌, ℤ, pos, negsuc, ◌+ℤ◌, ◌-ℤ◌, Bool, true, false, List, [], ◌∷◌, ◌++◌, length, refl, ap, sym, ◌∙◌, arith, inl, inr, append_assoc, length-append}
+use Rattle.std.proofs.Common.{◌≡◌, ℕ, zero, suc, ◌<◌, ◌≤◌, ℤ, pos, negsuc, ◌+ℤ◌, ◌-ℤ◌, Bool, true, false, List, [], ◌∷◌, ◌++◌, length, refl, ap, sym, ◌∙◌, arith, inl, inr, append_assoc, length-append}
 use Rattle.std.specs.Prelude.{◌≤ℤ◌, ◌<ℤ◌, ◌⊎◌, int_lt}
 use Rattle.std.proofs.lemmas.Int.{ints}
 use Rattle.std.proofs.lemmas.List.{append-nil}
@@ -54,6 +54,28 @@ range_members-first first last h = ap (integers_from first) (count-first first l
 pub range_members-none : (first last : ℤ) → last <ℤ first → range_members first last ≡ []
 range_members-none first last h = ap (integers_from first) (count_none first last h)
 
+-- one integer
+pub range_members-one : (n : ℤ) → range_members n n ≡ Int n ∷ []
+range_members-one n =
+    range_members-first n n (omega (arith, ints)) ∙ ap (λ rest. Int n ∷ rest) (range_members-none (n +ℤ pos 1) n (omega (arith, ints)))
+
+integers_from-last : (n : ℤ) (many : ℕ) → integers_from n (suc many) ≡ integers_from n many ++ Int (n +ℤ pos many) ∷ []
+integers_from-last n zero = let same : n ≡ n +ℤ pos 0 = omega (arith, ints) in ap (λ m. Int m ∷ []) same
+integers_from-last n (suc many) =
+    let same : (n +ℤ pos 1) +ℤ pos many ≡ n +ℤ pos (suc many) = omega (arith, ints) in
+    ap (λ rest. Int n ∷ rest) (integers_from-last (n +ℤ pos 1) many)
+    ∙ ap (λ m. (Int n ∷ integers_from (n +ℤ pos 1) many) ++ Int m ∷ []) same
+
+-- the integers up to the next one are those before it, and it behind them
+pub range_members-last : (first last next : ℤ) → first ≤ℤ last → next ≡ last +ℤ pos 1
+    → range_members first next ≡ range_members first last ++ Int next ∷ []
+range_members-last first last next some is =
+    let end = count_end first last some in
+    let further = count_end first next (omega (arith, ints, some, is)) in
+    let more : range_count first next ≡ suc (range_count first last) = omega (arith, ints, end, further, is) in
+    ap (integers_from first) more
+    ∙ (integers_from-last first (range_count first last) ∙ ap (λ m. range_members first last ++ Int m ∷ []) (end ∙ sym is))
+
 pub length-range_members : (first last : ℤ) → length (range_members first last) ≡ range_count first last
 length-range_members first last = length-integers_from first (range_count first last)
 
@@ -66,7 +88,8 @@ range-step members after first last n next x some e same added so_far =
     ∙ (ap (λ y. members ++ Int y ∷ range_members (n +ℤ pos 1) last) same ∙ (ap (λ rest. members ++ rest) (sym (range_members-first n last some)) ∙ so_far)))
 
 -- behind the last one all are there
-pub range-end : (members : List Scalar) (first last n : ℤ) → last <ℤ n → members ++ range_members n last ≡ range_members first last → members ≡ range_members first last
+pub range-end : (members : List Scalar) (first last n : ℤ) → last <ℤ n
+    → members ++ range_members n last ≡ range_members first last → members ≡ range_members first last
 range-end members first last n behind so_far =
     sym (append-nil members) ∙ (ap (λ rest. members ++ rest) (sym (range_members-none n last behind)) ∙ so_far)
 
@@ -74,7 +97,8 @@ range-end members first last n behind so_far =
 pub range-room : (members : List Scalar) (first last n x : ℤ) → n ≤ℤ last → members ++ range_members n last ≡ range_members first last
     → length (members ++ Int x ∷ []) ≤ length (range_members first last)
 range-room members first last n x some so_far =
-    omega (arith, length-append members (Int x ∷ []), length-append members (range_members n last), ap length so_far, ap length (range_members-first n last some))
+    let first_of_rest = ap length (range_members-first n last some) in
+    omega (arith, length-append members (Int x ∷ []), length-append members (range_members n last), ap length so_far, first_of_rest)
 
 -- two ranges have the same integers where both have none, or the same bounds
 pub same-none : (a b c d : ℤ) → b <ℤ a → d <ℤ c → range_members a b ≡ range_members c d

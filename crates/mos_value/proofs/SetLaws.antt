@@ -1,16 +1,16 @@
 -- the laws of sets
 use Rattle.std.proofs.Common.{◌≡◌, Bool, true, false, List, [], ◌∷◌, ◌++◌, filter, refl, ap, sym, ◌∙◌, cond, if◌then◌else◌, append_assoc, true≢false}
-use Rattle.std.specs.Prelude.{◌&&◌, ◌||◌, ◌↔◌, not, IsTrue}
-use Rattle.std.specs.List.{list_any, list_all}
+use Rattle.std.specs.Prelude.{◌&&◌, ◌||◌, not, IsTrue}
+use Rattle.std.specs.List.{list_all}
 use Rattle.std.proofs.lemmas.List.{append-nil}
 use Rattle.std.proofs.Math.Bool.{or_assoc}
 use Rattle.std.proofs.lemmas.List.Folds.{list_any-append}
 use Rattle.std.proofs.lemmas.Map.Views.{any-filter_same}
 use Rattle.mos_text.specs.declared.scalar.Scalar.{Scalar}
 use Rattle.mos_value.specs.Same.{is_same}
-use Rattle.mos_value.specs.Sets.{has_member, IsSet, with_member, union, inter, minus, set_from, same_members}
+use Rattle.mos_value.specs.Sets.{has_member, IsSet, with_member, union, minus, same_members}
 use Rattle.mos_value.specs.Laws.{SameIsEqual, UnionHasJustBoth, UnionHasEachOnce, UnionKeepsOrder, InterHasJustCommon, InterHasEachOnce, MinusHasJustRest, MinusHasEachOnce, SetHasEachOnce, SetHasJustItems, SetStays, SameByMembers}
-use Rattle.mos_value.proofs.SameScalars.{same_is, same_itself, is_same-Decides}
+use Rattle.mos_value.proofs.SameScalars.{same_is, same_itself}
 
 or_false : (a : Bool) → a ≡ (a || false)
 or_false true = refl
@@ -30,7 +30,7 @@ both : (a b : Bool) → (a && b) ≡ true → (a ≡ true) × (b ≡ true)
 both true b h = (refl, h)
 both false b h = cc
 
-as_each_other : (a b : Bool) → (a ≡ true → b ≡ true) → (b ≡ true → a ≡ true) → a ≡ b
+pub as_each_other : (a b : Bool) → (a ≡ true → b ≡ true) → (b ≡ true → a ≡ true) → a ≡ b
 as_each_other true b f g = sym (f refl)
 as_each_other false true f g = g refl
 as_each_other false false f g = refl
@@ -68,7 +68,7 @@ union_has_just_both left (y ∷ right) x =
     ∙ ap (λ b. b || has_member x right) (has-with_member x y left)
     ∙ or_assoc (has_member x left) (is_same x y) (has_member x right)
 
-IsSet-push : (members : List Scalar) (y : Scalar) → IsSet members → has_member y members ≡ false → IsSet (members ++ y ∷ [])
+pub IsSet-push : (members : List Scalar) (y : Scalar) → IsSet members → has_member y members ≡ false → IsSet (members ++ y ∷ [])
 IsSet-push [] y once new = (refl, tt)
 IsSet-push (x ∷ members) y once new =
     let apart = neither (is_same y x) (has_member y members) new in

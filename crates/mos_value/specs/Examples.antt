@@ -4,6 +4,7 @@ use Rattle.std.specs.Prelude.{◌≡◌, [], ◌∷◌, Some, pos, negsuc, true,
 use Rattle.mos_text.specs.declared.fault_kind.FaultKind.TheVariants.{Overflow}
 use Rattle.mos_text.specs.declared.scalar.Scalar.TheVariants.{Int, Bool as Truth, Str}
 use Rattle.mos_value.specs.Numbers.{quotient_of, remainder_of}
+use Rattle.mos_value.specs.Sets.{union, inter, minus, set_from, same_members}
 use Rattle.mos_value.specs.Values.{One, Range, members_of}
 use Rattle.mos_value.specs.Answers.{Gives, Faults, Sticks, between, sum, difference, compare, less, show, answer}
 
@@ -38,3 +39,17 @@ RangeMembers =
 -- what is printed is a text
 abbrev pub ShownTruth : Type 0
 ShownTruth = answer show (One (Truth true) ∷ []) ≡ Gives (One (Str (codes "true")))
+
+-- a union adds behind what is new, and an intersection and a difference keep the left order
+abbrev pub OperatorsOnSets : Type 0
+OperatorsOnSets =
+    map (λ operator. operator (Int (pos 3) ∷ Int (pos 1) ∷ Int (pos 2) ∷ []) (Int (pos 4) ∷ Int (pos 2) ∷ Int (pos 3) ∷ [])) (union ∷ inter ∷ minus ∷ [])
+    ≡ (Int (pos 3) ∷ Int (pos 1) ∷ Int (pos 2) ∷ Int (pos 4) ∷ []) ∷ (Int (pos 3) ∷ Int (pos 2) ∷ []) ∷ (Int (pos 1) ∷ []) ∷ []
+
+-- a list that becomes a set has each item at its first place
+abbrev pub SetOfAList : Type 0
+SetOfAList = set_from (Str (codes "b") ∷ Int (pos 1) ∷ Str (codes "b") ∷ []) ≡ Str (codes "b") ∷ Int (pos 1) ∷ []
+
+-- sets are the same in whatever order
+abbrev pub SameInAnyOrder : Type 0
+SameInAnyOrder = same_members (Int (pos 1) ∷ Int (pos 2) ∷ []) (Int (pos 2) ∷ Int (pos 1) ∷ []) ≡ true

@@ -1,6 +1,6 @@
 -- What a user of sets and ranges may count on.
 
-use Rattle.std.specs.Prelude.{◌≡◌, ℤ, ◌≤ℤ◌, ◌&&◌, ◌||◌, ◌++◌, ◌↔◌, not, true, List, IsTrue, length}
+use Rattle.std.specs.Prelude.{◌≡◌, ℤ, ◌≤ℤ◌, ◌&&◌, ◌||◌, ◌++◌, ◌↔◌, not, List, IsTrue, length}
 use Rattle.mos_text.specs.declared.scalar.Scalar.{Scalar}
 use Rattle.mos_text.specs.declared.scalar.Scalar.TheVariants.{Int}
 use Rattle.mos_value.specs.Same.{is_same}

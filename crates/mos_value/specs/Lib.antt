@@ -6,6 +6,7 @@ pub mod Texts
 pub mod UpToMemory
 pub mod Collections
 pub mod Sets
+pub mod Indexes
 pub mod Lists
 pub mod Ranges
 pub mod Answers

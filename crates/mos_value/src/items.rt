@@ -2,30 +2,36 @@
 ghost use Rattle.std.specs.Prelude.{◌≡◌, [], ◌∷◌, ◌++◌, ◌↔◌, ◌≤◌, IsTrue, IfOk, length, take};
 ghost use Rattle.mos_value.specs.Collections.{collection_limit, collection_of};
 ghost use Rattle.mos_value.specs.UpToMemory.{Becomes};
+ghost use Rattle.mos_value.specs.Ranges.{range_members};
 ghost use Rattle.mos_value.specs.Sets.{has_member, with_member, inter, minus};
 ghost use Rattle.std.specs.List.{list_all};
 
+use crate::index::{Index, run_of};
 use crate::{COLLECTION_LIMIT, ValueFault, same_one};
 use mos_text::{FaultKind, NoMemory, Scalar};
 use std::alloc::Global;
 use std::marker::Model;
+use std::mem::replace;
 
-/// The members of a set, or the items of a list: at most 1,000,000 scalars in their order.
+/// The members of a set, or the items of a list: at most 1,000,000 scalars in their order. Of integers
+/// or texts that were added to a set one is found in expected constant time.
 #[derive(Debug, Drop)]
 pub struct Items {
     scalars: Vec<Scalar>,
+    index: Index,
 }
 
 impl Model for Items {
     ghost use Rattle.std.specs.Prelude.{List, ◌≤◌, length};
     ghost use Rattle.mos_text.specs.declared.scalar.Scalar.{Scalar};
     ghost use Rattle.mos_value.specs.Collections.{collection_limit};
+    ghost use Rattle.mos_value.specs.Indexes.{IsIndexOf};
 
     ghost Value = { List Scalar };
 
     ghost view = { λ it. it.scalars.items };
 
-    ghost invariant = { λ it. length it.scalars.items ≤ collection_limit };
+    ghost invariant = { λ it. (length it.scalars.items ≤ collection_limit) × IsIndexOf it.index it.scalars.items };
 }
 
 impl Items {
@@ -35,6 +41,7 @@ impl Items {
     {
         Items {
             scalars: Vec::new(alloc),
+            index: Index::Empty,
         }
     }
 
@@ -61,43 +68,43 @@ impl Items {
     }
 
     /// Adds the item at the end. Where it is refused nothing is changed.
-    #[tactic(auto, using(crate::proofs::CollectionLemmas::collection_few, crate::proofs::CollectionLemmas::collection_many))]
     pub fn push(&mut self, item: Scalar) -> Result<(), ValueFault>
         ensures { Becomes self.old self.new result (collection_of (self.old ++ item ∷ [])) }
     {
-        if self.scalars.len() < COLLECTION_LIMIT {
-            self.scalars.push(item)?;
-            Ok(())
-        } else {
-            Err(ValueFault::Fault(FaultKind::TooBig))
-        }
+        self.index = Index::Searched;
+        push_within(&mut self.scalars, item)
     }
 
     /// Whether the scalar is one of these.
     pub(crate) fn has(&self, x: &Scalar) -> bool
         ensures { result ≡ has_member x.now self.now }
     {
-        self.scalars.iter().any(|item| same_one(x, item))
+        match self.index.tells(x) {
+            Some(is) => is,
+            None => self.scalars.iter().any(|item| same_one(x, item)),
+        }
     }
 
     /// Adds a copy of the scalar at the end, where it is none of these. Where it is refused nothing is
     /// changed.
-    #[tactic(auto, using(crate::proofs::CollectionLemmas::collection_few, crate::proofs::CollectionLemmas::collection_many))]
+    #[tactic(auto, using(crate::proofs::CollectionLemmas::collection_few))]
     pub(crate) fn insert(&mut self, alloc: Global, x: &Scalar) -> Result<(), ValueFault>
         ensures { Becomes self.old self.new result (collection_of (with_member self.old x.now)) }
     {
-        let _ = &self.scalars;
         if self.has(x) {
-            Ok(())
-        } else {
-            self.push(x.copy(alloc)?)
+            return Ok(());
         }
+        push_within(&mut self.scalars, x.copy(alloc)?)?;
+        let index = replace(&mut self.index, Index::Searched);
+        self.index = index.with(alloc, self.scalars.as_slice(), x);
+        Ok(())
     }
 
     /// Keeps the first so many items.
     pub(crate) fn truncate(&mut self, many: usize)
         ensures { self.new ≡ take many self.old }
     {
+        self.index = Index::Searched;
         self.scalars.truncate(many);
     }
 
@@ -106,6 +113,7 @@ impl Items {
         ensures kept { self.new ≡ inter self.old others.now }
         ensures limited { length self.new ≤ collection_limit }
     {
+        self.index = Index::Searched;
         self.scalars.retain(|item| others.has(item));
     }
 
@@ -114,6 +122,7 @@ impl Items {
         ensures kept { self.new ≡ minus self.old others.now }
         ensures limited { length self.new ≤ collection_limit }
     {
+        self.index = Index::Searched;
         self.scalars.retain(|item| !others.has(item));
     }
 
@@ -122,7 +131,10 @@ impl Items {
         ensures { IfOk result (λ copy. copy ≡ self.now) }
     {
         let scalars = copies(alloc, self.scalars.as_slice())?;
-        Ok(Items { scalars })
+        Ok(Items {
+            scalars,
+            index: self.index.copy(),
+        })
     }
 
     /// Adds the others at the end. Where they are refused nothing is changed.
@@ -133,9 +145,22 @@ impl Items {
         if self.scalars.len() + others.len() > COLLECTION_LIMIT {
             return Err(ValueFault::Fault(FaultKind::TooBig));
         }
-        let Items { mut scalars } = others;
+        let Items { mut scalars, .. } = others;
+        self.index = Index::Searched;
         self.scalars.append(&mut scalars)?;
         Ok(())
+    }
+
+    /// The same items, which are the integers from the first to the last.
+    pub(crate) fn into_run(self, first: i32, last: i32) -> Items
+        requires { self ≡ range_members first last }
+        ensures { result ≡ range_members first last }
+    {
+        let Items { scalars, .. } = self;
+        Items {
+            scalars,
+            index: run_of(first, last),
+        }
     }
 
     /// Whether the others have each of these.
@@ -143,6 +168,19 @@ impl Items {
         ensures { result ≡ list_all (λ x. has_member x others.now) self.now }
     {
         self.scalars.iter().all(|item| others.has(item))
+    }
+}
+
+/// Adds the item at the end of those of a collection, unless it has no room for it.
+#[tactic(auto, using(crate::proofs::CollectionLemmas::collection_few, crate::proofs::CollectionLemmas::collection_many))]
+fn push_within(scalars: &mut Vec<Scalar>, item: Scalar) -> Result<(), ValueFault>
+    ensures { Becomes scalars.old.items scalars.new.items result (collection_of (scalars.old.items ++ item ∷ [])) }
+{
+    if scalars.len() < COLLECTION_LIMIT {
+        scalars.push(item)?;
+        Ok(())
+    } else {
+        Err(ValueFault::Fault(FaultKind::TooBig))
     }
 }
 

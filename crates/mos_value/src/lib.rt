@@ -5,6 +5,7 @@
 mod comparisons;
 pub mod examples;
 mod fault;
+mod index;
 mod items;
 pub mod laws;
 mod limits;

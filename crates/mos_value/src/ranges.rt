@@ -29,7 +29,7 @@ pub fn range_set(alloc: Global, a: i32, b: i32) -> Result<Items, ValueFault>
     for number in i64::from(a)..i64::from(b) + 1 {
         members.push(Scalar::Int(number as i32))?;
     }
-    Ok(members)
+    Ok(members.into_run(a, b))
 }
 
 /// `getsize` of a range. Above 2147483647 it is an overflow.

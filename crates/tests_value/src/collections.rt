@@ -64,8 +64,13 @@ pub fn changed(
 
 fn tell(alloc: Global, subject: &str, left: &str, right: &str) -> Result<bool, ValueFault> {
     let a = items_of(alloc, left)?;
-    if subject == "has" {
-        return Ok(has_item(&a, &scalar_of(alloc, right.trim())?));
+    match subject {
+        "has" => return Ok(has_item(&a, &scalar_of(alloc, right.trim())?)),
+        "set-has" => {
+            let set = set_of(alloc, &a)?;
+            return Ok(has_item(&set, &scalar_of(alloc, right.trim())?));
+        }
+        _ => {}
     }
     let b = items_of(alloc, right)?;
     Ok(if subject == "same-set" {
@@ -83,35 +88,71 @@ pub fn told(alloc: Global, subject: &str, left: &str, right: &str) -> Result<Str
     }
 }
 
-/// The member that a set of numbers, or of their decimal texts, has for a number.
-fn member_of(alloc: Global, subject: &str, number: i32) -> Result<Scalar, ValueFault> {
-    if subject == "grow" {
-        return Ok(Scalar::Int(number));
-    }
-    Ok(Scalar::Str(show_one(alloc, &Scalar::Int(number))?))
+/// Which members a set grows by.
+#[derive(Clone, Copy)]
+enum Members {
+    /// Integers, each behind the one before.
+    Rising,
+    /// Integers of which none stands beside the one before.
+    Mixed,
+    /// The decimal texts of integers.
+    Texts,
 }
 
-/// A set that grew by one member at a time, and how many of the members it has.
-fn grow(alloc: Global, subject: &str, first: i32, last: i32) -> Result<(Items, u32), ValueFault> {
+fn members_of(subject: &str) -> Members {
+    match subject {
+        "grow" => Members::Rising,
+        "grow-mixed" => Members::Mixed,
+        _ => Members::Texts,
+    }
+}
+
+/// The member that stands for a number.
+fn member_of(alloc: Global, members: Members, number: i32) -> Result<Scalar, ValueFault> {
+    match members {
+        Members::Rising => Ok(Scalar::Int(number)),
+        Members::Mixed => Ok(Scalar::Int(number.wrapping_mul(7919))),
+        Members::Texts => Ok(Scalar::Str(show_one(alloc, &Scalar::Int(number))?)),
+    }
+}
+
+/// A set that grew by one member at a time.
+fn grow(alloc: Global, members: Members, first: i32, last: i32) -> Result<Items, ValueFault> {
     let mut set = Items::new(alloc);
     for number in first..last {
         let mut one = Items::new(alloc);
-        one.push(member_of(alloc, subject, number)?)?;
+        one.push(member_of(alloc, members, number)?)?;
         add_to_set(alloc, &mut set, &one)?;
     }
-    let mut found: u32 = 0;
+    Ok(set)
+}
+
+/// How many of the members the set has.
+fn found(
+    alloc: Global,
+    set: &Items,
+    members: Members,
+    first: i32,
+    last: i32,
+) -> Result<u32, ValueFault> {
+    let mut count: u32 = 0;
     for number in first..last {
-        let member = member_of(alloc, subject, number)?;
-        found = found.saturating_add(has_item(&set, &member) as u32);
+        let member = member_of(alloc, members, number)?;
+        count = count.saturating_add(has_item(set, &member) as u32);
     }
-    Ok((set, found))
+    Ok(count)
+}
+
+fn grow_and_ask(alloc: Global, subject: &str, range: &str) -> Result<(usize, u32), ValueFault> {
+    let (members, (first, last)) = (members_of(subject), bounds(range));
+    let set = grow(alloc, members, first, last)?;
+    Ok((set.len(), found(alloc, &set, members, first, last)?))
 }
 
 /// How many members a set has that grew by one at a time, and how many of them are found in it.
 pub fn grown(alloc: Global, subject: &str, range: &str) -> Result<String, AllocError> {
-    let (first, last) = bounds(range);
-    match grow(alloc, subject, first, last) {
-        Ok((set, found)) => format!(in alloc; "{} members, {found} found", set.len()),
+    match grow_and_ask(alloc, subject, range) {
+        Ok((many, found)) => format!(in alloc; "{many} members, {found} found"),
         Err(fault) => String::from_str(alloc, word_of(fault)),
     }
 }

@@ -19,8 +19,10 @@ fn answer(alloc: Global, line: &str) -> Result<String, AllocError> {
             collections::made(alloc, subject, left, right)
         }
         "add" | "take" | "append" => collections::changed(alloc, subject, left, right),
-        "grow" | "grow-texts" => collections::grown(alloc, subject, left),
-        "has" | "same-set" | "same-list" => collections::told(alloc, subject, left, right),
+        "grow" | "grow-mixed" | "grow-texts" => collections::grown(alloc, subject, left),
+        "has" | "set-has" | "same-set" | "same-list" => collections::told(
+            alloc, subject, left, right,
+        ),
         "range-set" | "range-size" => ranges::sized(alloc, subject, left),
         "range-has" | "same-range" => ranges::told(alloc, subject, left, right),
         "join" => parts::joined(alloc, left, right),

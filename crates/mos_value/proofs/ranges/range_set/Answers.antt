@@ -1,5 +1,5 @@
 -- the integers come one after the other
-use Rattle.std.proofs.Common.{◌≡◌, ◌<◌, ◌≤◌, ◌++◌, ◌∷◌, [], ℤ, ◌+ℤ◌, pos, Ok, Err, length, ap, sym, subst, ◌∙◌, arith, rules}
+use Rattle.std.proofs.Common.{◌≡◌, ◌≤◌, ◌++◌, ◌∷◌, [], ◌+ℤ◌, pos, Ok, Err, length, ap, sym, subst, ◌∙◌, arith, rules}
 use Rattle.std.specs.Prelude.{◌≤ℤ◌, ◌<ℤ◌}
 use Rattle.std.specs.Int.RustNames.{FitsSigned}
 use Rattle.std.proofs.lemmas.Int.{ints, to_z-of_z}
@@ -60,17 +60,20 @@ loop-number-preserved c =
       begun = omega (arith, ints, after, i.begun);
     }
 
+pub into_run-requires : goal.into_run-requires
+into_run-requires c =
+    let n = to_z w64 c.loop-number.number-bits in
+    let over = not_below_if n (to_z w64 (of_z w64 (to_z w64 (of_z w64 c.from-number-end.result) +ℤ pos 1))) c.loop-number-test.false in
+    let behind : to_z w32 (of_z w32 c.args.b) <ℤ n = omega (arith, ints, over, c.from-number-end.ensures) in
+    range-end c.loop-number.members (to_z w32 (of_z w32 c.args.a)) (to_z w32 (of_z w32 c.args.b)) n behind c.loop-number.invariant.so_far
+
 pub returns : goal.returns
 returns c =
     let a = to_z w32 (of_z w32 c.args.a) in
     let b = to_z w32 (of_z w32 c.args.b) in
-    let n = to_z w64 c.loop-number.number-bits in
     let fits_a : FitsSigned w32 c.args.a = search rules in
     let fits_b : FitsSigned w32 c.args.b = search rules in
     let ea = to_z-of_z w32 c.args.a fits_a in
     let eb = to_z-of_z w32 c.args.b fits_b in
-    let over = not_below_if n (to_z w64 (of_z w64 (to_z w64 (of_z w64 c.from-number-end.result) +ℤ pos 1))) c.loop-number-test.false in
-    let behind : b <ℤ n = omega (arith, ints, over, c.from-number-end.ensures) in
-    let all = range-end c.loop-number.members a b n behind c.loop-number.invariant.so_far in
     let few : length (range_members a b) ≤ collection_limit = omega (arith, ints, length-range_members a b, c.range_count.ensures, c.if-range_count.false) in
-    (λ i. range_set (sym ea i) (sym eb i)) ∙ (collection_few (range_members a b) few ∙ ap Ok (sym all))
+    (λ i. range_set (sym ea i) (sym eb i)) ∙ (collection_few (range_members a b) few ∙ ap Ok (sym c.into_run.ensures))

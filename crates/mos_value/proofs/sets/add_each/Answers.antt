@@ -2,7 +2,7 @@
 use Rattle.std.proofs.Common.{◌≡◌, ◌+◌, ◌≤◌, drop, take, length, ap, sym, ◌∙◌, arith}
 use Rattle.std.proofs.lemmas.List.{drop_all}
 use Rattle.std.proofs.lemmas.Result.{err_from_is_err_and}
-use Rattle.mos_value.specs.Collections.{collection_limit, collection_of}
+use Rattle.mos_value.specs.Collections.{collection_of}
 use Rattle.mos_value.specs.Sets.{union, with_member}
 use Rattle.mos_value.proofs.CollectionLemmas.{collection_few, collection_is, cause_further}
 use Rattle.mos_value.proofs.SetLemmas.{union-next, take-with_member, length-with_member, length-union}
