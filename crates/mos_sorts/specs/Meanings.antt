@@ -1,0 +1,11 @@
+-- What the code answers of a name, as what the name stands for.
+
+use Rattle.mos_sorts.specs.declared.meaning.Meaning.{Meaning}
+use Rattle.mos_sorts.specs.declared.meaning.Meaning.TheVariants as m
+use Rattle.mos_sorts.specs.Scopes.{Index, Declared, Undeclared, Meaning as Stands}
+
+-- what a name stands for, as it is answered
+abbrev pub said : Meaning → Stands
+said (m.Index sort) = Index sort
+said (m.Declared place role) = Declared place role.now
+said m.Undeclared = Undeclared
