@@ -5,7 +5,7 @@ use Rattle.bim_code.specs.declared.image.ImageType.TheVariants.{Integer, Boolean
 use Rattle.bim_code.specs.declared.instruction.Instruction.{Instruction}
 use Rattle.bim_code.specs.declared.instruction.Instruction.TheVariants.{Tick, PushInt, PushBool, PushText, LoadGlobal, StoreGlobal, Swap, Add, Subtract, Compare, Jump, JumpIf, JumpNot, Show, Write, Line, End, Fault}
 use Rattle.bim_code.specs.Code.{code_size}
-use Rattle.bim_code.specs.Limits.{TypeFits, TypeWithin}
+use Rattle.bim_code.specs.Limits.{TypeInRange, TypeWithin}
 use Rattle.bim_code.specs.Rows.{width}
 
 pub width_at_most : (i : Instruction) → width i ≤ 5
@@ -32,7 +32,7 @@ pub code_size_at_most : (code : List Instruction) → code_size code ≤ 5 * len
 code_size_at_most [] = omega arith
 code_size_at_most (i ∷ is) = let one = width_at_most i in let rest = code_size_at_most is in omega arith
 
-pub type_fits : (t : ImageType) → TypeWithin t → TypeFits t
+pub type_fits : (t : ImageType) → TypeWithin t → TypeInRange t
 type_fits Integer h = tt
 type_fits Boolean h = tt
 type_fits Str h = tt

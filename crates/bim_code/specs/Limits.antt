@@ -7,24 +7,24 @@ use Rattle.bim_code.specs.declared.image.Routine.{Routine}
 use Rattle.bim_code.specs.Code.{code_size}
 
 -- an array's number of indexes stands in one byte, the number of a record's fields in two
-abbrev pub TypeFits : ImageType → Type 0
-TypeFits Integer = Unit {0}
-TypeFits Boolean = Unit {0}
-TypeFits Str = Unit {0}
-TypeFits Model = Unit {0}
-TypeFits Event = Unit {0}
-TypeFits Range = Unit {0}
-TypeFits (Set member) = Unit {0}
-TypeFits (List member) = Unit {0}
-TypeFits (Array dynamic indexes cell) = length indexes < 2 ^ 8
-TypeFits (Record fields) = length fields < 2 ^ 16
+abbrev pub TypeInRange : ImageType → Type 0
+TypeInRange Integer = Unit {0}
+TypeInRange Boolean = Unit {0}
+TypeInRange Str = Unit {0}
+TypeInRange Model = Unit {0}
+TypeInRange Event = Unit {0}
+TypeInRange Range = Unit {0}
+TypeInRange (Set member) = Unit {0}
+TypeInRange (List member) = Unit {0}
+TypeInRange (Array dynamic indexes cell) = length indexes < 2 ^ 8
+TypeInRange (Record fields) = length fields < 2 ^ 16
 
 -- each count fits its field; such an image has bytes
-pub record FitsFields (image : Image) : Type 0 where
+pub record CountsInRange (image : Image) : Type 0 where
   pub constants : length image.constants < 2 ^ 32
   pub texts : All (λ text. length text < 2 ^ 32) image.constants
   pub types : length image.types < 2 ^ 16
-  pub parts : All TypeFits image.types
+  pub parts : All TypeInRange image.types
   pub params : length image.params < 2 ^ 16
   pub globals : length image.globals < 2 ^ 32
   pub routines : length image.routines < 2 ^ 16

@@ -16,10 +16,10 @@ pub record Row : Type 0 where
   pub operands : List ℕ
 
 -- operands in their order
-abbrev pub listed : Operands → List ℕ
-listed operands.None = []
-listed (operands.One n) = n ∷ []
-listed (operands.Two n m) = n ∷ m ∷ []
+abbrev pub operand_list : Operands → List ℕ
+operand_list operands.None = []
+operand_list (operands.One n) = n ∷ []
+operand_list (operands.Two n m) = n ∷ m ∷ []
 
 -- a row by its columns
 abbrev pub row : ℕ → List ℕ → List ℕ → Row

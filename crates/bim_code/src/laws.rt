@@ -1,7 +1,7 @@
 //! Laws of the definitions of this crate: functions that do nothing, whose contract is the law.
 ghost use Rattle.bim_code.specs.Examples.{EndsAtOnceBytes, EveryPartBytes, Addresses};
 ghost use Rattle.bim_code.specs.AddressLaws.{BeginsAtSum, NoneElsewhere};
-ghost use Rattle.bim_code.specs.Limits.{FitsFields, WithinLimits};
+ghost use Rattle.bim_code.specs.Limits.{CountsInRange, WithinLimits};
 
 use crate::image::Image;
 
@@ -23,7 +23,7 @@ pub fn addresses()
 /// An image that keeps the limits of the format has bytes.
 pub fn limits_fit_fields(image: &Image)
     requires { WithinLimits image.now }
-    ensures { FitsFields image.now }
+    ensures { CountsInRange image.now }
 {}
 
 /// An instruction begins at the sum of the widths before it, and nowhere else does one begin.

@@ -1,6 +1,6 @@
 //! The table of instructions in code: the code byte, the printed name and the operands of each.
 ghost use Rattle.std.specs.Prelude.{◌≡◌};
-ghost use Rattle.bim_code.specs.Rows.{row_of, width, code_of_comparison, name_of_comparison, listed};
+ghost use Rattle.bim_code.specs.Rows.{row_of, width, code_of_comparison, name_of_comparison, operand_list};
 
 use crate::instruction::{Comparison, Instruction};
 use crate::operands::Operands;
@@ -64,7 +64,7 @@ impl Instruction {
 
     /// The operands, as the numbers that the file has: an integer is in two's complement.
     pub fn operands(&self) -> Operands
-        ensures { listed result ≡ (row_of self.now).operands }
+        ensures { operand_list result ≡ (row_of self.now).operands }
     {
         match *self {
             Instruction::PushInt(number) => Operands::One(number.cast_unsigned()),

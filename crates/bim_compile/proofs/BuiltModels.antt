@@ -3,9 +3,9 @@
 use Rattle.mos_names.specs.NameLists.{Name}
 use Rattle.std.specs.Prelude.{List}
 use Rattle.mos_value.specs.Answers.{sum, difference, compare}
-use Rattle.mos_meaning.specs.Syntax.{Own, Model, Scope, Expression, number, text, truth, variable, index, apply, range_of, sum_over, invoke, ask_hub, unbuilt, Shown, nothing, one_more, Effect, assign, change, write, perform, tell_hub, if_, while_, do_, break_, next_, unbuilt_effect, Branches, else_, elif, Block, no_more, first}
-use Rattle.mos_meaning.specs.Working.{IsVariable, IsNumeric, IsShown, IsCondition, AreShown, Works, BranchesWork, AllWork}
-use Rattle.bim_compile.specs.Built.{IsModels, IsBuilt, AreBuilt, IsBuiltEffect, AreBuiltBranches, IsBuiltBlock}
+use Rattle.mos_meaning.specs.Syntax.{Own, Model, Scope, Expression, number, text, truth, variable, index, apply, range_of, sum_over, invoke, ask_hub, unbuilt, Shown, nothing_shown, shown_then, CoreStatement, assign, change, write, perform, tell_hub, if_, while_, do_, break_, next_, unbuilt_statement, Arms, else_, elif, Block, no_statement, statement_then}
+use Rattle.mos_meaning.specs.Working.{IsVariable, IsNumeric, IsShown, IsCondition, AreShown, Works, ArmsWork, AllWork}
+use Rattle.bim_compile.specs.Built.{IsModels, IsBuilt, AreBuilt, IsBuiltStatement, AreBuiltArms, IsBuiltBlock}
 
 models-built : (names : List Name) (scope : Scope) (n : Name) → IsVariable names scope n → IsModels scope
 models-built names Model n h = tt
@@ -53,27 +53,27 @@ shown-built names (ask_hub function all) h = absurd h
 shown-built names unbuilt h = absurd h
 
 all-built : (names : List Name) (all : Shown) → AreShown names all → AreBuilt all
-all-built names nothing h = tt
-all-built names (one_more e es) h = (shown-built names e h.0, all-built names es h.1)
+all-built names nothing_shown h = tt
+all-built names (shown_then e es) h = (shown-built names e h.0, all-built names es h.1)
 
 mutual
-  effect-built : (names : List Name) (e : Effect) → Works names e → IsBuiltEffect e
-  effect-built names (assign line scope n e) h = (models-built names scope n h.0, numeric-built names e h.1)
-  effect-built names (change line operator scope n e) h = (models-built names scope n h.1, numeric-built names e h.2)
-  effect-built names (write line newline all) h = all-built names all h
-  effect-built names (perform line routine all) h = absurd h
-  effect-built names (tell_hub line function all) h = absurd h
-  effect-built names (if_ line all) h = branches-built names all h
-  effect-built names (while_ line e body) h = (condition-built names e h.0, effect-built names body h.1)
-  effect-built names (do_ all) h = block-built names all h
-  effect-built names (break_ line) h = tt
-  effect-built names (next_ line) h = tt
-  effect-built names unbuilt_effect h = absurd h
+  statement-built : (names : List Name) (e : CoreStatement) → Works names e → IsBuiltStatement e
+  statement-built names (assign line scope n e) h = (models-built names scope n h.0, numeric-built names e h.1)
+  statement-built names (change line operator scope n e) h = (models-built names scope n h.1, numeric-built names e h.2)
+  statement-built names (write line newline all) h = all-built names all h
+  statement-built names (perform line routine all) h = absurd h
+  statement-built names (tell_hub line function all) h = absurd h
+  statement-built names (if_ line all) h = arms-built names all h
+  statement-built names (while_ line e body) h = (condition-built names e h.0, statement-built names body h.1)
+  statement-built names (do_ all) h = block-built names all h
+  statement-built names (break_ line) h = tt
+  statement-built names (next_ line) h = tt
+  statement-built names unbuilt_statement h = absurd h
 
-  branches-built : (names : List Name) (all : Branches) → BranchesWork names all → AreBuiltBranches all
-  branches-built names (else_ all) h = block-built names all h
-  branches-built names (elif line e all rest) h = (condition-built names e h.0, block-built names all h.1, branches-built names rest h.2)
+  arms-built : (names : List Name) (all : Arms) → ArmsWork names all → AreBuiltArms all
+  arms-built names (else_ all) h = block-built names all h
+  arms-built names (elif line e all rest) h = (condition-built names e h.0, block-built names all h.1, arms-built names rest h.2)
 
   pub block-built : (names : List Name) (all : Block) → AllWork names all → IsBuiltBlock all
-  block-built names no_more h = tt
-  block-built names (first e rest) h = (effect-built names e h.0, block-built names rest h.1)
+  block-built names no_statement h = tt
+  block-built names (statement_then e rest) h = (statement-built names e h.0, block-built names rest h.1)

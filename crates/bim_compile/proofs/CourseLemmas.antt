@@ -12,16 +12,16 @@ use Rattle.bim_code.specs.Rules.{KeepsTicks}
 use Rattle.mos_names.specs.NameLists.{Name}
 use Rattle.mos_value.specs.Values.{Value, One}
 use Rattle.run_state.specs.Stops.{Stop, Exited, Failed, Spent, Stopped, Asking, Stuck, Lost, Outcome}
-use Rattle.run_state.specs.State.{World, State, beginning, over, outcome_of, Out, Gave, Halts}
+use Rattle.run_state.specs.State.{World, State, beginning, with_store, outcome_of, Evaluation, Yields, StopsWith}
 use Rattle.run_state.specs.Parameters.{and_then, given_values}
 use Rattle.bim_machine.specs.Starts.{defaults_in, or_broken, with_given as image_given}
-use Rattle.bim_machine.specs.Machine.{Machine, At, Over}
-use Rattle.bim_machine.specs.Courses.{Progress, run, main, start, most_steps, told, course_from}
+use Rattle.bim_machine.specs.Machine.{Machine, At, Halted}
+use Rattle.bim_machine.specs.Courses.{Progress, run, main, start, most_steps, outcome_at, course_from}
 use Rattle.bim_machine.specs.Laws.{OverInTime, StaysOver, IsOver}
 use Rattle.mos_meaning.specs.Syntax.{Block}
 use Rattle.mos_meaning.specs.Sources.{variables_of, zeros, program_of}
-use Rattle.mos_meaning.specs.Effects.{Flow, Goes, Breaks, Continues}
-use Rattle.mos_meaning.specs.Meaning.{names_of, outside, main_effect, ended, with_given}
+use Rattle.mos_meaning.specs.Effects.{Completion, Normal, ByBreak, ByNext}
+use Rattle.mos_meaning.specs.Meaning.{names_of, outside_env, main_effect, outcome_of_run, with_given}
 use Rattle.mos_meaning.specs.Working.{NeverLost}
 use Rattle.bim_compile.specs.declared.draft.Labelled.{Labelled}
 use Rattle.bim_compile.specs.Built.{IsBuiltBlock}
@@ -48,7 +48,7 @@ slots_begin constants (n ∷ names) = zero_slots constants (length (n ∷ names)
 
 exits : {image : Image} {w : World} (address : ℕ) (s : State)
     → instruction_at image.code address ≡ Some (PushInt (pos 0)) → instruction_at image.code (address + 5) ≡ Some End
-    → Leads image w (At address (bare []) main s) (Over (Exited (pos 0)) (address + 5) s)
+    → Leads image w (At address (bare []) main s) (Halted (Exited (pos 0)) (address + 5) s)
 exits address s p q =
     then_one (PushInt (pos 0)) address (bare []) main s _ p (then_one End (address + 5) _ main s _ q (same _))
 
@@ -57,46 +57,46 @@ record ComesTo (image : Image) (w : World) (from : Machine) (outcome : Outcome) 
   stop : Stop
   address : ℕ
   state : State
-  by : Leads image w from (Over stop address state)
+  by : Leads image w from (Halted stop address state)
   told_so : outcome_of stop state ≡ outcome
 
-comes : {image : Image} {w : World} {k : Known} {end : ℕ} (from : Machine) (o : Out Flow) → instruction_at image.code end ≡ Some (PushInt (pos 0)) → instruction_at image.code (end + 5) ≡ Some End
-    → (ended o).stop ≢ Lost → Lands image w k (λ flow s1. At (leading end end end flow) (bare []) main s1) from o → ComesTo image w from (ended o)
-comes {end = end} from (Gave Goes s) p q n l = record {
+comes : {image : Image} {w : World} {k : Known} {end : ℕ} (from : Machine) (o : Evaluation Completion) → instruction_at image.code end ≡ Some (PushInt (pos 0)) → instruction_at image.code (end + 5) ≡ Some End
+    → (outcome_of_run o).stop ≢ Lost → Lands image w k (λ flow s1. At (leading end end end flow) (bare []) main s1) from o → ComesTo image w from (outcome_of_run o)
+comes {end = end} from (Yields Normal s) p q n l = record {
   stop = Exited (pos 0);
   address = end + 5;
-  state = over l.by.0 s;
-  by = chain from _ _ l.by.2 (exits end (over l.by.0 s) p q);
+  state = with_store l.by.0 s;
+  by = chain from _ _ l.by.2 (exits end (with_store l.by.0 s) p q);
   told_so = refl;
 }
-comes {end = end} from (Gave Breaks s) p q n l = record {
+comes {end = end} from (Yields ByBreak s) p q n l = record {
   stop = Exited (pos 0);
   address = end + 5;
-  state = over l.by.0 s;
-  by = chain from _ _ l.by.2 (exits end (over l.by.0 s) p q);
+  state = with_store l.by.0 s;
+  by = chain from _ _ l.by.2 (exits end (with_store l.by.0 s) p q);
   told_so = refl;
 }
-comes {end = end} from (Gave Continues s) p q n l = record {
+comes {end = end} from (Yields ByNext s) p q n l = record {
   stop = Exited (pos 0);
   address = end + 5;
-  state = over l.by.0 s;
-  by = chain from _ _ l.by.2 (exits end (over l.by.0 s) p q);
+  state = with_store l.by.0 s;
+  by = chain from _ _ l.by.2 (exits end (with_store l.by.0 s) p q);
   told_so = refl;
 }
-comes {image = image} {w = w} from (Halts stop line s) p q n l = stopped stop n l.by
+comes {image = image} {w = w} from (StopsWith stop line s) p q n l = stopped stop n l.by
   where
     stopped : (stop : Stop) → stop ≢ Lost → owed stop (Ends image w from stop s) → ComesTo image w from (outcome_of stop s)
     stopped Lost n e = absurd (n refl)
-    stopped (Exited code) n e = record { stop = Exited code; address = e.2.0; state = over e.0 s; by = e.2.1; told_so = refl }
-    stopped (Failed kind) n e = record { stop = Failed kind; address = e.2.0; state = over e.0 s; by = e.2.1; told_so = refl }
-    stopped Spent n e = record { stop = Spent; address = e.2.0; state = over e.0 s; by = e.2.1; told_so = refl }
-    stopped Stopped n e = record { stop = Stopped; address = e.2.0; state = over e.0 s; by = e.2.1; told_so = refl }
-    stopped (Asking call) n e = record { stop = Asking call; address = e.2.0; state = over e.0 s; by = e.2.1; told_so = refl }
-    stopped Stuck n e = record { stop = Stuck; address = e.2.0; state = over e.0 s; by = e.2.1; told_so = refl }
+    stopped (Exited code) n e = record { stop = Exited code; address = e.2.0; state = with_store e.0 s; by = e.2.1; told_so = refl }
+    stopped (Failed kind) n e = record { stop = Failed kind; address = e.2.0; state = with_store e.0 s; by = e.2.1; told_so = refl }
+    stopped Spent n e = record { stop = Spent; address = e.2.0; state = with_store e.0 s; by = e.2.1; told_so = refl }
+    stopped Stopped n e = record { stop = Stopped; address = e.2.0; state = with_store e.0 s; by = e.2.1; told_so = refl }
+    stopped (Asking call) n e = record { stop = Asking call; address = e.2.0; state = with_store e.0 s; by = e.2.1; told_so = refl }
+    stopped Stuck n e = record { stop = Stuck; address = e.2.0; state = with_store e.0 s; by = e.2.1; told_so = refl }
 
 -- the machine comes to the end that the model means
-main_comes : (model : Block) (w : World) → IsBuiltBlock model → (ended (main_effect w (program_of model) (beginning (zeros (variables_of model))))).stop ≢ Lost
-    → ComesTo (image_of model) w (start (zeros (variables_of model))) (ended (main_effect w (program_of model) (beginning (zeros (variables_of model)))))
+main_comes : (model : Block) (w : World) → IsBuiltBlock model → (outcome_of_run (main_effect w (program_of model) (beginning (zeros (variables_of model))))).stop ≢ Lost
+    → ComesTo (image_of model) w (start (zeros (variables_of model))) (outcome_of_run (main_effect w (program_of model) (beginning (zeros (variables_of model)))))
 main_comes model w built n =
     let image = image_of model in
     let names = variables_of model in
@@ -105,7 +105,7 @@ main_comes model w built n =
     let last : List Labelled = at_line 0 (PushInt (pos 0)) ∷ at_line 0 End ∷ [] in
     let cuts = cut image.code 0 end (block_code names 0 0 end end model) last (block_after names 0 0 end end model) (whole (labelled_of model)) in
     comes (start values) _ cuts.1.0 cuts.1.1.0 n
-    (block_runs {k = alone (length values)} _ (names_of (program_of model)) outside model 0 0 end end built cuts.0 (all_texts image.constants) [] (beginning values) (values ∷ []) (begun_stores values))
+    (block_runs {k = alone (length values)} _ (names_of (program_of model)) outside_env model 0 0 end end built cuts.0 (all_texts image.constants) [] (beginning values) (values ∷ []) (begun_stores values))
 
 -- two machines that are over after some steps are over alike
 one_end : StaysOver → (image : Image) (w : World) (n m steps : ℕ) (a : Machine) → IsOver (run image w n steps a).machine → IsOver (run image w m steps a).machine
@@ -116,11 +116,11 @@ one_end stays image w n m steps a p q =
     ap (λ (x : Progress). x.machine) (sym one ∙ two)
 
 told_comes : OverInTime → StaysOver → (image : Image) (w : World) (values : List Value) (outcome : Outcome) → KeepsTicks image → ComesTo image w (start values) outcome
-    → told (run image w (most_steps image w.budget) 0 (start values)).machine ≡ outcome
+    → outcome_at (run image w (most_steps image w.budget) 0 (start values)).machine ≡ outcome
 told_comes in_time stays image w values outcome keeps c =
-    let r = reached (start values) (Over c.stop c.address c.state) c.by 0 in
+    let r = reached (start values) (Halted c.stop c.address c.state) c.by 0 in
     let over_there : IsOver (run image w r.0 0 (start values)).machine = record { stop = c.stop; address = c.address; state = c.state; by = r.1 } in
-    ap told (one_end stays image w (most_steps image w.budget) r.0 0 (start values) (in_time image w values keeps) over_there ∙ r.1) ∙ c.told_so
+    ap outcome_at (one_end stays image w (most_steps image w.budget) r.0 0 (start values) (in_time image w values keeps) over_there ∙ r.1) ∙ c.told_so
 
 pub course_is_meaning : OverInTime → StaysOver → (model : Block) → IsBuiltBlock model → KeepsTicks (image_of model) → NeverLost (program_of model) → Means (program_of model) (image_of model)
 course_is_meaning in_time stays model built keeps never text replies budget = given (given_values [] text) (never text replies budget)

@@ -5,9 +5,9 @@ use Rattle.std.specs.Int.{from_bool}
 use Rattle.bim_code.specs.declared.instruction.Instruction.TheVariants.{PushBool, LoadGlobal, StoreGlobal, Swap, Jump, JumpIf, JumpNot, Show, Write, Line}
 use Rattle.mos_names.specs.NameLists.{Name, place_of}
 use Rattle.mos_value.specs.Answers.{Operator, sum, difference, compare}
-use Rattle.mos_meaning.specs.Syntax.{Expression, number, text, truth, variable, index, apply, range_of, sum_over, invoke, ask_hub, unbuilt, Shown, nothing, one_more, Effect, assign, change, write, perform, tell_hub, if_, while_, do_, break_, next_, unbuilt_effect, Branches, else_, elif, Block, no_more, first}
+use Rattle.mos_meaning.specs.Syntax.{Expression, number, text, truth, variable, index, apply, range_of, sum_over, invoke, ask_hub, unbuilt, Shown, nothing_shown, shown_then, CoreStatement, assign, change, write, perform, tell_hub, if_, while_, do_, break_, next_, unbuilt_statement, Arms, else_, elif, Block, no_statement, statement_then}
 use Rattle.bim_compile.specs.declared.draft.Labelled.{Labelled}
-use Rattle.bim_compile.specs.Compiled.{at_line, texts_in, texts_in_effect, texts_in_block, expression_code, expression_end, arguments_code, arguments_end, operator_code, effect_code, effect_end, branches_code, branches_end, block_code, block_end}
+use Rattle.bim_compile.specs.Compiled.{at_line, texts_in, texts_in_statement, texts_in_block, expression_code, expression_end, arguments_code, arguments_end, operator_code, statement_code, statement_end, arms_code, arms_end, block_code, block_end}
 use Rattle.bim_compile.proofs.Standing.{after, after-append}
 
 -- a form, and what follows it
@@ -38,8 +38,8 @@ expression_after names line k at (ask_hub function all) = refl
 expression_after names line k at unbuilt = refl
 
 pub arguments_after : (names : List Name) (line k at : ℕ) (all : Shown) → after at (arguments_code names line k all) ≡ arguments_end at all
-arguments_after names line k at nothing = refl
-arguments_after names line k at (one_more e es) =
+arguments_after names line k at nothing_shown = refl
+arguments_after names line k at (shown_then e es) =
     behind at (expression_end at e) (expression_code names line k e)
     (at_line line Show ∷ at_line line Write ∷ arguments_code names line (k + length (texts_in e)) es) (expression_after names line k at e)
     ∙ arguments_after names line (k + length (texts_in e)) (expression_end at e + 1 + 1) es
@@ -51,47 +51,47 @@ changed_after at line place difference = refl
 changed_after at line place (compare how) = refl
 
 mutual
-  pub effect_after : (names : List Name) (k at out next : ℕ) (e : Effect) → after at (effect_code names k at out next e) ≡ effect_end at e
-  effect_after names k at out next (assign line scope n e) =
+  pub statement_after : (names : List Name) (k at out next : ℕ) (e : CoreStatement) → after at (statement_code names k at out next e) ≡ statement_end at e
+  statement_after names k at out next (assign line scope n e) =
       behind (at + 1) (expression_end (at + 1) e) (expression_code names line k e) (at_line line (StoreGlobal (place_of n names)) ∷ []) (expression_after names line k (at + 1) e)
-  effect_after names k at out next (change line operator scope n e) =
+  statement_after names k at out next (change line operator scope n e) =
       behind (at + 1) (expression_end (at + 1) e) (expression_code names line k e)
       (at_line line (LoadGlobal (place_of n names)) ∷ at_line line Swap ∷ at_line line (operator_code operator) ∷ at_line line (StoreGlobal (place_of n names)) ∷ [])
       (expression_after names line k (at + 1) e)
       ∙ changed_after (expression_end (at + 1) e) line (place_of n names) operator
-  effect_after names k at out next (write line newline all) =
+  statement_after names k at out next (write line newline all) =
       behind (at + 1) (arguments_end (at + 1) all) (arguments_code names line k all)
       (at_line line (PushBool (from_bool newline)) ∷ at_line line Line ∷ []) (arguments_after names line k (at + 1) all)
-  effect_after names k at out next (if_ line all) = branches_after names k (at + 1) (branches_end (at + 1) all) out next all
-  effect_after names k at out next (while_ line e body) =
+  statement_after names k at out next (if_ line all) = arms_after names k (at + 1) (arms_end (at + 1) all) out next all
+  statement_after names k at out next (while_ line e body) =
       let pass : ℕ = at + 1 + 5 in
-      let test : ℕ = effect_end (pass + 1) body in
-      let l : ℕ = k + length (texts_in_effect body) in
-      behind (pass + 1) test (effect_code names k (pass + 1) (expression_end test e + 5) test body) (expression_code names line l e ++ at_line line (JumpIf pass) ∷ [])
-      (effect_after names k (pass + 1) (expression_end test e + 5) test body)
+      let test : ℕ = statement_end (pass + 1) body in
+      let l : ℕ = k + length (texts_in_statement body) in
+      behind (pass + 1) test (statement_code names k (pass + 1) (expression_end test e + 5) test body) (expression_code names line l e ++ at_line line (JumpIf pass) ∷ [])
+      (statement_after names k (pass + 1) (expression_end test e + 5) test body)
       ∙ behind test (expression_end test e) (expression_code names line l e) (at_line line (JumpIf pass) ∷ []) (expression_after names line l test e)
-  effect_after names k at out next (do_ all) = block_after names k at out next all
-  effect_after names k at out next (break_ line) = refl
-  effect_after names k at out next (next_ line) = refl
-  effect_after names k at out next (perform line routine all) = refl
-  effect_after names k at out next (tell_hub line function all) = refl
-  effect_after names k at out next unbuilt_effect = refl
+  statement_after names k at out next (do_ all) = block_after names k at out next all
+  statement_after names k at out next (break_ line) = refl
+  statement_after names k at out next (next_ line) = refl
+  statement_after names k at out next (perform line routine all) = refl
+  statement_after names k at out next (tell_hub line function all) = refl
+  statement_after names k at out next unbuilt_statement = refl
 
-  pub branches_after : (names : List Name) (k at end out next : ℕ) (all : Branches) → after at (branches_code names k at end out next all) ≡ branches_end at all
-  branches_after names k at end out next (else_ all) = block_after names k at out next all
-  branches_after names k at end out next (elif line e all rest) =
+  pub arms_after : (names : List Name) (k at end out next : ℕ) (all : Arms) → after at (arms_code names k at end out next all) ≡ arms_end at all
+  arms_after names k at end out next (else_ all) = block_after names k at out next all
+  arms_after names k at end out next (elif line e all rest) =
       let body : ℕ = expression_end at e + 5 in
       let other : ℕ = block_end body all + 5 in
       let l : ℕ = k + length (texts_in e) in
       let m : ℕ = l + length (texts_in_block all) in
-      let later = at_line line (Jump end) ∷ branches_code names m other end out next rest in
+      let later = at_line line (Jump end) ∷ arms_code names m other end out next rest in
       behind at (expression_end at e) (expression_code names line k e) (at_line line (JumpNot other) ∷ (block_code names l body out next all ++ later)) (expression_after names line k at e)
       ∙ behind body (block_end body all) (block_code names l body out next all) later (block_after names l body out next all)
-      ∙ branches_after names m other end out next rest
+      ∙ arms_after names m other end out next rest
 
   pub block_after : (names : List Name) (k at out next : ℕ) (all : Block) → after at (block_code names k at out next all) ≡ block_end at all
-  block_after names k at out next no_more = refl
-  block_after names k at out next (first e rest) =
-      behind at (effect_end at e) (effect_code names k at out next e) (block_code names (k + length (texts_in_effect e)) (effect_end at e) out next rest)
-      (effect_after names k at out next e)
-      ∙ block_after names (k + length (texts_in_effect e)) (effect_end at e) out next rest
+  block_after names k at out next no_statement = refl
+  block_after names k at out next (statement_then e rest) =
+      behind at (statement_end at e) (statement_code names k at out next e) (block_code names (k + length (texts_in_statement e)) (statement_end at e) out next rest)
+      (statement_after names k at out next e)
+      ∙ block_after names (k + length (texts_in_statement e)) (statement_end at e) out next rest

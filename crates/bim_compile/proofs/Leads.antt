@@ -7,7 +7,7 @@ use Rattle.bim_code.specs.Code.{instruction_at}
 use Rattle.run_state.specs.State.{World, State}
 use Rattle.bim_machine.specs.Machine.{Machine, At, Work, Here, settle}
 use Rattle.bim_machine.specs.Instructions.{act}
-use Rattle.bim_machine.specs.Courses.{site_of, decoded, step, run}
+use Rattle.bim_machine.specs.Courses.{site_of, step_by, step, run}
 
 -- some number of steps leads from one state to the other
 pub data Leads (image : Image) (w : World) : Machine → Machine → Type 0 where
@@ -24,7 +24,7 @@ pub then_one : {image : Image} {w : World} (i : Instruction) (address : ℕ) (wo
     → Leads image w (settle image w (act image i here.slots work s.memory.store) (site_of i address) here s) to
     → Leads image w (At address work here s) to
 then_one {image = image} {w = w} i address work here s to h p =
-    then_step address work here s to (subst (λ (m : Machine). Leads image w m to) (sym (ap (λ found. decoded image w found address work here s) h)) p)
+    then_step address work here s to (subst (λ (m : Machine). Leads image w m to) (sym (ap (λ found. step_by image w found address work here s) h)) p)
 
 -- the number of the steps
 pub reached : {image : Image} {w : World} (a b : Machine) → Leads image w a b → (steps : ℕ) → (n : ℕ) × ((run image w n steps a).machine ≡ b)

@@ -15,13 +15,13 @@ use Rattle.bim_code.specs.Code.{instruction_at, instruction_from}
 use Rattle.bim_code.specs.Rules.{HasNumber, IsBegun}
 use Rattle.mos_names.specs.NameLists.{Name, has_name, place_of}
 use Rattle.mos_value.specs.Answers.{Operator, sum, difference, compare}
-use Rattle.mos_meaning.specs.Syntax.{Own, Model, Scope, Expression, number, text, truth, variable, index, apply, range_of, sum_over, invoke, ask_hub, unbuilt, Shown, nothing, one_more, Effect, assign, change, write, perform, tell_hub, if_, while_, do_, break_, next_, unbuilt_effect, Branches, else_, elif, Block, no_more, first}
-use Rattle.mos_meaning.specs.Working.{IsVariable, IsNumeric, IsShown, IsCondition, AreShown, Works, BranchesWork, AllWork}
+use Rattle.mos_meaning.specs.Syntax.{Own, Model, Scope, Expression, number, text, truth, variable, index, apply, range_of, sum_over, invoke, ask_hub, unbuilt, Shown, nothing_shown, shown_then, CoreStatement, assign, change, write, perform, tell_hub, if_, while_, do_, break_, next_, unbuilt_statement, Arms, else_, elif, Block, no_statement, statement_then}
+use Rattle.mos_meaning.specs.Working.{IsVariable, IsNumeric, IsShown, IsCondition, AreShown, Works, ArmsWork, AllWork}
 use Rattle.bim_compile.specs.declared.draft.Labelled.{Labelled}
-use Rattle.bim_compile.specs.InSize.{IsSmall, AreSmall, IsSmallEffect, AreSmallBranches, IsSmallBlock}
-use Rattle.bim_compile.specs.Compiled.{at_line, instructions, texts_in, texts_in_all, texts_in_effect, texts_in_branches, texts_in_block, operator_code, expression_code, expression_end, arguments_code, arguments_end, effect_code, effect_end, branches_code, branches_end, block_code, block_end}
+use Rattle.bim_compile.specs.InSize.{IsSmall, AreSmall, IsSmallStatement, AreSmallArms, IsSmallBlock}
+use Rattle.bim_compile.specs.Compiled.{at_line, instructions, texts_in, texts_in_all, texts_in_statement, texts_in_arms, texts_in_block, operator_code, expression_code, expression_end, arguments_code, arguments_end, statement_code, statement_end, arms_code, arms_end, block_code, block_end}
 use Rattle.bim_compile.proofs.Standing.{HasAt, after, cut}
-use Rattle.bim_compile.proofs.EndLemmas.{expression_after, arguments_after, effect_after, block_after, branches_after}
+use Rattle.bim_compile.proofs.EndLemmas.{expression_after, arguments_after, statement_after, block_after, arms_after}
 
 -- an address that is named from another one
 abbrev pub NamesWell : List Instruction → ℕ → ℕ → Type 0
@@ -63,31 +63,31 @@ expression_above at (ask_hub function all) = omega arith
 expression_above at unbuilt = omega arith
 
 arguments_above : (at : ℕ) (all : Shown) → at ≤ arguments_end at all
-arguments_above at nothing = omega arith
-arguments_above at (one_more e es) = omega (arith, expression_above at e, arguments_above (expression_end at e + 1 + 1) es)
+arguments_above at nothing_shown = omega arith
+arguments_above at (shown_then e es) = omega (arith, expression_above at e, arguments_above (expression_end at e + 1 + 1) es)
 
 mutual
-  effect_above : (at : ℕ) (e : Effect) → at ≤ effect_end at e
-  effect_above at (assign line scope n e) = omega (arith, expression_above (at + 1) e)
-  effect_above at (change line operator scope n e) = omega (arith, expression_above (at + 1) e)
-  effect_above at (write line newline all) = omega (arith, arguments_above (at + 1) all)
-  effect_above at (if_ line all) = omega (arith, branches_above (at + 1) all)
-  effect_above at (while_ line e body) = omega (arith, effect_above (at + 1 + 5 + 1) body, expression_above (effect_end (at + 1 + 5 + 1) body) e)
-  effect_above at (do_ all) = block_above at all
-  effect_above at (break_ line) = omega arith
-  effect_above at (next_ line) = omega arith
-  effect_above at (perform line routine all) = omega arith
-  effect_above at (tell_hub line function all) = omega arith
-  effect_above at unbuilt_effect = omega arith
+  statement_above : (at : ℕ) (e : CoreStatement) → at ≤ statement_end at e
+  statement_above at (assign line scope n e) = omega (arith, expression_above (at + 1) e)
+  statement_above at (change line operator scope n e) = omega (arith, expression_above (at + 1) e)
+  statement_above at (write line newline all) = omega (arith, arguments_above (at + 1) all)
+  statement_above at (if_ line all) = omega (arith, arms_above (at + 1) all)
+  statement_above at (while_ line e body) = omega (arith, statement_above (at + 1 + 5 + 1) body, expression_above (statement_end (at + 1 + 5 + 1) body) e)
+  statement_above at (do_ all) = block_above at all
+  statement_above at (break_ line) = omega arith
+  statement_above at (next_ line) = omega arith
+  statement_above at (perform line routine all) = omega arith
+  statement_above at (tell_hub line function all) = omega arith
+  statement_above at unbuilt_statement = omega arith
 
-  branches_above : (at : ℕ) (all : Branches) → at ≤ branches_end at all
-  branches_above at (else_ all) = block_above at all
-  branches_above at (elif line e all rest) =
-      omega (arith, expression_above at e, block_above (expression_end at e + 5) all, branches_above (block_end (expression_end at e + 5) all + 5) rest)
+  arms_above : (at : ℕ) (all : Arms) → at ≤ arms_end at all
+  arms_above at (else_ all) = block_above at all
+  arms_above at (elif line e all rest) =
+      omega (arith, expression_above at e, block_above (expression_end at e + 5) all, arms_above (block_end (expression_end at e + 5) all + 5) rest)
 
   block_above : (at : ℕ) (all : Block) → at ≤ block_end at all
-  block_above at no_more = omega arith
-  block_above at (first e rest) = omega (arith, effect_above at e, block_above (effect_end at e) rest)
+  block_above at no_statement = omega arith
+  block_above at (statement_then e rest) = omega (arith, statement_above at e, block_above (statement_end at e) rest)
 
 -- The place of a variable is among the global slots.
 
@@ -173,8 +173,8 @@ shown_right image names line k at unbuilt tables h small few = absurd h
 
 arguments_right : (image : Image) (names : List Name) (line k at : ℕ) (all : Shown) → Tables image names → AreShown names all → AreSmall all → k + length (texts_in_all all) ≤ length image.constants
     → AreRight image at (arguments_code names line k all)
-arguments_right image names line k at nothing tables h small few = tt
-arguments_right image names line k at (one_more e es) tables h small few =
+arguments_right image names line k at nothing_shown tables h small few = tt
+arguments_right image names line k at (shown_then e es) tables h small few =
     let l = length-append (texts_in e) (texts_in_all es) in
     let middle : ℕ = expression_end at e in
     right_append image at middle (expression_code names line k e) (at_line line Show ∷ at_line line Write ∷ arguments_code names line (k + length (texts_in e)) es) (expression_after names line k at e)
@@ -188,7 +188,7 @@ change_right image at line slot difference within = ((within, tt), ((tt, tt), ((
 change_right image at line slot (compare how) within = ((within, tt), ((tt, tt), ((tt, tt), ((within, tt), tt))))
 
 -- where `break`, `next` and the end of a form lead
-pub record Exits (image : Image) (end out next : ℕ) : Type 0 where
+pub record TargetsBegin (image : Image) (end out next : ℕ) : Type 0 where
   pub end_begun : IsBegun image.code end
   pub out_begun : IsBegun image.code out
   pub next_begun : IsBegun image.code next
@@ -198,43 +198,43 @@ pub record Exits (image : Image) (end out next : ℕ) : Type 0 where
   pub next_fits : next < 2 ^ 32
 
 mutual
-  effect_right : (image : Image) (names : List Name) (k at out next : ℕ) (e : Effect) → Tables image names → Works names e → IsSmallEffect e
-      → k + length (texts_in_effect e) ≤ length image.constants → HasAt image.code at (effect_code names k at out next e) → Exits image (effect_end at e) out next
-      → AreRight image at (effect_code names k at out next e)
-  effect_right image names k at out next (assign line scope n e) tables works small few h x = (
+  statement_right : (image : Image) (names : List Name) (k at out next : ℕ) (e : CoreStatement) → Tables image names → Works names e → IsSmallStatement e
+      → k + length (texts_in_statement e) ≤ length image.constants → HasAt image.code at (statement_code names k at out next e) → TargetsBegin image (statement_end at e) out next
+      → AreRight image at (statement_code names k at out next e)
+  statement_right image names k at out next (assign line scope n e) tables works small few h x = (
     (tt, tt),
     right_append image (at + 1) (expression_end (at + 1) e) (expression_code names line k e) (at_line line (StoreGlobal (place_of n names)) ∷ [])
         (expression_after names line k (at + 1) e) (numeric_right image names line k (at + 1) e tables works.1 small)
         ((slot_within names scope n _ works.0 tables.slots, tt), tt),
   )
-  effect_right image names k at out next (change line operator scope n e) tables works small few h x = (
+  statement_right image names k at out next (change line operator scope n e) tables works small few h x = (
     (tt, tt),
     right_append image (at + 1) (expression_end (at + 1) e) (expression_code names line k e)
         (at_line line (LoadGlobal (place_of n names)) ∷ at_line line Swap ∷ at_line line (operator_code operator) ∷ at_line line (StoreGlobal (place_of n names)) ∷ [])
         (expression_after names line k (at + 1) e) (numeric_right image names line k (at + 1) e tables works.2 small)
         (change_right image (expression_end (at + 1) e) line (place_of n names) operator (slot_within names scope n _ works.1 tables.slots)),
   )
-  effect_right image names k at out next (write line newline all) tables works small few h x = (
+  statement_right image names k at out next (write line newline all) tables works small few h x = (
     (tt, tt),
     right_append image (at + 1) (arguments_end (at + 1) all) (arguments_code names line k all) (at_line line (PushBool (from_bool newline)) ∷ at_line line Line ∷ [])
         (arguments_after names line k (at + 1) all) (arguments_right image names line k (at + 1) all tables works small few)
         ((truth_within newline, tt), ((tt, tt), tt)),
   )
-  effect_right image names k at out next (perform line routine all) tables works small few h x = absurd works
-  effect_right image names k at out next (tell_hub line function all) tables works small few h x = absurd works
-  effect_right image names k at out next (if_ line all) tables works small few h x =
-      ((tt, tt), branches_right image names k (at + 1) out next all tables works small few h.1 x)
-  effect_right image names k at out next (while_ line e body) tables works small few h x =
+  statement_right image names k at out next (perform line routine all) tables works small few h x = absurd works
+  statement_right image names k at out next (tell_hub line function all) tables works small few h x = absurd works
+  statement_right image names k at out next (if_ line all) tables works small few h x =
+      ((tt, tt), arms_right image names k (at + 1) out next all tables works small few h.1 x)
+  statement_right image names k at out next (while_ line e body) tables works small few h x =
       let pass : ℕ = at + 1 + 5 in
-      let test : ℕ = effect_end (pass + 1) body in
+      let test : ℕ = statement_end (pass + 1) body in
       let last : ℕ = expression_end test e in
-      let l : ℕ = k + length (texts_in_effect body) in
-      let inner = effect_code names k (pass + 1) (last + 5) test body in
+      let l : ℕ = k + length (texts_in_statement body) in
+      let inner = statement_code names k (pass + 1) (last + 5) test body in
       let behind = expression_code names line l e ++ at_line line (JumpIf pass) ∷ [] in
-      let cuts = cut image.code (pass + 1) test inner behind (effect_after names k (pass + 1) (last + 5) test body) h.1.1.1 in
+      let cuts = cut image.code (pass + 1) test inner behind (statement_after names k (pass + 1) (last + 5) test body) h.1.1.1 in
       let ends = cut image.code test last (expression_code names line l e) (at_line line (JumpIf pass) ∷ []) (expression_after names line l test e) cuts.1 in
-      let both = length-append (texts_in_effect body) (texts_in e) in
-      let above = effect_above (pass + 1) body in
+      let both = length-append (texts_in_statement body) (texts_in e) in
+      let above = statement_above (pass + 1) body in
       let later = expression_above test e in
       let out_ahead = x.out_ahead in
       let out_fits = x.out_fits in
@@ -244,8 +244,8 @@ mutual
           (omega (arith, later, out_ahead, out_fits), ahead image.code (at + 1) test test_begun (omega (arith, above))),
           (
             (tt, tt),
-            right_append image (pass + 1) test inner behind (effect_after names k (pass + 1) (last + 5) test body)
-                (effect_right image names k (pass + 1) (last + 5) test body tables works.1 small.1 (omega (arith, few, both)) cuts.0 (record {
+            right_append image (pass + 1) test inner behind (statement_after names k (pass + 1) (last + 5) test body)
+                (statement_right image names k (pass + 1) (last + 5) test body tables works.1 small.1 (omega (arith, few, both)) cuts.0 (record {
                   end_begun = test_begun;
                   out_begun = x.end_begun;
                   next_begun = test_begun;
@@ -260,37 +260,37 @@ mutual
           ),
         ),
       )
-  effect_right image names k at out next (do_ all) tables works small few h x = block_right image names k at out next all tables works small few h x
-  effect_right image names k at out next (break_ line) tables works small few h x =
+  statement_right image names k at out next (do_ all) tables works small few h x = block_right image names k at out next all tables works small few h x
+  statement_right image names k at out next (break_ line) tables works small few h x =
       let further = x.out_ahead in ((tt, tt), ((x.out_fits, ahead image.code (at + 1) out x.out_begun (omega (arith, further))), tt))
-  effect_right image names k at out next (next_ line) tables works small few h x =
+  statement_right image names k at out next (next_ line) tables works small few h x =
       let further = x.next_ahead in ((tt, tt), ((x.next_fits, ahead image.code (at + 1) next x.next_begun (omega (arith, further))), tt))
-  effect_right image names k at out next unbuilt_effect tables works small few h x = absurd works
+  statement_right image names k at out next unbuilt_statement tables works small few h x = absurd works
 
-  branches_right : (image : Image) (names : List Name) (k at out next : ℕ) (all : Branches) → Tables image names → BranchesWork names all → AreSmallBranches all
-      → k + length (texts_in_branches all) ≤ length image.constants → HasAt image.code at (branches_code names k at (branches_end at all) out next all) → Exits image (branches_end at all) out next
-      → AreRight image at (branches_code names k at (branches_end at all) out next all)
-  branches_right image names k at out next (else_ all) tables works small few h x = block_right image names k at out next all tables works small few h x
-  branches_right image names k at out next (elif line e all rest) tables works small few h x =
+  arms_right : (image : Image) (names : List Name) (k at out next : ℕ) (all : Arms) → Tables image names → ArmsWork names all → AreSmallArms all
+      → k + length (texts_in_arms all) ≤ length image.constants → HasAt image.code at (arms_code names k at (arms_end at all) out next all) → TargetsBegin image (arms_end at all) out next
+      → AreRight image at (arms_code names k at (arms_end at all) out next all)
+  arms_right image names k at out next (else_ all) tables works small few h x = block_right image names k at out next all tables works small few h x
+  arms_right image names k at out next (elif line e all rest) tables works small few h x =
       let middle : ℕ = expression_end at e in
       let body : ℕ = middle + 5 in
       let jump : ℕ = block_end body all in
       let other : ℕ = jump + 5 in
-      let end : ℕ = branches_end other rest in
+      let end : ℕ = arms_end other rest in
       let l : ℕ = k + length (texts_in e) in
       let m : ℕ = l + length (texts_in_block all) in
-      let others = branches_code names m other end out next rest in
+      let others = arms_code names m other end out next rest in
       let inner = block_code names l body out next all in
       let cuts = cut image.code at middle (expression_code names line k e) (at_line line (JumpNot other) ∷ (inner ++ at_line line (Jump end) ∷ others)) (expression_after names line k at e) h in
       let ends = cut image.code body jump inner (at_line line (Jump end) ∷ others) (block_after names l body out next all) cuts.1.1 in
       let above = block_above body all in
-      let more = branches_above other rest in
-      let one_way = length-append (texts_in e) (texts_in_block all ++ texts_in_branches rest) in
-      let other_way = length-append (texts_in_block all) (texts_in_branches rest) in
+      let more = arms_above other rest in
+      let one_way = length-append (texts_in e) (texts_in_block all ++ texts_in_arms rest) in
+      let other_way = length-append (texts_in_block all) (texts_in_arms rest) in
       let out_ahead = x.out_ahead in
       let next_ahead = x.next_ahead in
       let out_fits = x.out_fits in
-      let other_begun : IsBegun image.code other = starts image.code other end others ends.1.1 (branches_after names m other end out next rest) x.end_begun in
+      let other_begun : IsBegun image.code other = starts image.code other end others ends.1.1 (arms_after names m other end out next rest) x.end_begun in
       right_append image at middle (expression_code names line k e) (at_line line (JumpNot other) ∷ (inner ++ at_line line (Jump end) ∷ others)) (expression_after names line k at e)
       (condition_right image names line k at e tables works.0 small.0) (
         (omega (arith, more, out_ahead, out_fits), ahead image.code middle other other_begun (omega (arith, above))),
@@ -305,25 +305,25 @@ mutual
               next_fits = x.next_fits;
             })) (
               (omega (arith, out_ahead, out_fits), ahead image.code jump end x.end_begun (omega (arith, more))),
-              branches_right image names m other out next rest tables works.2 small.2 (omega (arith, few, one_way, other_way)) ends.1.1 x,
+              arms_right image names m other out next rest tables works.2 small.2 (omega (arith, few, one_way, other_way)) ends.1.1 x,
             ),
       )
 
   pub block_right : (image : Image) (names : List Name) (k at out next : ℕ) (all : Block) → Tables image names → AllWork names all → IsSmallBlock all
-      → k + length (texts_in_block all) ≤ length image.constants → HasAt image.code at (block_code names k at out next all) → Exits image (block_end at all) out next
+      → k + length (texts_in_block all) ≤ length image.constants → HasAt image.code at (block_code names k at out next all) → TargetsBegin image (block_end at all) out next
       → AreRight image at (block_code names k at out next all)
-  block_right image names k at out next no_more tables works small few h x = tt
-  block_right image names k at out next (first e rest) tables works small few h x =
-      let l : ℕ = k + length (texts_in_effect e) in
-      let middle : ℕ = effect_end at e in
+  block_right image names k at out next no_statement tables works small few h x = tt
+  block_right image names k at out next (statement_then e rest) tables works small few h x =
+      let l : ℕ = k + length (texts_in_statement e) in
+      let middle : ℕ = statement_end at e in
       let rest_code = block_code names l middle out next rest in
-      let cuts = cut image.code at middle (effect_code names k at out next e) rest_code (effect_after names k at out next e) h in
+      let cuts = cut image.code at middle (statement_code names k at out next e) rest_code (statement_after names k at out next e) h in
       let above = block_above middle rest in
-      let both = length-append (texts_in_effect e) (texts_in_block rest) in
+      let both = length-append (texts_in_statement e) (texts_in_block rest) in
       let out_ahead = x.out_ahead in
       let next_ahead = x.next_ahead in
-      right_append image at middle (effect_code names k at out next e) rest_code (effect_after names k at out next e)
-      (effect_right image names k at out next e tables works.0 small.0 (omega (arith, few, both)) cuts.0 (record {
+      right_append image at middle (statement_code names k at out next e) rest_code (statement_after names k at out next e)
+      (statement_right image names k at out next e tables works.0 small.0 (omega (arith, few, both)) cuts.0 (record {
         end_begun = starts image.code middle (block_end middle rest) rest_code cuts.1 (block_after names l middle out next rest) x.end_begun;
         out_begun = x.out_begun;
         next_begun = x.next_begun;

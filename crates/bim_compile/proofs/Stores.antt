@@ -6,7 +6,7 @@ use Rattle.std.specs.Prelude.{if◌then◌else◌, option_map}
 use Rattle.std.proofs.lemmas.Bool.Decides.{nat_tests}
 use Rattle.std.proofs.lemmas.List.{length-set, set-append_left}
 use Rattle.mos_value.specs.Values.{Value, Place}
-use Rattle.run_state.specs.Places.{load, load_in, put, put_in, put_slot, left}
+use Rattle.run_state.specs.Places.{load, load_in, put, put_in, put_slot, store_behind}
 
 -- what is known of the part that runs: how many slots the meaning's newest frame has, the values that
 -- stand behind these for a while, how many slots there are behind those, and of the older frames how
@@ -25,7 +25,7 @@ newest (h ∷ hs) = h
 -- each frame with what stands behind it
 abbrev pub joined : List (List Value) → List (List Value) → List (List Value)
 joined [] hs = []
-joined (f ∷ fs) hs = (f ++ newest hs) ∷ joined fs (left hs)
+joined (f ∷ fs) hs = (f ++ newest hs) ∷ joined fs (store_behind hs)
 
 -- the meaning's store, and the machine's
 pub record Stores (k : Known) (a b : List (List Value)) : Type 0 where
@@ -43,7 +43,7 @@ extends {k = k} st = ((k.kept ++ st.rest) ∷ k.olds, st.is)
 
 length_joined : (a hs : List (List Value)) → length (joined a hs) ≡ length a
 length_joined [] hs = refl
-length_joined (f ∷ fs) hs = let h = length_joined fs (left hs) in omega (arith, h)
+length_joined (f ∷ fs) hs = let h = length_joined fs (store_behind hs) in omega (arith, h)
 
 get_append : (f h : List Value) (slot : ℕ) (v : Value) → slice_get f slot ≡ Some v → slice_get (f ++ h) slot ≡ Some v
 get_append [] h slot v e = cc
@@ -54,10 +54,10 @@ get_append (x ∷ f) h (suc slot) v e = get_append f h slot v e
 load_joined : (a hs : List (List Value)) (frame slot : ℕ) (v : Value) → load_in a frame slot ≡ Some v → load_in (joined a hs) frame slot ≡ Some v
 load_joined [] hs frame slot v e = cc
 load_joined (f ∷ fs) hs frame slot v e =
-    rw (length_joined fs (left hs)) (tested (nat_eq frame (length fs)) e (load_joined fs (left hs) frame slot v))
+    rw (length_joined fs (store_behind hs)) (tested (nat_eq frame (length fs)) e (load_joined fs (store_behind hs) frame slot v))
   where
-    tested : (b : Bool) → (if b then slice_get f slot else load_in fs frame slot) ≡ Some v → (load_in fs frame slot ≡ Some v → load_in (joined fs (left hs)) frame slot ≡ Some v)
-        → (if b then slice_get (f ++ newest hs) slot else load_in (joined fs (left hs)) frame slot) ≡ Some v
+    tested : (b : Bool) → (if b then slice_get f slot else load_in fs frame slot) ≡ Some v → (load_in fs frame slot ≡ Some v → load_in (joined fs (store_behind hs)) frame slot ≡ Some v)
+        → (if b then slice_get (f ++ newest hs) slot else load_in (joined fs (store_behind hs)) frame slot) ≡ Some v
     tested true e later = get_append f (newest hs) slot v e
     tested false e later = later e
 
@@ -67,11 +67,11 @@ loaded_stores {k = k} {a = a} place v st e =
 
 -- in the newest frame
 put_head : (f : List Value) (fs hs : List (List Value)) (slot : ℕ) (v : Value) (after : List (List Value)) → option_map (λ (g : List Value). g ∷ fs) (put_slot f slot v) ≡ Some after
-    → (option_map (λ (g : List Value). g ∷ joined fs (left hs)) (put_slot (f ++ newest hs) slot v) ≡ Some (joined after hs)) × (map length after ≡ map length (f ∷ fs))
+    → (option_map (λ (g : List Value). g ∷ joined fs (store_behind hs)) (put_slot (f ++ newest hs) slot v) ≡ Some (joined after hs)) × (map length after ≡ map length (f ∷ fs))
 put_head f fs hs slot v after e = tested (nat_lt slot (length f)) refl e
   where
     tested : (b : Bool) → nat_lt slot (length f) ≡ b → option_map (λ (g : List Value). g ∷ fs) (if b then Some (slice_set f slot v) else None) ≡ Some after
-        → (option_map (λ (g : List Value). g ∷ joined fs (left hs)) (put_slot (f ++ newest hs) slot v) ≡ Some (joined after hs)) × (map length after ≡ map length (f ∷ fs))
+        → (option_map (λ (g : List Value). g ∷ joined fs (store_behind hs)) (put_slot (f ++ newest hs) slot v) ≡ Some (joined after hs)) × (map length after ≡ map length (f ∷ fs))
     tested false t e = cc
     tested true t e =
         let is : slice_set f slot v ∷ fs ≡ after = cc in
@@ -81,7 +81,7 @@ put_head f fs hs slot v after e = tested (nat_lt slot (length f)) refl e
         let set : slice_set (f ++ newest hs) slot v ≡ slice_set f slot v ++ newest hs = set-append_left f (newest hs) slot v within in
         let one : put_slot (f ++ newest hs) slot v ≡ Some (slice_set f slot v ++ newest hs) =
         ap (λ b. if b then Some (slice_set (f ++ newest hs) slot v) else None) wide ∙ ap (λ (g : List Value). Some g) set in (
-          ap (λ (o : Option (List Value)). option_map (λ (g : List Value). g ∷ joined fs (left hs)) o) one
+          ap (λ (o : Option (List Value)). option_map (λ (g : List Value). g ∷ joined fs (store_behind hs)) o) one
               ∙ ap (λ (all : List (List Value)). Some (joined all hs)) is,
           ap (λ (all : List (List Value)). map length all) (sym is) ∙ ap (λ n. n ∷ map length fs) (length-set f slot v),
         )
@@ -90,12 +90,12 @@ put_joined : (a hs : List (List Value)) (frame slot : ℕ) (v : Value) (after : 
     → (put_in (joined a hs) frame slot v ≡ Some (joined after hs)) × (map length after ≡ map length a)
 put_joined [] hs frame slot v after e = cc
 put_joined (f ∷ fs) hs frame slot v after e =
-    let both = tested (nat_eq frame (length fs)) e (put_joined fs (left hs) frame slot v) in
-    (rw (length_joined fs (left hs)) both.0, both.1)
+    let both = tested (nat_eq frame (length fs)) e (put_joined fs (store_behind hs) frame slot v) in
+    (rw (length_joined fs (store_behind hs)) both.0, both.1)
   where
     further : (o : Option (List (List Value))) → put_in fs frame slot v ≡ o → option_map (λ (gs : List (List Value)). f ∷ gs) o ≡ Some after
-        → ((later : List (List Value)) → put_in fs frame slot v ≡ Some later → (put_in (joined fs (left hs)) frame slot v ≡ Some (joined later (left hs))) × (map length later ≡ map length fs))
-        → (option_map (λ (gs : List (List Value)). (f ++ newest hs) ∷ gs) (put_in (joined fs (left hs)) frame slot v) ≡ Some (joined after hs)) × (map length after ≡ map length (f ∷ fs))
+        → ((later : List (List Value)) → put_in fs frame slot v ≡ Some later → (put_in (joined fs (store_behind hs)) frame slot v ≡ Some (joined later (store_behind hs))) × (map length later ≡ map length fs))
+        → (option_map (λ (gs : List (List Value)). (f ++ newest hs) ∷ gs) (put_in (joined fs (store_behind hs)) frame slot v) ≡ Some (joined after hs)) × (map length after ≡ map length (f ∷ fs))
     further None p e later = cc
     further (Some gs) p e later =
         let is : f ∷ gs ≡ after = cc in
@@ -106,8 +106,8 @@ put_joined (f ∷ fs) hs frame slot v after e =
 
     tested : (b : Bool)
         → (if b then option_map (λ (g : List Value). g ∷ fs) (put_slot f slot v) else option_map (λ (gs : List (List Value)). f ∷ gs) (put_in fs frame slot v)) ≡ Some after
-        → ((later : List (List Value)) → put_in fs frame slot v ≡ Some later → (put_in (joined fs (left hs)) frame slot v ≡ Some (joined later (left hs))) × (map length later ≡ map length fs))
-        → ((if b then option_map (λ (g : List Value). g ∷ joined fs (left hs)) (put_slot (f ++ newest hs) slot v) else option_map (λ (gs : List (List Value)). (f ++ newest hs) ∷ gs) (put_in (joined fs (left hs)) frame slot v)) ≡ Some (joined after hs))
+        → ((later : List (List Value)) → put_in fs frame slot v ≡ Some later → (put_in (joined fs (store_behind hs)) frame slot v ≡ Some (joined later (store_behind hs))) × (map length later ≡ map length fs))
+        → ((if b then option_map (λ (g : List Value). g ∷ joined fs (store_behind hs)) (put_slot (f ++ newest hs) slot v) else option_map (λ (gs : List (List Value)). (f ++ newest hs) ∷ gs) (put_in (joined fs (store_behind hs)) frame slot v)) ≡ Some (joined after hs))
         × (map length after ≡ map length (f ∷ fs))
     tested true e later = put_head f fs hs slot v after e
     tested false e later = further (put_in fs frame slot v) refl e later

@@ -1,6 +1,6 @@
 -- As the compiler goes about it: the forms that it takes apart.
 
-use Rattle.mos_meaning.specs.Syntax.{Scope, Own, Model, Expression, number, text, truth, variable, index, apply, range_of, sum_over, invoke, ask_hub, unbuilt, Shown, nothing, one_more, Effect, assign, change, write, perform, tell_hub, if_, while_, do_, break_, next_, unbuilt_effect, Branches, else_, elif, Block, no_more, first}
+use Rattle.mos_meaning.specs.Syntax.{Scope, Own, Model, Expression, number, text, truth, variable, index, apply, range_of, sum_over, invoke, ask_hub, unbuilt, Shown, nothing_shown, shown_then, CoreStatement, assign, change, write, perform, tell_hub, if_, while_, do_, break_, next_, unbuilt_statement, Arms, else_, elif, Block, no_statement, statement_then}
 
 -- a variable of the model
 abbrev pub IsModels : Scope → Type 0
@@ -23,45 +23,45 @@ IsBuilt unbuilt = ⊥
 
 -- what is printed
 abbrev pub AreBuilt : Shown → Type 0
-AreBuilt nothing = Unit {0}
-AreBuilt (one_more e es) = IsBuilt e × AreBuilt es
+AreBuilt nothing_shown = Unit {0}
+AreBuilt (shown_then e es) = IsBuilt e × AreBuilt es
 
 abbrev mutual
   -- a statement
-  pub IsBuiltEffect : Effect → Type 0
-  IsBuiltEffect (assign line scope n e) = IsModels scope × IsBuilt e
-  IsBuiltEffect (change line operator scope n e) = IsModels scope × IsBuilt e
-  IsBuiltEffect (write line newline all) = AreBuilt all
-  IsBuiltEffect (if_ line all) = AreBuiltBranches all
-  IsBuiltEffect (while_ line e body) = IsBuilt e × IsBuiltEffect body
-  IsBuiltEffect (do_ all) = IsBuiltBlock all
-  IsBuiltEffect (break_ line) = Unit {0}
-  IsBuiltEffect (next_ line) = Unit {0}
-  IsBuiltEffect (perform line routine all) = ⊥
-  IsBuiltEffect (tell_hub line function all) = ⊥
-  IsBuiltEffect unbuilt_effect = ⊥
+  pub IsBuiltStatement : CoreStatement → Type 0
+  IsBuiltStatement (assign line scope n e) = IsModels scope × IsBuilt e
+  IsBuiltStatement (change line operator scope n e) = IsModels scope × IsBuilt e
+  IsBuiltStatement (write line newline all) = AreBuilt all
+  IsBuiltStatement (if_ line all) = AreBuiltArms all
+  IsBuiltStatement (while_ line e body) = IsBuilt e × IsBuiltStatement body
+  IsBuiltStatement (do_ all) = IsBuiltBlock all
+  IsBuiltStatement (break_ line) = Unit {0}
+  IsBuiltStatement (next_ line) = Unit {0}
+  IsBuiltStatement (perform line routine all) = ⊥
+  IsBuiltStatement (tell_hub line function all) = ⊥
+  IsBuiltStatement unbuilt_statement = ⊥
 
   -- branches
-  pub AreBuiltBranches : Branches → Type 0
-  AreBuiltBranches (else_ all) = IsBuiltBlock all
-  AreBuiltBranches (elif line e all rest) = IsBuilt e × IsBuiltBlock all × AreBuiltBranches rest
+  pub AreBuiltArms : Arms → Type 0
+  AreBuiltArms (else_ all) = IsBuiltBlock all
+  AreBuiltArms (elif line e all rest) = IsBuilt e × IsBuiltBlock all × AreBuiltArms rest
 
   -- the statements of a block
   pub IsBuiltBlock : Block → Type 0
-  IsBuiltBlock no_more = Unit {0}
-  IsBuiltBlock (first e rest) = IsBuiltEffect e × IsBuiltBlock rest
+  IsBuiltBlock no_statement = Unit {0}
+  IsBuiltBlock (statement_then e rest) = IsBuiltStatement e × IsBuiltBlock rest
 
 -- an `if`
-abbrev pub IsChoice : Effect → Type 0
-IsChoice (if_ line all) = Unit {0}
-IsChoice _ = ⊥
+abbrev pub IsIf : CoreStatement → Type 0
+IsIf (if_ line all) = Unit {0}
+IsIf _ = ⊥
 
 -- its branches
-abbrev pub choice_of : Effect → Branches
-choice_of (if_ line all) = all
-choice_of _ = else_ no_more
+abbrev pub arms_in : CoreStatement → Arms
+arms_in (if_ line all) = all
+arms_in _ = else_ no_statement
 
 -- a `while`
-abbrev pub IsLoop : Effect → Type 0
+abbrev pub IsLoop : CoreStatement → Type 0
 IsLoop (while_ line e body) = Unit {0}
 IsLoop _ = ⊥

@@ -13,7 +13,7 @@ use Rattle.bim_code.specs.declared.instruction.Instruction.{Instruction}
 use Rattle.bim_code.specs.declared.instruction.Instruction.TheVariants.{Tick, PushInt, PushBool, PushText, LoadGlobal, StoreGlobal, Swap, Add, Subtract, Compare, Jump, JumpIf, JumpNot, Show, Write, Line, End}
 use Rattle.mos_names.specs.NameLists.{Name, place_of}
 use Rattle.mos_value.specs.Answers as how
-use Rattle.mos_meaning.specs.Syntax.{Expression, number, text, truth, variable, apply, Shown, nothing, one_more, Effect, assign, change, write, perform, tell_hub, if_, while_, do_, break_, next_, unbuilt_effect, Branches, else_, elif, Block, no_more, first}
+use Rattle.mos_meaning.specs.Syntax.{Expression, number, text, truth, variable, apply, Shown, nothing_shown, shown_then, CoreStatement, assign, change, write, perform, tell_hub, if_, while_, do_, break_, next_, unbuilt_statement, Arms, else_, elif, Block, no_statement, statement_then}
 use Rattle.mos_meaning.specs.Sources.{variables_of}
 use Rattle.bim_compile.specs.declared.draft.Labelled.{Labelled}
 
@@ -29,33 +29,33 @@ texts_in _ = []
 
 -- of what is printed
 abbrev pub texts_in_all : Shown → List (List ℕ)
-texts_in_all nothing = []
-texts_in_all (one_more e es) = texts_in e ++ texts_in_all es
+texts_in_all nothing_shown = []
+texts_in_all (shown_then e es) = texts_in e ++ texts_in_all es
 
 abbrev mutual
   -- of a statement
-  pub texts_in_effect : Effect → List (List ℕ)
-  texts_in_effect (assign line scope n e) = texts_in e
-  texts_in_effect (change line operator scope n e) = texts_in e
-  texts_in_effect (write line newline all) = texts_in_all all
-  texts_in_effect (if_ line all) = texts_in_branches all
-  texts_in_effect (while_ line e body) = texts_in_effect body ++ texts_in e
-  texts_in_effect (do_ all) = texts_in_block all
-  texts_in_effect (perform line routine all) = []
-  texts_in_effect (tell_hub line function all) = []
-  texts_in_effect (break_ line) = []
-  texts_in_effect (next_ line) = []
-  texts_in_effect unbuilt_effect = []
+  pub texts_in_statement : CoreStatement → List (List ℕ)
+  texts_in_statement (assign line scope n e) = texts_in e
+  texts_in_statement (change line operator scope n e) = texts_in e
+  texts_in_statement (write line newline all) = texts_in_all all
+  texts_in_statement (if_ line all) = texts_in_arms all
+  texts_in_statement (while_ line e body) = texts_in_statement body ++ texts_in e
+  texts_in_statement (do_ all) = texts_in_block all
+  texts_in_statement (perform line routine all) = []
+  texts_in_statement (tell_hub line function all) = []
+  texts_in_statement (break_ line) = []
+  texts_in_statement (next_ line) = []
+  texts_in_statement unbuilt_statement = []
 
   -- of branches
-  pub texts_in_branches : Branches → List (List ℕ)
-  texts_in_branches (else_ all) = texts_in_block all
-  texts_in_branches (elif line e all rest) = texts_in e ++ (texts_in_block all ++ texts_in_branches rest)
+  pub texts_in_arms : Arms → List (List ℕ)
+  texts_in_arms (else_ all) = texts_in_block all
+  texts_in_arms (elif line e all rest) = texts_in e ++ (texts_in_block all ++ texts_in_arms rest)
 
   -- of the statements of a block
   pub texts_in_block : Block → List (List ℕ)
-  texts_in_block no_more = []
-  texts_in_block (first e rest) = texts_in_effect e ++ texts_in_block rest
+  texts_in_block no_statement = []
+  texts_in_block (statement_then e rest) = texts_in_statement e ++ texts_in_block rest
 
 -- the comparison of an instruction
 abbrev pub comparison_code : how.Comparison → Comparison
@@ -85,8 +85,8 @@ expression_code names line k _ = []
 
 -- each argument is evaluated, printed and held
 abbrev pub arguments_code : List Name → (line k : ℕ) → Shown → List Labelled
-arguments_code names line k nothing = []
-arguments_code names line k (one_more e es) =
+arguments_code names line k nothing_shown = []
+arguments_code names line k (shown_then e es) =
     expression_code names line k e
     ++ (at_line line Show ∷ at_line line Write ∷ arguments_code names line (k + length (texts_in e)) es)
 
@@ -103,78 +103,78 @@ expression_end at _ = at
 
 -- of what is printed
 abbrev pub arguments_end : ℕ → Shown → ℕ
-arguments_end at nothing = at
-arguments_end at (one_more e es) = arguments_end (expression_end at e + 1 + 1) es
+arguments_end at nothing_shown = at
+arguments_end at (shown_then e es) = arguments_end (expression_end at e + 1 + 1) es
 
 abbrev mutual
   -- of a statement
-  pub effect_end : ℕ → Effect → ℕ
-  effect_end at (assign line scope n e) = expression_end (at + 1) e + 5
-  effect_end at (change line operator scope n e) = expression_end (at + 1) e + 5 + 1 + 1 + 5
-  effect_end at (write line newline all) = arguments_end (at + 1) all + 5 + 1
-  effect_end at (if_ line all) = branches_end (at + 1) all
-  effect_end at (while_ line e body) = expression_end (effect_end (at + 1 + 5 + 1) body) e + 5
-  effect_end at (do_ all) = block_end at all
-  effect_end at (break_ line) = at + 1 + 5
-  effect_end at (next_ line) = at + 1 + 5
-  effect_end at (perform line routine all) = at
-  effect_end at (tell_hub line function all) = at
-  effect_end at unbuilt_effect = at
+  pub statement_end : ℕ → CoreStatement → ℕ
+  statement_end at (assign line scope n e) = expression_end (at + 1) e + 5
+  statement_end at (change line operator scope n e) = expression_end (at + 1) e + 5 + 1 + 1 + 5
+  statement_end at (write line newline all) = arguments_end (at + 1) all + 5 + 1
+  statement_end at (if_ line all) = arms_end (at + 1) all
+  statement_end at (while_ line e body) = expression_end (statement_end (at + 1 + 5 + 1) body) e + 5
+  statement_end at (do_ all) = block_end at all
+  statement_end at (break_ line) = at + 1 + 5
+  statement_end at (next_ line) = at + 1 + 5
+  statement_end at (perform line routine all) = at
+  statement_end at (tell_hub line function all) = at
+  statement_end at unbuilt_statement = at
 
   -- of branches
-  pub branches_end : ℕ → Branches → ℕ
-  branches_end at (else_ all) = block_end at all
-  branches_end at (elif line e all rest) = branches_end (block_end (expression_end at e + 5) all + 5) rest
+  pub arms_end : ℕ → Arms → ℕ
+  arms_end at (else_ all) = block_end at all
+  arms_end at (elif line e all rest) = arms_end (block_end (expression_end at e + 5) all + 5) rest
 
   -- of the statements of a block
   pub block_end : ℕ → Block → ℕ
-  block_end at no_more = at
-  block_end at (first e rest) = block_end (effect_end at e) rest
+  block_end at no_statement = at
+  block_end at (statement_then e rest) = block_end (statement_end at e) rest
 
 -- the code of a statement that begins at `at`: `out` and `next` are where `break` and `next` lead. A loop
 -- tests behind its body, and each pass begins with the tick to which the test jumps back.
 abbrev mutual
   -- of one statement
-  pub effect_code : List Name → ℕ → (at out next : ℕ) → Effect → List Labelled
-  effect_code names k at out next (assign line scope n e) =
+  pub statement_code : List Name → ℕ → (at out next : ℕ) → CoreStatement → List Labelled
+  statement_code names k at out next (assign line scope n e) =
       at_line line Tick ∷ (expression_code names line k e ++ at_line line (StoreGlobal (place_of n names)) ∷ [])
-  effect_code names k at out next (change line operator scope n e) =
+  statement_code names k at out next (change line operator scope n e) =
       at_line line Tick
       ∷ (expression_code names line k e
       ++ at_line line (LoadGlobal (place_of n names)) ∷ at_line line Swap ∷ at_line line (operator_code operator) ∷ at_line line (StoreGlobal (place_of n names)) ∷ [])
-  effect_code names k at out next (write line newline all) =
+  statement_code names k at out next (write line newline all) =
       at_line line Tick ∷ (arguments_code names line k all ++ at_line line (PushBool (from_bool newline)) ∷ at_line line Line ∷ [])
-  effect_code names k at out next (if_ line all) =
-      at_line line Tick ∷ branches_code names k (at + 1) (branches_end (at + 1) all) out next all
-  effect_code names k at out next (while_ line e body) =
+  statement_code names k at out next (if_ line all) =
+      at_line line Tick ∷ arms_code names k (at + 1) (arms_end (at + 1) all) out next all
+  statement_code names k at out next (while_ line e body) =
       let pass : ℕ = at + 1 + 5 in
-      let test : ℕ = effect_end (pass + 1) body in
+      let test : ℕ = statement_end (pass + 1) body in
       at_line line Tick ∷ at_line line (Jump test) ∷ at_line line Tick
-      ∷ (effect_code names k (pass + 1) (expression_end test e + 5) test body
-      ++ (expression_code names line (k + length (texts_in_effect body)) e ++ at_line line (JumpIf pass) ∷ []))
-  effect_code names k at out next (do_ all) = block_code names k at out next all
-  effect_code names k at out next (break_ line) = at_line line Tick ∷ at_line line (Jump out) ∷ []
-  effect_code names k at out next (next_ line) = at_line line Tick ∷ at_line line (Jump next) ∷ []
-  effect_code names k at out next (perform line routine all) = []
-  effect_code names k at out next (tell_hub line function all) = []
-  effect_code names k at out next unbuilt_effect = []
+      ∷ (statement_code names k (pass + 1) (expression_end test e + 5) test body
+      ++ (expression_code names line (k + length (texts_in_statement body)) e ++ at_line line (JumpIf pass) ∷ []))
+  statement_code names k at out next (do_ all) = block_code names k at out next all
+  statement_code names k at out next (break_ line) = at_line line Tick ∷ at_line line (Jump out) ∷ []
+  statement_code names k at out next (next_ line) = at_line line Tick ∷ at_line line (Jump next) ∷ []
+  statement_code names k at out next (perform line routine all) = []
+  statement_code names k at out next (tell_hub line function all) = []
+  statement_code names k at out next unbuilt_statement = []
 
   -- `end` is the address behind the whole `if`
-  pub branches_code : List Name → ℕ → (at end out next : ℕ) → Branches → List Labelled
-  branches_code names k at end out next (else_ all) = block_code names k at out next all
-  branches_code names k at end out next (elif line e all rest) =
+  pub arms_code : List Name → ℕ → (at end out next : ℕ) → Arms → List Labelled
+  arms_code names k at end out next (else_ all) = block_code names k at out next all
+  arms_code names k at end out next (elif line e all rest) =
       let body : ℕ = expression_end at e + 5 in
       let other : ℕ = block_end body all + 5 in
       let l : ℕ = k + length (texts_in e) in
       expression_code names line k e
       ++ at_line line (JumpNot other) ∷ (block_code names l body out next all
-      ++ at_line line (Jump end) ∷ branches_code names (l + length (texts_in_block all)) other end out next rest)
+      ++ at_line line (Jump end) ∷ arms_code names (l + length (texts_in_block all)) other end out next rest)
 
   -- of the statements of a block
   pub block_code : List Name → ℕ → (at out next : ℕ) → Block → List Labelled
-  block_code names k at out next no_more = []
-  block_code names k at out next (first e rest) =
-      effect_code names k at out next e ++ block_code names (k + length (texts_in_effect e)) (effect_end at e) out next rest
+  block_code names k at out next no_statement = []
+  block_code names k at out next (statement_then e rest) =
+      statement_code names k at out next e ++ block_code names (k + length (texts_in_statement e)) (statement_end at e) out next rest
 
 -- a variable is an integer; without variables no type is needed
 abbrev pub types_of : List Name → List ImageType

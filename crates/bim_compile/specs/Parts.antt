@@ -3,12 +3,12 @@
 use Rattle.std.specs.Prelude.{◌≡◌, ◌≤◌, ◌<◌, ◌++◌, ◌+◌, ◌*◌, ◌^◌, ℕ, List, [], ◌∷◌, length}
 use Rattle.bim_code.specs.declared.instruction.Instruction.TheVariants.{JumpIf}
 use Rattle.mos_names.specs.NameLists.{Name}
-use Rattle.mos_meaning.specs.Syntax.{Expression, Shown, Effect, Branches, Block}
+use Rattle.mos_meaning.specs.Syntax.{Expression, Shown, CoreStatement, Arms, Block}
 use Rattle.bim_compile.specs.declared.draft.Draft.{Draft}
-use Rattle.bim_compile.specs.declared.draft.Exits.{Exits}
+use Rattle.bim_compile.specs.declared.draft.JumpTargets.{JumpTargets}
 use Rattle.bim_compile.specs.declared.draft.Labelled.{Labelled}
-use Rattle.bim_compile.specs.Compiled.{at_line, texts_in, texts_in_all, texts_in_effect, texts_in_branches, texts_in_block, expression_code, arguments_code, effect_code, branches_code, block_code, expression_end, arguments_end, effect_end, branches_end, block_end}
-use Rattle.bim_compile.specs.Sizes.{size_of, size_of_all, size_of_effect, size_of_branches, size_of_block}
+use Rattle.bim_compile.specs.Compiled.{at_line, texts_in, texts_in_all, texts_in_statement, texts_in_arms, texts_in_block, expression_code, arguments_code, statement_code, arms_code, block_code, expression_end, arguments_end, statement_end, arms_end, block_end}
+use Rattle.bim_compile.specs.Sizes.{size_of, size_of_all, size_of_core, size_of_arms, size_of_block}
 
 -- a part of a model: its code where `k` constants stand before it and it begins at `at`, its texts, the address
 -- behind it, and the most bytes that its code takes
@@ -46,31 +46,31 @@ arguments_part names line all = record {
 }
 
 -- a statement
-abbrev pub effect_part : List Name → Exits → Effect → Part
-effect_part names exits e = record {
-  code = λ k at. effect_code names k at exits.out exits.next e;
-  texts = texts_in_effect e;
-  end = λ at. effect_end at e;
-  most = 13 * size_of_effect e;
+abbrev pub statement_part : List Name → JumpTargets → CoreStatement → Part
+statement_part names targets e = record {
+  code = λ k at. statement_code names k at targets.break_ targets.next_ e;
+  texts = texts_in_statement e;
+  end = λ at. statement_end at e;
+  most = 13 * size_of_core e;
 }
 
 -- a statement out of which no `break` and no `next` leads
-abbrev pub closed_part : List Name → Effect → Part
-closed_part names e = effect_part names (record { out = 0; next = 0 }) e
+abbrev pub closed_part : List Name → CoreStatement → Part
+closed_part names e = statement_part names (record { break_ = 0; next_ = 0 }) e
 
 -- the branches of an `if`, which ends at `end`
-abbrev pub branches_part : List Name → (end : ℕ) → Exits → Branches → Part
-branches_part names end exits all = record {
-  code = λ k at. branches_code names k at end exits.out exits.next all;
-  texts = texts_in_branches all;
-  end = λ at. branches_end at all;
-  most = 13 * size_of_branches all;
+abbrev pub arms_part : List Name → (end : ℕ) → JumpTargets → Arms → Part
+arms_part names end targets all = record {
+  code = λ k at. arms_code names k at end targets.break_ targets.next_ all;
+  texts = texts_in_arms all;
+  end = λ at. arms_end at all;
+  most = 13 * size_of_arms all;
 }
 
 -- the statements of a block
-abbrev pub block_part : List Name → Exits → Block → Part
-block_part names exits all = record {
-  code = λ k at. block_code names k at exits.out exits.next all;
+abbrev pub block_part : List Name → JumpTargets → Block → Part
+block_part names targets all = record {
+  code = λ k at. block_code names k at targets.break_ targets.next_ all;
   texts = texts_in_block all;
   end = λ at. block_end at all;
   most = 13 * size_of_block all;

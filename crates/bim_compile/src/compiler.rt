@@ -1,7 +1,7 @@
 //! The whole image: the code of the statements, the end, and the tables.
 ghost use Rattle.std.specs.Prelude.{◌≡◌, ◌∷◌, [], ℕ, ◌<◌, ◌≤◌, ◌+◌, ◌*◌, ◌^◌, IfOk, OnOk, length, replicate};
 ghost use Rattle.bim_code.specs.Code.{code_size};
-ghost use Rattle.bim_code.specs.Limits.{FitsFields};
+ghost use Rattle.bim_code.specs.Limits.{CountsInRange};
 ghost use Rattle.bim_code.specs.Rules.{KeepsRules};
 ghost use Rattle.mos_meaning.specs.Sources.{model_of, statements_of, variables_of};
 ghost use Rattle.bim_compile.specs.Built.{IsBuiltBlock};
@@ -11,7 +11,7 @@ ghost use Rattle.bim_compile.specs.Means.{Means, NeverFails, CanCompile};
 ghost use Rattle.mos_meaning.specs.Working.{NeverLost, CallsNothing};
 ghost use Rattle.bim_compile.specs.Sizes.{size_of_block};
 
-use crate::draft::{Draft, Exits, Labelled};
+use crate::draft::{Draft, JumpTargets, Labelled};
 use crate::ends::end_of_tops;
 use crate::names::note_tops;
 use crate::statements::emit_tops;
@@ -38,7 +38,7 @@ pub fn compile(alloc: Global, tree: &Tree) -> Result<Image, NoMemory>
     ensures rules { IfOk result KeepsRules }
 
     // Its file can hold it.
-    ensures fields { IfOk result FitsFields }
+    ensures fields { IfOk result CountsInRange }
 
     // It has few instructions for each node and statement of the model: 5, and 2 for the end.
     ensures few { IfOk result (λ image. length image.code
@@ -62,11 +62,11 @@ fn build(alloc: Global, tree: &Tree) -> Result<Image, NoMemory>
     note_tops(&mut names, tops)?;
     let end = end_of_tops(0, tops);
     let mut draft = Draft::new(alloc);
-    let exits = Exits {
-        out: end,
-        next: end,
+    let targets = JumpTargets {
+        break_: end,
+        next_: end,
     };
-    emit_tops(alloc, &mut draft, &names, exits, tops)?;
+    emit_tops(alloc, &mut draft, &names, targets, tops)?;
     draft.put(0, Instruction::PushInt(0))?;
     draft.put(0, Instruction::End)?;
     let types = types(alloc, &names)?;

@@ -27,9 +27,9 @@ pub(crate) struct Draft {
 
 /// Where `break` and `next` lead.
 #[derive(Clone, Copy, Debug, Drop)]
-pub(crate) struct Exits {
-    pub out: u32,
-    pub next: u32,
+pub(crate) struct JumpTargets {
+    pub break_: u32,
+    pub next_: u32,
 }
 
 impl Draft {

@@ -1,11 +1,11 @@
 //! Where the code of a form ends that begins at an address.
 ghost use Rattle.std.specs.Prelude.{◌≡◌, ◌≤◌, ◌<◌, ◌+◌, ◌*◌, ◌^◌, map};
 ghost use Rattle.mos_meaning.specs.Syntax as meant;
-ghost use Rattle.mos_meaning.specs.Sources.{expression, shown, effect, top_effect, block, block_of};
-ghost use Rattle.bim_compile.specs.Built.{IsBuilt, AreBuilt, IsBuiltEffect, IsBuiltBlock};
-ghost use Rattle.bim_compile.specs.Compiled.{expression_end, arguments_end, effect_end, block_end};
-ghost use Rattle.bim_compile.specs.InSize.{IsSmall, AreSmall, IsSmallEffect, IsSmallBlock};
-ghost use Rattle.bim_compile.specs.Sizes.{size_of, size_of_all, size_of_effect, size_of_block};
+ghost use Rattle.mos_meaning.specs.Sources.{expression, shown_of, core_of, core_of_top, block, block_of};
+ghost use Rattle.bim_compile.specs.Built.{IsBuilt, AreBuilt, IsBuiltStatement, IsBuiltBlock};
+ghost use Rattle.bim_compile.specs.Compiled.{expression_end, arguments_end, statement_end, block_end};
+ghost use Rattle.bim_compile.specs.InSize.{IsSmall, AreSmall, IsSmallStatement, IsSmallBlock};
+ghost use Rattle.bim_compile.specs.Sizes.{size_of, size_of_all, size_of_core, size_of_block};
 
 use mos_text::SourceText;
 use mos_tree::{Assignment, Expr, Reference, Statement, Top};
@@ -52,11 +52,11 @@ fn end_of_text(at: u32, text: &SourceText) -> u32
 }
 
 fn end_of_arguments(at: u32, all: &[Expr]) -> u32
-    requires built { AreBuilt (shown (map expression all.now)) }
-    requires room { at + 7 * size_of_all (shown (map expression all.now)) < 2 ^ 32 }
-    ensures end { result ≡ arguments_end at (shown (map expression all.now)) }
-    ensures within { result ≤ at + 7 * size_of_all (shown (map expression all.now)) }
-    ensures small { AreSmall (shown (map expression all.now)) }
+    requires built { AreBuilt (shown_of (map expression all.now)) }
+    requires room { at + 7 * size_of_all (shown_of (map expression all.now)) < 2 ^ 32 }
+    ensures end { result ≡ arguments_end at (shown_of (map expression all.now)) }
+    ensures within { result ≤ at + 7 * size_of_all (shown_of (map expression all.now)) }
+    ensures small { AreSmall (shown_of (map expression all.now)) }
 {
     let mut end = at;
     for written in all {
@@ -69,11 +69,11 @@ fn end_of_arguments(at: u32, all: &[Expr]) -> u32
 #[tactic(auto, using(crate::proofs::SmallForms::procedure_small))]
 #[cycle(ends)]
 pub(crate) fn end_of_statement(at: u32, statement: &Statement) -> u32
-    requires built { IsBuiltEffect (effect statement.now) }
-    requires room { at + 13 * size_of_effect (effect statement.now) < 2 ^ 32 }
-    ensures end { result ≡ effect_end at (effect statement.now) }
-    ensures within { result ≤ at + 13 * size_of_effect (effect statement.now) }
-    ensures small { IsSmallEffect (effect statement.now) }
+    requires built { IsBuiltStatement (core_of statement.now) }
+    requires room { at + 13 * size_of_core (core_of statement.now) < 2 ^ 32 }
+    ensures end { result ≡ statement_end at (core_of statement.now) }
+    ensures within { result ≤ at + 13 * size_of_core (core_of statement.now) }
+    ensures small { IsSmallStatement (core_of statement.now) }
 {
     match statement {
         Statement::Assign {
@@ -132,11 +132,11 @@ pub(crate) fn end_of_block(at: u32, all: &[Statement]) -> u32
 
 /// The address behind the code of the statements of a model.
 pub(crate) fn end_of_tops(at: u32, tops: &[Top]) -> u32
-    requires built { IsBuiltBlock (block (map top_effect tops.now)) }
-    requires room { at + 13 * size_of_block (block (map top_effect tops.now)) < 2 ^ 32 }
-    ensures end { result ≡ block_end at (block (map top_effect tops.now)) }
-    ensures within { result ≤ at + 13 * size_of_block (block (map top_effect tops.now)) }
-    ensures small { IsSmallBlock (block (map top_effect tops.now)) }
+    requires built { IsBuiltBlock (block (map core_of_top tops.now)) }
+    requires room { at + 13 * size_of_block (block (map core_of_top tops.now)) < 2 ^ 32 }
+    ensures end { result ≡ block_end at (block (map core_of_top tops.now)) }
+    ensures within { result ≤ at + 13 * size_of_block (block (map core_of_top tops.now)) }
+    ensures small { IsSmallBlock (block (map core_of_top tops.now)) }
 {
     let mut end = at;
     for top in tops {
@@ -146,11 +146,11 @@ pub(crate) fn end_of_tops(at: u32, tops: &[Top]) -> u32
 }
 
 fn end_of_top(at: u32, top: &Top) -> u32
-    requires built { IsBuiltEffect (top_effect top.now) }
-    requires room { at + 13 * size_of_effect (top_effect top.now) < 2 ^ 32 }
-    ensures end { result ≡ effect_end at (top_effect top.now) }
-    ensures within { result ≤ at + 13 * size_of_effect (top_effect top.now) }
-    ensures small { IsSmallEffect (top_effect top.now) }
+    requires built { IsBuiltStatement (core_of_top top.now) }
+    requires room { at + 13 * size_of_core (core_of_top top.now) < 2 ^ 32 }
+    ensures end { result ≡ statement_end at (core_of_top top.now) }
+    ensures within { result ≤ at + 13 * size_of_core (core_of_top top.now) }
+    ensures small { IsSmallStatement (core_of_top top.now) }
 {
     match top {
         Top::Statement(statement) => end_of_statement(at, statement),

@@ -1,6 +1,6 @@
 //! The variables of a model, by their names.
 ghost use Rattle.std.specs.Prelude.{◌≡◌, [], OnOk, map};
-ghost use Rattle.mos_meaning.specs.Sources.{block, block_of, top_effect, names_after, names_from, effect};
+ghost use Rattle.mos_meaning.specs.Sources.{block, block_of, core_of_top, names_after, names_from, core_of};
 
 use mos_names::Names;
 use mos_text::NoMemory;
@@ -8,7 +8,7 @@ use mos_tree::{Assignment, Reference, Statement, Top};
 
 /// Adds the names that are assigned to, in the order of their first assignments.
 pub(crate) fn note_tops<'a>(names: &mut Names<'a>, tops: &'a [Top]) -> Result<(), NoMemory>
-    ensures { OnOk result (names.new ≡ names_from names.old (block (map top_effect tops.now))) }
+    ensures { OnOk result (names.new ≡ names_from names.old (block (map core_of_top tops.now))) }
 {
     for top in tops {
         note_top(names, top)?;
@@ -18,7 +18,7 @@ pub(crate) fn note_tops<'a>(names: &mut Names<'a>, tops: &'a [Top]) -> Result<()
 
 /// Adds the names that a piece assigns to and that are not among them yet.
 fn note_top<'a>(names: &mut Names<'a>, top: &'a Top) -> Result<(), NoMemory>
-    ensures { OnOk result (names.new ≡ names_after names.old (top_effect top.now)) }
+    ensures { OnOk result (names.new ≡ names_after names.old (core_of_top top.now)) }
 {
     match top {
         Top::Statement(statement) => note_statement(names, statement),
@@ -28,7 +28,7 @@ fn note_top<'a>(names: &mut Names<'a>, top: &'a Top) -> Result<(), NoMemory>
 
 #[cycle(notes)]
 fn note_statement<'a>(names: &mut Names<'a>, statement: &'a Statement) -> Result<(), NoMemory>
-    ensures { OnOk result (names.new ≡ names_after names.old (effect statement.now)) }
+    ensures { OnOk result (names.new ≡ names_after names.old (core_of statement.now)) }
 {
     match statement {
         Statement::Assign {

@@ -1,13 +1,13 @@
 //! The code of statements.
 ghost use Rattle.std.specs.Prelude.{◌≡◌, ◌++◌, ◌∷◌, [], ◌<◌, ◌+◌, ◌^◌, OnOk, map};
 ghost use Rattle.mos_meaning.specs.Syntax.{write};
-ghost use Rattle.mos_meaning.specs.Sources.{expression, shown, effect, top_effect, block, block_of, assignment};
+ghost use Rattle.mos_meaning.specs.Sources.{expression, shown_of, core_of, core_of_top, block, block_of, assignment};
 ghost use Rattle.bim_code.specs.Rows.{width};
-ghost use Rattle.bim_compile.specs.Built.{IsBuilt, AreBuilt, IsBuiltEffect, AreBuiltBranches, IsBuiltBlock, IsChoice, IsLoop, choice_of};
+ghost use Rattle.bim_compile.specs.Built.{IsBuilt, AreBuilt, IsBuiltStatement, AreBuiltArms, IsBuiltBlock, IsIf, IsLoop, arms_in};
 ghost use Rattle.bim_compile.specs.Compiled.{at_line};
-ghost use Rattle.bim_compile.specs.Parts.{HasRoom, Emits, test_part, arguments_part, effect_part, closed_part, branches_part, block_part};
+ghost use Rattle.bim_compile.specs.Parts.{HasRoom, Emits, test_part, arguments_part, statement_part, closed_part, arms_part, block_part};
 
-use crate::draft::{Draft, Exits};
+use crate::draft::{Draft, JumpTargets};
 use crate::ends::{end_of_block, end_of_expression, end_of_statement};
 use crate::expressions::emit_expression;
 use bim_code::Instruction;
@@ -21,17 +21,17 @@ pub(crate) fn emit_tops(
     alloc: Global,
     draft: &mut Draft,
     names: &Names<'_>,
-    exits: Exits,
+    targets: JumpTargets,
     tops: &[Top],
 ) -> Result<(), NoMemory>
-    requires built { IsBuiltBlock (block (map top_effect tops.now)) }
+    requires built { IsBuiltBlock (block (map core_of_top tops.now)) }
     requires room { HasRoom names.now
-        (block_part names.now exits (block (map top_effect tops.now))) draft.old }
-    ensures { OnOk result (Emits (block_part names.now exits (block (map top_effect tops.now)))
+        (block_part names.now targets (block (map core_of_top tops.now))) draft.old }
+    ensures { OnOk result (Emits (block_part names.now targets (block (map core_of_top tops.now)))
         draft.old draft.new) }
 {
     for top in tops {
-        emit_top(alloc, draft, names, exits, top)?;
+        emit_top(alloc, draft, names, targets, top)?;
     }
     Ok(())
 }
@@ -40,16 +40,17 @@ fn emit_top(
     alloc: Global,
     draft: &mut Draft,
     names: &Names<'_>,
-    exits: Exits,
+    targets: JumpTargets,
     top: &Top,
 ) -> Result<(), NoMemory>
-    requires built { IsBuiltEffect (top_effect top.now) }
-    requires room { HasRoom names.now (effect_part names.now exits (top_effect top.now)) draft.old }
-    ensures { OnOk result (Emits (effect_part names.now exits (top_effect top.now))
+    requires built { IsBuiltStatement (core_of_top top.now) }
+    requires room { HasRoom names.now (statement_part names.now targets (core_of_top top.now))
+        draft.old }
+    ensures { OnOk result (Emits (statement_part names.now targets (core_of_top top.now))
         draft.old draft.new) }
 {
     match top {
-        Top::Statement(statement) => emit_statement(alloc, draft, names, exits, statement),
+        Top::Statement(statement) => emit_statement(alloc, draft, names, targets, statement),
         _ => unreachable!(),
     }
 }
@@ -59,13 +60,13 @@ fn emit_statement(
     alloc: Global,
     draft: &mut Draft,
     names: &Names<'_>,
-    exits: Exits,
+    targets: JumpTargets,
     statement: &Statement,
 ) -> Result<(), NoMemory>
-    requires built { IsBuiltEffect (effect statement.now) }
+    requires built { IsBuiltStatement (core_of statement.now) }
     requires room { HasRoom names.now
-        (effect_part names.now exits (effect statement.now)) draft.old }
-    ensures { OnOk result (Emits (effect_part names.now exits (effect statement.now))
+        (statement_part names.now targets (core_of statement.now)) draft.old }
+    ensures { OnOk result (Emits (statement_part names.now targets (core_of statement.now))
         draft.old draft.new) }
 {
     match statement {
@@ -86,36 +87,42 @@ fn emit_statement(
         Statement::If { line, .. } => {
             let end = end_of_statement(draft.at, statement);
             draft.put(*line, Instruction::Tick)?;
-            emit_branches(alloc, draft, names, end, exits, statement)
+            emit_arms(alloc, draft, names, end, targets, statement)
         }
-        Statement::While { .. } => emit_loop(alloc, draft, names, exits, statement),
-        Statement::Do { body, .. } => emit_block(alloc, draft, names, exits, body.as_slice()),
+        Statement::While { .. } => emit_loop(alloc, draft, names, targets, statement),
+        Statement::Do { body, .. } => emit_block(alloc, draft, names, targets, body.as_slice()),
         Statement::Break { line } => {
-            draft.put_all(*line, &[Instruction::Tick, Instruction::Jump(exits.out)])
+            draft.put_all(
+                *line,
+                &[Instruction::Tick, Instruction::Jump(targets.break_)],
+            )
         }
         Statement::Next { line } => {
-            draft.put_all(*line, &[Instruction::Tick, Instruction::Jump(exits.next)])
+            draft.put_all(
+                *line,
+                &[Instruction::Tick, Instruction::Jump(targets.next_)],
+            )
         }
         _ => unreachable!(),
     }
 }
 
-/// Adds the code of the branches of an `if`, which ends at this address.
+/// Adds the code of the arms of an `if`, which ends at this address.
 #[cycle(emits)]
-fn emit_branches(
+fn emit_arms(
     alloc: Global,
     draft: &mut Draft,
     names: &Names<'_>,
     end: u32,
-    exits: Exits,
+    targets: JumpTargets,
     statement: &Statement,
 ) -> Result<(), NoMemory>
-    requires choice { IsChoice (effect statement.now) }
-    requires built { AreBuiltBranches (choice_of (effect statement.now)) }
+    requires choice { IsIf (core_of statement.now) }
+    requires built { AreBuiltArms (arms_in (core_of statement.now)) }
     requires room { HasRoom names.now
-        (branches_part names.now end exits (choice_of (effect statement.now))) draft.old }
+        (arms_part names.now end targets (arms_in (core_of statement.now))) draft.old }
     ensures { OnOk result (Emits
-        (branches_part names.now end exits (choice_of (effect statement.now)))
+        (arms_part names.now end targets (arms_in (core_of statement.now)))
         draft.old draft.new) }
 {
     let Statement::If {
@@ -130,10 +137,10 @@ fn emit_branches(
         emit_expression(alloc, draft, names, arm.line, &arm.condition)?;
         let other = end_of_block(draft.at + 5, arm.body.as_slice()) + 5;
         draft.put(arm.line, Instruction::JumpNot(other))?;
-        emit_block(alloc, draft, names, exits, arm.body.as_slice())?;
+        emit_block(alloc, draft, names, targets, arm.body.as_slice())?;
         draft.put(arm.line, Instruction::Jump(end))?;
     }
-    emit_block(alloc, draft, names, exits, otherwise.as_slice())
+    emit_block(alloc, draft, names, targets, otherwise.as_slice())
 }
 
 /// Adds the code of a `while`.
@@ -142,13 +149,14 @@ fn emit_loop(
     alloc: Global,
     draft: &mut Draft,
     names: &Names<'_>,
-    exits: Exits,
+    targets: JumpTargets,
     statement: &Statement,
 ) -> Result<(), NoMemory>
-    requires repeats { IsLoop (effect statement.now) }
-    requires built { IsBuiltEffect (effect statement.now) }
-    requires room { HasRoom names.now (effect_part names.now exits (effect statement.now)) draft.old }
-    ensures { OnOk result (Emits (effect_part names.now exits (effect statement.now))
+    requires repeats { IsLoop (core_of statement.now) }
+    requires built { IsBuiltStatement (core_of statement.now) }
+    requires room { HasRoom names.now (statement_part names.now targets (core_of statement.now))
+        draft.old }
+    ensures { OnOk result (Emits (statement_part names.now targets (core_of statement.now))
         draft.old draft.new) }
 {
     let Statement::While {
@@ -162,14 +170,23 @@ fn emit_loop(
     let pass = draft.at + 1 + 5;
     let test = end_of_statement(pass + 1, body.get());
     let out = end_of_expression(test, condition) + 5;
-    emit_first_test(draft, *line, test)?;
-    emit_statement(alloc, draft, names, Exits { out, next: test }, body.get())?;
+    emit_loop_entry(draft, *line, test)?;
+    emit_statement(
+        alloc,
+        draft,
+        names,
+        JumpTargets {
+            break_: out,
+            next_: test,
+        },
+        body.get(),
+    )?;
     emit_test(alloc, draft, names, *line, condition, pass)?;
     Ok(())
 }
 
 /// Adds the code that leads to the first test of a loop, and the tick of a pass.
-fn emit_first_test(draft: &mut Draft, line: u32, test: u32) -> Result<(), NoMemory>
+fn emit_loop_entry(draft: &mut Draft, line: u32, test: u32) -> Result<(), NoMemory>
     requires { draft.old.at + 13 < 2 ^ 32 }
     ensures code { OnOk result (draft.new.code ≡ draft.old.code
         ++ at_line line Instruction.Tick ∷ at_line line (Instruction.Jump test)
@@ -205,16 +222,16 @@ fn emit_block(
     alloc: Global,
     draft: &mut Draft,
     names: &Names<'_>,
-    exits: Exits,
+    targets: JumpTargets,
     all: &[Statement],
 ) -> Result<(), NoMemory>
     requires built { IsBuiltBlock (block_of all.now) }
-    requires room { HasRoom names.now (block_part names.now exits (block_of all.now)) draft.old }
-    ensures { OnOk result (Emits (block_part names.now exits (block_of all.now))
+    requires room { HasRoom names.now (block_part names.now targets (block_of all.now)) draft.old }
+    ensures { OnOk result (Emits (block_part names.now targets (block_of all.now))
         draft.old draft.new) }
 {
     for statement in all {
-        emit_statement(alloc, draft, names, exits, statement)?;
+        emit_statement(alloc, draft, names, targets, statement)?;
     }
     Ok(())
 }
@@ -228,11 +245,11 @@ fn emit_write(
     newline: bool,
     all: &[Expr],
 ) -> Result<(), NoMemory>
-    requires built { AreBuilt (shown (map expression all.now)) }
+    requires built { AreBuilt (shown_of (map expression all.now)) }
     requires room { HasRoom names.now
-        (closed_part names.now (write line newline (shown (map expression all.now)))) draft.old }
+        (closed_part names.now (write line newline (shown_of (map expression all.now)))) draft.old }
     ensures { OnOk result (Emits
-        (closed_part names.now (write line newline (shown (map expression all.now))))
+        (closed_part names.now (write line newline (shown_of (map expression all.now))))
         draft.old draft.new) }
 {
     draft.put(line, Instruction::Tick)?;
@@ -248,11 +265,11 @@ fn emit_arguments(
     line: u32,
     all: &[Expr],
 ) -> Result<(), NoMemory>
-    requires built { AreBuilt (shown (map expression all.now)) }
+    requires built { AreBuilt (shown_of (map expression all.now)) }
     requires room { HasRoom names.now
-        (arguments_part names.now line (shown (map expression all.now))) draft.old }
+        (arguments_part names.now line (shown_of (map expression all.now))) draft.old }
     ensures { OnOk result (Emits
-        (arguments_part names.now line (shown (map expression all.now))) draft.old draft.new) }
+        (arguments_part names.now line (shown_of (map expression all.now))) draft.old draft.new) }
 {
     for written in all {
         emit_expression(alloc, draft, names, line, written)?;
@@ -272,7 +289,7 @@ fn emit_assignment(
     operator: Assignment,
     value: &Expr,
 ) -> Result<(), NoMemory>
-    requires built { IsBuiltEffect (assignment line target.now operator (expression value.now)) }
+    requires built { IsBuiltStatement (assignment line target.now operator (expression value.now)) }
     requires room { HasRoom names.now (closed_part names.now
         (assignment line target.now operator (expression value.now))) draft.old }
     ensures { OnOk result (Emits (closed_part names.now

@@ -2,26 +2,26 @@
 //! count and then its entries.
 ghost use Rattle.std.specs.Prelude.{◌≡◌, ◌++◌, IfOk, OnOk};
 ghost use Rattle.bim_code.specs.Tables.{heading_bytes, image_bytes};
-ghost use Rattle.bim_code.specs.Limits.{FitsFields};
+ghost use Rattle.bim_code.specs.Limits.{CountsInRange};
 
 use bim_code::Image;
 use mos_text::{Blob, NoMemory};
 use std::alloc::{AllocError, Global};
 
 mod code;
+mod encode;
 mod entries;
 mod numbers;
-mod spelled;
 
 use code::put_code;
+use encode::{put_long_table, put_short_table};
 use numbers::put_u16;
-use spelled::{put_long_table, put_short_table};
 
 /// The bytes of the image's file. Each count fits its field, as in every image that keeps the
 /// limits of the format.
 #[tactic(auto, unfolding(bim_code::specs::Tables::image_bytes))]
 pub fn write_image(alloc: Global, image: &Image) -> Result<Blob, NoMemory>
-    requires { FitsFields image.now }
+    requires { CountsInRange image.now }
     ensures { IfOk result (λ bytes. bytes ≡ image_bytes image.now) }
 {
     let mut out = Vec::new(alloc);

@@ -15,12 +15,12 @@ use Rattle.bim_code.specs.Rules.{KeepsTicks}
 use Rattle.mos_value.specs.Values.{Value, Operand}
 use Rattle.mos_text.specs.declared.fault_kind.FaultKind.TheVariants.{OutFull}
 use Rattle.run_state.specs.Stops.{Stop, Failed}
-use Rattle.run_state.specs.State.{World, State, Counts, counting, had, tick, tick_if, Gave, Halts, write}
-use Rattle.run_state.specs.Calls.{Query, Once, UntilEnd, Answer, stop_by, with_call, reply_or_stop, replied, as_answer, Piece, Part, Last, NoPiece, piece_in, further, taken, drain, inquire}
+use Rattle.run_state.specs.State.{World, State, Counts, with_counts, on_drawn, tick, tick_if, Yields, StopsWith, write}
+use Rattle.run_state.specs.Calls.{Query, Once, UntilEnd, Answer, stop_by, with_call, reply_or_stop, drawn_reply, as_answer, Piece, Part, Last, NoPiece, piece_in, drawn_bytes, drawn_piece, drain, inquire}
 use Rattle.run_state.specs.Places.{Argument}
-use Rattle.bim_machine.specs.Machine.{Machine, At, Over, Work, Caller, Here, Site, Act, On, Jumps, Stops, Puts, Prints, Ticks, Asks, Enters, Leaves, on_out, stored, begins, begins_routine, enters, work_behind, resumes, leaves, settle}
+use Rattle.bim_machine.specs.Machine.{Machine, At, Halted, Work, Caller, Here, Site, Act, On, Jumps, Stops, Puts, Prints, Ticks, Asks, Enters, Leaves, on_evaluation, store_step, begins, begins_routine, enters, work_behind, resumes, leaves, settle}
 use Rattle.bim_machine.specs.Instructions.{act}
-use Rattle.bim_machine.specs.Courses.{Progress, site_of, decoded, step, run, start, most_steps}
+use Rattle.bim_machine.specs.Courses.{Progress, site_of, step_by, step, run, start, most_steps}
 use Rattle.bim_machine.specs.Laws.{IsOver, state_in}
 use Rattle.bim_machine.proofs.Runs.{run_over}
 use Rattle.bim_machine.proofs.AddressPlaces.{place_from, place_next, place_behind}
@@ -63,54 +63,54 @@ ticks_left w s = w.budget - s.counts.ticks
 -- a step leaves fewer
 data Fewer (image : Image) (w : World) (most : ℕ) : Machine → Type 0 where
   stands : (address : ℕ) (work : Work) (here : Here) (s : State) → left_at image address here.callers (ticks_left w s) < most → Fewer image w most (At address work here s)
-  stops : (stop : Stop) (address : ℕ) (s : State) → worth (length image.code) (ticks_left w s) < most → Fewer image w most (Over stop address s)
+  stops : (stop : Stop) (address : ℕ) (s : State) → worth (length image.code) (ticks_left w s) < most → Fewer image w most (Halted stop address s)
 
 -- a tick, and what is done with one less
 tick_fewer : (image : Image) (w : World) (most at : ℕ) (s : State) (go : Unit {0} → State → Machine)
     → worth (length image.code) (ticks_left w s) < most
     → ((s1 : State) → ticks_left w s ≡ suc (ticks_left w s1) → Fewer image w most (go tt s1))
-    → Fewer image w most (on_out at (had (tick w s.counts) s) go)
+    → Fewer image w most (on_evaluation at (on_drawn (tick w s.counts) s) go)
 tick_fewer image w most at s go less h = tested (nat_lt s.counts.ticks w.budget) refl
   where
-    tested : (b : Bool) → nat_lt s.counts.ticks w.budget ≡ b → Fewer image w most (on_out at (had (tick_if b s.counts) s) go)
+    tested : (b : Bool) → nat_lt s.counts.ticks w.budget ≡ b → Fewer image w most (on_evaluation at (on_drawn (tick_if b s.counts) s) go)
     tested true e =
         let one : w.budget - s.counts.ticks ≡ suc (w.budget - (s.counts.ticks + 1)) = grind (arith, nat_tests, e) in
-        h (counting (record s.counts { ticks = s.counts.ticks + 1 }) s) one
+        h (with_counts (record s.counts { ticks = s.counts.ticks + 1 }) s) one
     tested false e = stops _ at s less
 
 -- a pipe that is taken until its end
 drain_fewer : (image : Image) (w : World) (most at : ℕ) (call : Call) (rs : List Reply) (sofar : List ℕ) (counts : Counts) (s : State) (go : Answer → State → Machine)
     → worth (length image.code) (w.budget - counts.ticks) < most
     → ((answer : Answer) (s1 : State) → ticks_left w s1 ≡ w.budget - counts.ticks → Fewer image w most (go answer s1))
-    → Fewer image w most (on_out at (had (drain call rs sofar counts) s) go)
-drain_fewer image w most at call [] sofar counts s go less h = stops _ at (counting counts s) less
+    → Fewer image w most (on_evaluation at (on_drawn (drain call rs sofar counts) s) go)
+drain_fewer image w most at call [] sofar counts s go less h = stops _ at (with_counts counts s) less
 drain_fewer image w most at call (r ∷ rs) sofar counts s go less h =
     by_reply (stop_by r) (piece_in r) (λ bytes. drain_fewer image w most at call rs bytes (with_call call counts) s go less h)
   where
-    fitting : (b : Bool) (bytes : List ℕ) → Fewer image w most (on_out at (had (drain call rs bytes (with_call call counts)) s) go)
-        → Fewer image w most (on_out at (had (further b bytes (with_call call counts) (drain call rs)) s) go)
+    fitting : (b : Bool) (bytes : List ℕ) → Fewer image w most (on_evaluation at (on_drawn (drain call rs bytes (with_call call counts)) s) go)
+        → Fewer image w most (on_evaluation at (on_drawn (drawn_bytes b bytes (with_call call counts) (drain call rs)) s) go)
     fitting true bytes later = later
-    fitting false bytes later = stops _ at (counting (with_call call counts) s) less
+    fitting false bytes later = stops _ at (with_counts (with_call call counts) s) less
 
-    by_reply : (o : Option Stop) (piece : Piece) → ((bytes : List ℕ) → Fewer image w most (on_out at (had (drain call rs bytes (with_call call counts)) s) go))
-        → Fewer image w most (on_out at (had (taken o piece sofar (with_call call counts) (drain call rs)) s) go)
-    by_reply (Some stop) piece later = stops stop at (counting (with_call call counts) s) less
+    by_reply : (o : Option Stop) (piece : Piece) → ((bytes : List ℕ) → Fewer image w most (on_evaluation at (on_drawn (drain call rs bytes (with_call call counts)) s) go))
+        → Fewer image w most (on_evaluation at (on_drawn (drawn_piece o piece sofar (with_call call counts) (drain call rs)) s) go)
+    by_reply (Some stop) piece later = stops stop at (with_counts (with_call call counts) s) less
     by_reply None (Part bytes) later = fitting (nat_le (length (sofar ++ bytes)) 1048576) (sofar ++ bytes) (later (sofar ++ bytes))
-    by_reply None Last later = h _ (counting (with_call call counts) s) refl
-    by_reply None NoPiece later = stops _ at (counting (with_call call counts) s) less
+    by_reply None Last later = h _ (with_counts (with_call call counts) s) refl
+    by_reply None NoPiece later = stops _ at (with_counts (with_call call counts) s) less
 
 -- a call
 ask_fewer : (image : Image) (w : World) (most at : ℕ) (query : Query) (s : State) (go : Answer → State → Machine)
     → worth (length image.code) (ticks_left w s) < most
     → ((answer : Answer) (s1 : State) → ticks_left w s1 ≡ ticks_left w s → Fewer image w most (go answer s1))
-    → Fewer image w most (on_out at (had (inquire w query s.counts) s) go)
+    → Fewer image w most (on_evaluation at (on_drawn (inquire w query s.counts) s) go)
 ask_fewer image w most at (Once call) s go less h = found (slice_get w.replies (length s.counts.calls))
   where
-    answered : (r : Reply) (o : Option Stop) → Fewer image w most (on_out at (had (as_answer (reply_or_stop o r (with_call call s.counts))) s) go)
-    answered r None = h _ (counting (with_call call s.counts) s) refl
-    answered r (Some stop) = stops stop at (counting (with_call call s.counts) s) less
+    answered : (r : Reply) (o : Option Stop) → Fewer image w most (on_evaluation at (on_drawn (as_answer (reply_or_stop o r (with_call call s.counts))) s) go)
+    answered r None = h _ (with_counts (with_call call s.counts) s) refl
+    answered r (Some stop) = stops stop at (with_counts (with_call call s.counts) s) less
 
-    found : (o : Option Reply) → Fewer image w most (on_out at (had (as_answer (replied o call s.counts)) s) go)
+    found : (o : Option Reply) → Fewer image w most (on_evaluation at (on_drawn (as_answer (drawn_reply o call s.counts)) s) go)
     found None = stops _ at s less
     found (Some r) = answered r (stop_by r)
 ask_fewer image w most at (UntilEnd call) s go less h = drain_fewer image w most at call (drop (length s.counts.calls) w.replies) [] s.counts s go less h
@@ -119,10 +119,10 @@ ask_fewer image w most at (UntilEnd call) s go less h = drain_fewer image w most
 write_fewer : (image : Image) (w : World) (most at : ℕ) (text : List ℕ) (s : State) (go : Unit {0} → State → Machine)
     → worth (length image.code) (ticks_left w s) < most
     → ((s1 : State) → ticks_left w s1 ≡ ticks_left w s → Fewer image w most (go tt s1))
-    → Fewer image w most (on_out at (write text s) go)
+    → Fewer image w most (on_evaluation at (write text s) go)
 write_fewer image w most at text s go less h = tested (nat_le (length s.memory.output + length text) 1048576)
   where
-    tested : (b : Bool) → Fewer image w most (on_out at (if b then Gave tt (record s { memory = record s.memory { output = s.memory.output ++ text } }) else Halts (Failed OutFull) None s) go)
+    tested : (b : Bool) → Fewer image w most (on_evaluation at (if b then Yields tt (record s { memory = record s.memory { output = s.memory.output ++ text } }) else StopsWith (Failed OutFull) None s) go)
     tested true = h (record s { memory = record s.memory { output = s.memory.output ++ text } }) refl
     tested false = stops _ at s less
 
@@ -162,7 +162,7 @@ leaves_fewer image w most (caller ∷ callers) result site here s less = resumed
 
 stored_fewer : (image : Image) (w : World) (most : ℕ) (store : Option (List (List Value))) (work : Work) (site : Site) (here : Here) (s : State)
     → worth (length image.code) (ticks_left w s) < most → left_at image site.next here.callers (ticks_left w s) < most
-    → Fewer image w most (stored store work site here s)
+    → Fewer image w most (store_step store work site here s)
 stored_fewer image w most None work site here s less on = stops _ site.at s less
 stored_fewer image w most (Some store) work site here s less on = stands site.next work here _ on
 
@@ -202,7 +202,7 @@ step_fewer : (image : Image) (w : World) → KeepsTicks image → (address : ℕ
 step_fewer image w keeps address work here s = seen (instruction_at image.code address) refl
   where
     ticks_on : instruction_at image.code address ≡ Some Tick
-        → Fewer image w (left_at image address here.callers (ticks_left w s)) (decoded image w (Some Tick) address work here s)
+        → Fewer image w (left_at image address here.callers (ticks_left w s)) (step_by image w (Some Tick) address work here s)
     ticks_on found =
         let next = place_next 0 image.code address Tick found in
         let one = next.0 in
@@ -233,7 +233,7 @@ step_fewer image w keeps address work here s = seen (instruction_at image.code a
             omega (arith, behind, within, spared, two)
 
     others_on : (i : Instruction) → instruction_at image.code address ≡ Some i → is_tick i ≡ false
-        → Fewer image w (left_at image address here.callers (ticks_left w s)) (decoded image w (Some i) address work here s)
+        → Fewer image w (left_at image address here.callers (ticks_left w s)) (step_by image w (Some i) address work here s)
     others_on i found e =
         let many : ℕ = length image.code in
         let spared : spare many (instruction_at image.code address) ≡ many = ap (spare many) found ∙ ap (λ b. if b then 0 else many) e in
@@ -246,12 +246,12 @@ step_fewer image w keeps address work here s = seen (instruction_at image.code a
         on (jumps i (named_address i) refl found spared on) (omega (arith, two, spared))
 
     by_instruction : (i : Instruction) → instruction_at image.code address ≡ Some i
-        → Fewer image w (left_at image address here.callers (ticks_left w s)) (decoded image w (Some i) address work here s)
+        → Fewer image w (left_at image address here.callers (ticks_left w s)) (step_by image w (Some i) address work here s)
     by_instruction Tick found = ticks_on found
     by_instruction i found = others_on i found refl
 
     seen : (found : Option Instruction) → instruction_at image.code address ≡ found
-        → Fewer image w (left_at image address here.callers (ticks_left w s)) (decoded image w found address work here s)
+        → Fewer image w (left_at image address here.callers (ticks_left w s)) (step_by image w found address work here s)
     seen None e =
         let spared : spare (length image.code) (instruction_at image.code address) ≡ length image.code = ap (spare (length image.code)) e in
         let some = keeps.some in
@@ -290,7 +290,7 @@ few_by image w keeps (suc n) steps address work here s =
         → worth_behind image w (run image w n (steps + 1) m) ≤ steps + left_at image address here.callers (ticks_left w s)
     once _ (stands a v h t less) later = let rest = later a v h t in omega (arith, rest, less)
     once _ (stops stop a t less) later =
-        let stays : worth_behind image w (run image w n (steps + 1) (Over stop a t)) ≡ steps + 1 + worth (length image.code) (ticks_left w t) = ap (worth_behind image w) (run_over image w n (steps + 1) stop a t) in
+        let stays : worth_behind image w (run image w n (steps + 1) (Halted stop a t)) ≡ steps + 1 + worth (length image.code) (ticks_left w t) = ap (worth_behind image w) (run_over image w n (steps + 1) stop a t) in
         omega (arith, stays, less)
 
 worth_is : (many t : ℕ) → many * (2 * t + 2) ≡ worth many t + many + many

@@ -9,9 +9,9 @@ use Rattle.bim_code.specs.Code.{instruction_at}
 use Rattle.mos_value.specs.Values.{Value}
 use Rattle.run_state.specs.Stops.{Stuck, Outcome, Course}
 use Rattle.run_state.specs.State.{World, State, beginning, outcome_of}
-use Rattle.run_state.specs.Parameters.{refused}
+use Rattle.run_state.specs.Parameters.{refused_outcome}
 use Rattle.bim_machine.specs.Starts.{Beginning, Refused, Broken, Begins, beginning_of}
-use Rattle.bim_machine.specs.Machine.{Work, Here, Machine, At, Over, Site, idle, settle}
+use Rattle.bim_machine.specs.Machine.{Work, Here, Machine, At, Halted, Site, idle, settle}
 use Rattle.bim_machine.specs.Instructions.{act}
 
 -- the addresses of an instruction that stands here; one that names none names the one behind it
@@ -23,14 +23,14 @@ site_of i address = record {
 }
 
 -- the instruction that was found is carried out
-abbrev pub decoded : Image → World → Option Instruction → ℕ → Work → Here → State → Machine
-decoded image w None address work here s = Over Stuck address s
-decoded image w (Some i) address work here s =
+abbrev pub step_by : Image → World → Option Instruction → ℕ → Work → Here → State → Machine
+step_by image w None address work here s = Halted Stuck address s
+step_by image w (Some i) address work here s =
     settle image w (act image i here.slots work s.memory.store) (site_of i address) here s
 
 -- one step: an instruction is begun
 abbrev pub step : Image → World → ℕ → Work → Here → State → Machine
-step image w address work here s = decoded image w (instruction_at image.code address) address work here s
+step image w address work here s = step_by image w (instruction_at image.code address) address work here s
 
 -- a machine, and the steps that were taken before
 pub record Progress : Type 0 where
@@ -40,7 +40,7 @@ pub record Progress : Type 0 where
 -- at most so many steps more
 abbrev pub run : Image → World → ℕ → ℕ → Machine → Progress
 run image w zero steps m = record { steps = steps; machine = m }
-run image w (suc n) steps (Over stop address s) = record { steps = steps; machine = Over stop address s }
+run image w (suc n) steps (Halted stop address s) = record { steps = steps; machine = Halted stop address s }
 run image w (suc n) steps (At address work here s) = run image w n (steps + 1) (step image w address work here s)
 
 -- the main part, which nobody called
@@ -56,19 +56,19 @@ abbrev pub most_steps : Image → ℕ → ℕ
 most_steps image ticks = length image.code * (2 * ticks + 2)
 
 -- what is told of the machine; one that did not stop has no outcome
-abbrev pub told : Machine → Outcome
-told (Over stop address s) = outcome_of stop s
-told (At address work here s) = outcome_of Stuck s
+abbrev pub outcome_at : Machine → Outcome
+outcome_at (Halted stop address s) = outcome_of stop s
+outcome_at (At address work here s) = outcome_of Stuck s
 
 -- what is told of the machine, with its steps
-abbrev pub told_course : Progress → Course
-told_course p = record { outcome = told p.machine; steps = p.steps }
+abbrev pub course_at : Progress → Course
+course_at p = record { outcome = outcome_at p.machine; steps = p.steps }
 
 -- the course from a beginning
 abbrev pub course_from : Image → World → Beginning → Course
-course_from image w Refused = record { outcome = refused; steps = 0 }
+course_from image w Refused = record { outcome = refused_outcome; steps = 0 }
 course_from image w Broken = record { outcome = outcome_of Stuck (beginning []); steps = 0 }
-course_from image w (Begins values) = told_course (run image w (most_steps image w.budget) 0 (start values))
+course_from image w (Begins values) = course_at (run image w (most_steps image w.budget) 0 (start values))
 
 -- what an image does, given a parameter text, replies and a budget. It is meant for images whose loops take
 -- ticks: these are over by then, and the course of another image may be cut there

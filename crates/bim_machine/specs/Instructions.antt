@@ -83,10 +83,10 @@ on_truth _ work go = Stops Sticks
 -- Answers of operators.
 
 -- the answer of an operator goes on top, or stops
-abbrev pub resulted : Result → Work → Act
-resulted (Gives value) work = On (push value work)
-resulted (Faults kind) work = Stops (Fails kind)
-resulted NoAnswer work = Stops Sticks
+abbrev pub act_by_result : Result → Work → Act
+act_by_result (Gives value) work = On (push value work)
+act_by_result (Faults kind) work = Stops (Fails kind)
+act_by_result NoAnswer work = Stops Sticks
 
 -- so many values off the operands, before those so far; the last written stands on top
 abbrev pub values_off : ℕ → List Operand → List Value → Option (List Value × List Operand)
@@ -97,7 +97,7 @@ values_off (suc n) _ sofar = None
 -- an operator on so many values
 abbrev pub operate : Operation → ℕ → Work → Act
 operate operation many work =
-    on_some (values_off many work.stack []) (λ (off : List Value × List Operand). resulted (answer operation off.0) (with_stack off.1 work))
+    on_some (values_off many work.stack []) (λ (off : List Value × List Operand). act_by_result (answer operation off.0) (with_stack off.1 work))
 
 -- Jumps by the truth on top, which they take.
 
@@ -120,7 +120,7 @@ abbrev pub act : Image → Instruction → List Place → Work → List (List Va
 act image Tick slots work store = Ticks (On work)
 act image (PushInt n) slots work store = On (push (One (Int n)) work)
 act image (PushBool n) slots work store = on_some (truth_of_operand n) (λ b. On (push (One (Truth b)) work))
-act image (PushText k) slots work store = on_some (slice_get image.constants k) (λ t. resulted (text t) work)
+act image (PushText k) slots work store = on_some (slice_get image.constants k) (λ t. act_by_result (text t) work)
 act image (LoadGlobal slot) slots work store = on_some (load (global slot) store) (λ value. On (push value work))
 act image (StoreGlobal slot) slots work store = on_value work.stack work (λ value below. Puts ((global slot, value) ∷ []) below)
 act image Swap slots work store =

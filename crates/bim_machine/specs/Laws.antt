@@ -9,7 +9,7 @@ use Rattle.bim_code.specs.Rules.{KeepsTicks}
 use Rattle.mos_value.specs.Values.{Value}
 use Rattle.run_state.specs.Stops.{Stop, Exited, Failed, Spent, Stopped, Asking, Stuck, Lost}
 use Rattle.run_state.specs.State.{World, State}
-use Rattle.bim_machine.specs.Machine.{Machine, At, Over, Work, Here}
+use Rattle.bim_machine.specs.Machine.{Machine, At, Halted, Work, Here}
 use Rattle.bim_machine.specs.Courses.{run, step, start, most_steps, course_of}
 
 -- More of the world.
@@ -19,20 +19,20 @@ abbrev pub more : World → List Reply → ℕ → World
 more w replies extra = record { replies = w.replies ++ replies; budget = w.budget + extra }
 
 -- it has not come to the end of its replies, nor of its budget
-abbrev pub Goes : Machine → Type 0
-Goes (At address work here s) = Unit {0}
-Goes (Over (Asking call) address s) = ⊥
-Goes (Over Spent address s) = ⊥
-Goes (Over (Exited code) address s) = Unit {0}
-Goes (Over (Failed kind) address s) = Unit {0}
-Goes (Over Stopped address s) = Unit {0}
-Goes (Over Stuck address s) = Unit {0}
-Goes (Over Lost address s) = Unit {0}
+abbrev pub HasMore : Machine → Type 0
+HasMore (At address work here s) = Unit {0}
+HasMore (Halted (Asking call) address s) = ⊥
+HasMore (Halted Spent address s) = ⊥
+HasMore (Halted (Exited code) address s) = Unit {0}
+HasMore (Halted (Failed kind) address s) = Unit {0}
+HasMore (Halted Stopped address s) = Unit {0}
+HasMore (Halted Stuck address s) = Unit {0}
+HasMore (Halted Lost address s) = Unit {0}
 
 -- they change nothing before they are reached
 abbrev pub MoreChangesNothing : Type 0
 MoreChangesNothing = (image : Image) (w : World) (replies : List Reply) (extra n steps : ℕ) (m : Machine)
-    → Goes (run image w n steps m).machine → run image (more w replies extra) n steps m ≡ run image w n steps m
+    → HasMore (run image w n steps m).machine → run image (more w replies extra) n steps m ≡ run image w n steps m
 
 -- Steps.
 
@@ -41,7 +41,7 @@ pub record IsOver (m : Machine) : Type 0 where
   pub stop : Stop
   pub address : ℕ
   pub state : State
-  pub by : m ≡ Over stop address state
+  pub by : m ≡ Halted stop address state
 
 -- where each loop takes ticks, it is over after the most steps that its course is given
 abbrev pub OverInTime : Type 0
@@ -51,7 +51,7 @@ OverInTime = (image : Image) (w : World) (values : List Value) → KeepsTicks im
 -- the state of a machine
 abbrev pub state_in : Machine → State
 state_in (At address work here s) = s
-state_in (Over stop address s) = s
+state_in (Halted stop address s) = s
 
 -- it has taken few steps for the ticks that it took, whenever it is looked at
 abbrev pub FewSteps : Type 0
@@ -87,12 +87,12 @@ pub record StoodBefore (image : Image) (w : World) (n steps : ℕ) (m : Machine)
   pub state : State
   pub few : taken < n
   pub before : run image w taken steps m ≡ record { steps = steps + taken; machine = At address work here state }
-  pub last : step image w address work here state ≡ Over stop at s
+  pub last : step image w address work here state ≡ Halted stop at s
 
 -- so with one reply more, or with more ticks, it goes on from there
 abbrev pub LastStep : Type 0
 LastStep = (image : Image) (w : World) (n steps address : ℕ) (work : Work) (here : Here) (s : State) (stop : Stop) (at : ℕ) (t : State)
-    → (run image w n steps (At address work here s)).machine ≡ Over stop at t → StoodBefore image w n steps (At address work here s) stop at t
+    → (run image w n steps (At address work here s)).machine ≡ Halted stop at t → StoodBefore image w n steps (At address work here s) stop at t
 
 -- What grows.
 

@@ -9,9 +9,9 @@ use Rattle.bim_code.specs.declared.image.Routine.{Routine}
 use Rattle.bim_code.specs.declared.image.Slot.{Slot}
 use Rattle.mos_value.specs.Values.{Value, Place, Operand, Holds, Points, Walks}
 use Rattle.run_state.specs.Stops.{Stop, Exited, Failed, Stuck}
-use Rattle.run_state.specs.State.{World, State, over, Out, Gave, Halts, had, tick, write}
+use Rattle.run_state.specs.State.{World, State, with_store, Evaluation, Yields, StopsWith, on_drawn, tick, write}
 use Rattle.run_state.specs.Calls.{Query, Answer, inquire}
-use Rattle.run_state.specs.Places.{put, most_calls, Argument, ByValue, ByPlace, by_values, argument_places, entered, left}
+use Rattle.run_state.specs.Places.{put, most_calls, Argument, ByValue, ByPlace, by_values, argument_places, store_inside, store_behind}
 use Rattle.run_state.specs.Parameters.{and_then}
 use Rattle.bim_machine.specs.Starts.{defaults_in}
 
@@ -38,16 +38,16 @@ pub record Here : Type 0 where
 -- at an address, or over at the instruction of this address
 pub data Machine : Type 0 where
   At : (address : ℕ) (work : Work) (here : Here) (s : State) → Machine
-  Over : (stop : Stop) (address : ℕ) (s : State) → Machine
+  Halted : (stop : Stop) (address : ℕ) (s : State) → Machine
 
 -- how an instruction can stop the run by itself
-pub data Halt : Type 0 where
-  Exits : (code : ℤ) → Halt
-  Fails : (kind : FaultKind) → Halt
-  Sticks : Halt  -- it does not find what it wants
+pub data OwnStop : Type 0 where
+  Exits : (code : ℤ) → OwnStop
+  Fails : (kind : FaultKind) → OwnStop
+  Sticks : OwnStop  -- it does not find what it wants
 
 -- the stop that a halt is
-abbrev pub stop_of : Halt → Stop
+abbrev pub stop_of : OwnStop → Stop
 stop_of (Exits code) = Exited code
 stop_of (Fails kind) = Failed kind
 stop_of Sticks = Stuck
@@ -56,7 +56,7 @@ stop_of Sticks = Stuck
 pub data Act : Type 0 where
   On : (work : Work) → Act  -- go on behind it
   Jumps : (work : Work) → Act  -- go on at the address that it names
-  Stops : (halt : Halt) → Act
+  Stops : (halt : OwnStop) → Act
   Puts : (values : List (Place × Value)) (work : Work) → Act  -- put the values, then go on
   Prints : (text : List ℕ) (work : Work) → Act  -- write the text, then go on
   Ticks : Act → Act  -- take a tick first
@@ -71,9 +71,9 @@ pub record Site : Type 0 where
   pub named : ℕ
 
 -- what comes to a result goes on with it
-abbrev pub on_out : {A : Type 0} → ℕ → Out A → (A → State → Machine) → Machine
-on_out at (Gave x s) go = go x s
-on_out at (Halts stop line s) go = Over stop at s
+abbrev pub on_evaluation : {A : Type 0} → ℕ → Evaluation A → (A → State → Machine) → Machine
+on_evaluation at (Yields x s) go = go x s
+on_evaluation at (StopsWith stop line s) go = Halted stop at s
 
 -- nothing at hand
 abbrev pub idle : Work
@@ -91,9 +91,9 @@ put_all [] store = Some store
 put_all (one ∷ more) store = and_then (put one.0 one.1 store) (put_all more)
 
 -- what is put goes on
-abbrev pub stored : Option (List (List Value)) → Work → Site → Here → State → Machine
-stored None work site here s = Over Stuck site.at s
-stored (Some store) work site here s = At site.next work here (over store s)
+abbrev pub store_step : Option (List (List Value)) → Work → Site → Here → State → Machine
+store_step None work site here s = Halted Stuck site.at s
+store_step (Some store) work site here s = At site.next work here (with_store store s)
 
 -- Routines are entered and left.
 
@@ -117,12 +117,12 @@ begins (Some (given, stack)) (Some others) routine work site here s =
       callers =
           record { work = record work { stack = stack }; slots = here.slots; back = here.back; awaits_value = is_some routine.result }
           ∷ here.callers;
-    } (over (entered slots s.memory.store) s)
-begins given others routine work site here s = Over Stuck site.at s
+    } (with_store (store_inside slots s.memory.store) s)
+begins given others routine work site here s = Halted Stuck site.at s
 
 -- the routine that was found begins
 abbrev pub begins_routine : Image → Option Routine → Work → Site → Here → State → Machine
-begins_routine image None work site here s = Over Stuck site.at s
+begins_routine image None work site here s = Halted Stuck site.at s
 begins_routine image (Some routine) work site here s =
     begins
     (arguments_off (reverse (take routine.arguments routine.slots)) work.stack [])
@@ -132,7 +132,7 @@ begins_routine image (Some routine) work site here s =
 -- only so many calls stand inside one another
 abbrev pub enters : Bool → Image → ℕ → Work → Site → Here → State → Machine
 enters true image number work site here s = begins_routine image (slice_get image.routines number) work site here s
-enters false image number work site here s = Over (Failed Depth) site.at s
+enters false image number work site here s = Halted (Failed Depth) site.at s
 
 -- a function leaves with a value, which goes on top, and a procedure with none
 abbrev pub work_behind : (awaits_value : Bool) → Option Value → Work → Option Work
@@ -143,13 +143,13 @@ work_behind false None work = Some work
 
 -- the nearest caller goes on with this at hand
 abbrev pub resumes : Option Work → Caller → List Caller → Site → Here → State → Machine
-resumes None caller callers site here s = Over Stuck site.at s
+resumes None caller callers site here s = Halted Stuck site.at s
 resumes (Some work) caller callers site here s =
-    At here.back work (record { slots = caller.slots; back = caller.back; callers = callers }) (over (left s.memory.store) s)
+    At here.back work (record { slots = caller.slots; back = caller.back; callers = callers }) (with_store (store_behind s.memory.store) s)
 
 -- a routine is left
 abbrev pub leaves : List Caller → Option Value → Site → Here → State → Machine
-leaves [] result site here s = Over Stuck site.at s
+leaves [] result site here s = Halted Stuck site.at s
 leaves (caller ∷ callers) result site here s =
     resumes (work_behind caller.awaits_value result caller.work) caller callers site here s
 
@@ -159,12 +159,12 @@ leaves (caller ∷ callers) result site here s =
 abbrev pub settle : Image → World → Act → Site → Here → State → Machine
 settle image w (On work) site here s = At site.next work here s
 settle image w (Jumps work) site here s = At site.named work here s
-settle image w (Stops halt) site here s = Over (stop_of halt) site.at s
-settle image w (Puts values work) site here s = stored (put_all values s.memory.store) work site here s
-settle image w (Prints text work) site here s = on_out site.at (write text s) (λ done s1. At site.next work here s1)
-settle image w (Ticks act) site here s = on_out site.at (had (tick w s.counts) s) (λ done s1. settle image w act site here s1)
+settle image w (Stops halt) site here s = Halted (stop_of halt) site.at s
+settle image w (Puts values work) site here s = store_step (put_all values s.memory.store) work site here s
+settle image w (Prints text work) site here s = on_evaluation site.at (write text s) (λ done s1. At site.next work here s1)
+settle image w (Ticks act) site here s = on_evaluation site.at (on_drawn (tick w s.counts) s) (λ done s1. settle image w act site here s1)
 settle image w (Asks query go) site here s =
-    on_out site.at (had (inquire w query s.counts) s) (λ answer s1. settle image w (go answer) site here s1)
+    on_evaluation site.at (on_drawn (inquire w query s.counts) s) (λ answer s1. settle image w (go answer) site here s1)
 settle image w (Enters number work) site here s =
-    on_out site.at (had (tick w s.counts) s) (λ done s1. enters (nat_lt (length here.callers) most_calls) image number work site here s1)
+    on_evaluation site.at (on_drawn (tick w s.counts) s) (λ done s1. enters (nat_lt (length here.callers) most_calls) image number work site here s1)
 settle image w (Leaves result) site here s = leaves here.callers result site here s

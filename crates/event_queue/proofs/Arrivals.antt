@@ -11,8 +11,8 @@ use Rattle.job_calls.specs.declared.reply.Reply.{Reply}
 use Rattle.job_calls.specs.declared.reply.Reply.TheVariants.{Queued, Started}
 use Rattle.job_calls.specs.declared.entry.Entry.{Entry}
 use Rattle.job_calls.specs.Moments.{Moment, moments, place_of}
-use Rattle.job_calls.specs.Words.{is_run, is_finish, is_finished}
-use Rattle.job_calls.specs.Runs.{Start, later, start_by, start_of_run}
+use Rattle.job_calls.specs.Entries.{is_run, is_finish, is_finished}
+use Rattle.job_calls.specs.Runs.{Start, last_of, start_by, start_of_run}
 use Rattle.job_calls.specs.Models.{parent_of}
 use Rattle.job_calls.specs.Events.{receiver_of, comes_to, arrivals, is_took, taken_count, queue}
 use Rattle.job_calls.specs.Legal.{IsLegal}
@@ -113,9 +113,9 @@ starter_is k (Some run) (Finish end) reply = refl
 starter_is k run call reply = refl
 
 -- the parent of a run
-pub parent_noted : (k : ℕ) (journal : List Entry) (e : Entry) → parent_of k (journal ++ e ∷ []) ≡ later (parent_of k journal) (starter k (deed_of e.run e.call e.reply))
+pub parent_noted : (k : ℕ) (journal : List Entry) (e : Entry) → parent_of k (journal ++ e ∷ []) ≡ last_of (parent_of k journal) (starter k (deed_of e.run e.call e.reply))
 parent_noted k journal e =
-    last_given-snoc (λ e. option_and_then (λ (s : Start). s.parent) (start_of_run k e)) journal e ∙ ap (later (parent_of k journal)) (starter_is k e.run e.call e.reply)
+    last_given-snoc (λ e. option_and_then (λ (s : Start). s.parent) (start_of_run k e)) journal e ∙ ap (last_of (parent_of k journal)) (starter_is k e.run e.call e.reply)
 
 ender_is : (k : ℕ) (run : Option ℕ) (call : Call) (reply : Reply) → (is_run k run && is_finish call) ≡ is_run k (ender (deed_of run call reply))
 ender_is k run (Send to class value) (Queued taker) = and_no (is_run k run)

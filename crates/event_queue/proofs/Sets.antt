@@ -7,7 +7,7 @@ use Rattle.std.proofs.lemmas.Bool.{eqb-true, eq-eqb}
 use Rattle.std.proofs.lemmas.List.{length-append, length-set}
 use Rattle.std.proofs.lemmas.List.Sums.{sum_by-set}
 use Rattle.std.proofs.lemmas.Option.{slice_get_within, slice_get_past, slice_get_read, get_or_from_slice_get, same_Some, none-some}
-use Rattle.job_calls.specs.Words.{is_run}
+use Rattle.job_calls.specs.Entries.{is_run}
 use Rattle.growing_lists.specs.Growing.{as_number, count-cons, count-snoc}
 use Rattle.event_queue.specs.declared.run.Run.{Run}
 use Rattle.event_queue.specs.Runs.{parent_at, ended_at, places_at, will_tell, IsIdle, KeepsRoom, KeepRooms, HasRoom, RoomAt}

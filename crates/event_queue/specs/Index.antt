@@ -2,7 +2,7 @@
 
 use Rattle.std.specs.Prelude.{◌≡◌, ℕ, List, length}
 use Rattle.job_calls.specs.declared.entry.Entry.{Entry}
-use Rattle.job_calls.specs.Words.{is_finished}
+use Rattle.job_calls.specs.Entries.{is_finished}
 use Rattle.job_calls.specs.Models.{parent_of}
 use Rattle.job_calls.specs.Events.{queue}
 use Rattle.event_queue.specs.declared.queues.EventQueue.{EventQueue}

@@ -2,7 +2,7 @@
 
 use Rattle.std.specs.Prelude.{◌≡◌, ◌≤◌, ◌<◌, ◌+◌, ◌^◌, ℕ, Bool, false, not, ◌&&◌, List, [], Option, Some, None, length, count_by, slice_get, option_and_then}
 use Rattle.std.specs.Option.{option_map_or}
-use Rattle.job_calls.specs.Words.{is_run}
+use Rattle.job_calls.specs.Entries.{is_run}
 use Rattle.event_queue.specs.declared.run.Run.{Run}
 
 -- the run that started run k

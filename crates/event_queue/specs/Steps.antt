@@ -1,7 +1,7 @@
 -- What a step changes of the runs: of one run, and of what the runs say.
 
 use Rattle.std.specs.Prelude.{◌≡◌, ◌≤◌, ◌<◌, ◌+◌, ◌-◌, ◌^◌, ℕ, Bool, List, [], ◌∷◌, ◌++◌, Option, Some, drop, length, slice_get, slice_set, count_by, if◌then◌else◌}
-use Rattle.job_calls.specs.Words.{is_run}
+use Rattle.job_calls.specs.Entries.{is_run}
 use Rattle.event_queue.specs.declared.run.Run.{Run}
 use Rattle.event_queue.specs.Runs.{parent_at, ended_at, places_at, will_tell}
 

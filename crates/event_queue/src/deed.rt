@@ -1,6 +1,6 @@
 //! What an entry does to runs and their queues.
 ghost use Rattle.std.specs.Prelude.{◌≡◌, ◌&&◌, ℕ};
-ghost use Rattle.job_calls.specs.Words.{is_run};
+ghost use Rattle.job_calls.specs.Entries.{is_run};
 ghost use Rattle.job_calls.specs.Events.{is_took};
 ghost use Rattle.event_queue.specs.Deeds.{deed_of};
 

@@ -2,7 +2,7 @@
 ghost use Rattle.std.specs.Prelude.{◌≡◌, ◌++◌, [], ◌∷◌, ℕ, List, Some, IfOk, OnOk, OnErr, IsOk, IsSome, ◌⊎◌, true, false, length, option_map};
 ghost use Rattle.job_calls.specs.declared.entry.Entry.{Entry};
 ghost use Rattle.job_calls.specs.Events as events;
-ghost use Rattle.job_calls.specs.Words.{is_finish, is_finished};
+ghost use Rattle.job_calls.specs.Entries.{is_finish, is_finished};
 ghost use Rattle.job_calls.specs.Models.{parent_of};
 ghost use Rattle.job_calls.specs.Legal.{IsLegal};
 ghost use Rattle.event_queue.specs.Index.{IsIndexOf, StandsFor, CanTake};

@@ -1,8 +1,8 @@
 //! What an entry tells of the runs, and the room that this takes.
 ghost use Rattle.std.specs.Prelude.{◌≡◌, ◌<◌, ◌≤◌, ◌||◌, ◌&&◌, ◌++◌, ℕ, Some, None, OnOk, IsOk, length, if◌then◌else◌};
-ghost use Rattle.job_calls.specs.Words.{is_run};
+ghost use Rattle.job_calls.specs.Entries.{is_run};
 ghost use Rattle.job_calls.specs.Events.{is_took};
-ghost use Rattle.job_calls.specs.Runs.{later};
+ghost use Rattle.job_calls.specs.Runs.{last_of};
 ghost use Rattle.event_queue.specs.Runs.{parent_at, ended_at, places_at, KeepRooms, RoomAt};
 ghost use Rattle.event_queue.specs.Steps.{SayTheSame, place_for, taken_if};
 ghost use Rattle.event_queue.specs.Deeds as deeds;
@@ -119,7 +119,7 @@ fn tell_deed(runs: &mut Vec<Run>, deed: Deed, place: u32)
     ensures rooms { KeepRooms runs.new.items }
     ensures covers { length runs.old.items ≤ length runs.new.items }
     ensures parents { (k : ℕ) → parent_at runs.new.items k
-        ≡ later (parent_at runs.old.items k) (deeds.starter k deed) }
+        ≡ last_of (parent_at runs.old.items k) (deeds.starter k deed) }
     ensures ended { (k : ℕ) → ended_at runs.new.items k
         ≡ (ended_at runs.old.items k || is_run k (deeds.ender deed)) }
     ensures places { (k : ℕ) → places_at runs.new.items k
@@ -140,7 +140,8 @@ pub(crate) fn tell(runs: &mut Vec<Run>, entry: &Entry, place: u32)
     ensures rooms { KeepRooms runs.new.items }
     ensures covers { length runs.old.items ≤ length runs.new.items }
     ensures parents { (k : ℕ) → parent_at runs.new.items k
-        ≡ later (parent_at runs.old.items k) (deeds.starter k (deeds.deed_of entry.now.run entry.now.call entry.now.reply)) }
+        ≡ last_of (parent_at runs.old.items k)
+        (deeds.starter k (deeds.deed_of entry.now.run entry.now.call entry.now.reply)) }
     ensures ended { (k : ℕ) → ended_at runs.new.items k
         ≡ (ended_at runs.old.items k || is_run k (deeds.ender (deeds.deed_of entry.now.run entry.now.call entry.now.reply))) }
     ensures places { (k : ℕ) → places_at runs.new.items k

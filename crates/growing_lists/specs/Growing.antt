@@ -10,26 +10,26 @@ use Rattle.std.proofs.lemmas.Grind.{flat_map-append}
 use Rattle.std.proofs.lemmas.List.Folds.{list_any-append}
 use Rattle.std.proofs.lemmas.List.Sums.{sum_by-append, sum_by-cons}
 use Rattle.job_calls.specs.declared.entry.Entry.{Entry}
-use Rattle.job_calls.specs.Runs.{later, last_given}
+use Rattle.job_calls.specs.Runs.{last_of, last_given}
 use Rattle.job_calls.specs.Moments.{moments_from, moments}
 use Rattle.job_calls.specs.Blocks.{last_place}
 
 -- nothing before
-later_none : {A : Type 0} (a : Option A) → later None a ≡ a
+later_none : {A : Type 0} (a : Option A) → last_of None a ≡ a
 later_none None = refl
 later_none (Some x) = refl
 
 -- the last of three
-later_assoc : {A : Type 0} (a b c : Option A) → later (later a b) c ≡ later a (later b c)
+later_assoc : {A : Type 0} (a b c : Option A) → last_of (last_of a b) c ≡ last_of a (last_of b c)
 later_assoc a b None = refl
 later_assoc a b (Some x) = refl
 
 -- what is last given
 pub last_given-snoc : {A B : Type 0} (give : A → Option B) (xs : List A) (x : A)
-    → last_given give (xs ++ x ∷ []) ≡ later (last_given give xs) (give x)
+    → last_given give (xs ++ x ∷ []) ≡ last_of (last_given give xs) (give x)
 last_given-snoc give [] x = sym (later_none (give x))
 last_given-snoc give (y ∷ ys) x =
-    ap (later (give y)) (last_given-snoc give ys x) ∙ sym (later_assoc (give y) (last_given give ys) (give x))
+    ap (last_of (give y)) (last_given-snoc give ys x) ∙ sym (later_assoc (give y) (last_given give ys) (give x))
 
 -- a place further on
 place_on : (n m : ℕ) → n + 1 + m ≡ n + suc m
@@ -44,7 +44,7 @@ enumerate-snoc n (y ∷ ys) x =
     (enumerate-snoc (n + 1) ys x ∙ ap (λ m. enumerate_from (n + 1) ys ++ (m, x) ∷ []) (place_on n (length ys)))
 
 -- a place that is given, or not
-later_if : (b : Bool) (n : ℕ) (o : Option ℕ) → later o (if b then Some n else None) ≡ (if b then Some n else o)
+later_if : (b : Bool) (n : ℕ) (o : Option ℕ) → last_of o (if b then Some n else None) ≡ (if b then Some n else o)
 later_if true n o = refl
 later_if false n o = refl
 

@@ -11,9 +11,9 @@ use Rattle.job_calls.specs.Answers.{answer_of}
 use Rattle.job_calls.specs.Fitting.{fits, is_for_lane, lane_fits, may_claim, below_lanes}
 use Rattle.job_calls.specs.Legal.{IsLegal, Follows}
 use Rattle.job_calls.specs.Models.{is_asked}
-use Rattle.job_calls.specs.Replies.{InRange, FitsCall}
+use Rattle.job_calls.specs.Replies.{InRange, CanAnswer}
 use Rattle.job_calls.specs.Runs.{Opening, opening}
-use Rattle.job_calls.specs.Words.{own_entries, is_finish, is_quit, is_claim}
+use Rattle.job_calls.specs.Entries.{own_entries, is_finish, is_quit, is_claim}
 use Rattle.job_laws.specs.Growth.{Grows}
 use Rattle.job_laws.specs.Lanes.{AnswersFit}
 use Rattle.job_laws.specs.Laws.{KeepsLaws}
@@ -65,7 +65,7 @@ fits_none opened own lane call ours may =
 
 fits_run : AnswersFit → (before : List Entry) (lane : ℕ) (run : Option ℕ) (call : Call) (reply : Reply) → InRange reply
     → answer_of before lane run call ≡ Ready reply → IsTrue (fits (opening before) (own_entries lane before) lane run call)
-    → is_for_lane call ≡ false → is_finish call ≡ false → FitsCall call reply
+    → is_for_lane call ≡ false → is_finish call ≡ false → CanAnswer call reply
 fits_run fit before lane None call reply range answered may ours more =
     absurd (fits_none (opening before) (own_entries lane before) lane call ours may)
 fits_run fit before lane (Some k) call reply range answered may ours more =

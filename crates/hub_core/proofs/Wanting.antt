@@ -14,7 +14,7 @@ use Rattle.job_calls.specs.Answers.{answer_of, answer_to_run, open_answer, fault
 use Rattle.job_calls.specs.Events.{Event, first_event, front}
 use Rattle.job_calls.specs.Models.{is_asked}
 use Rattle.job_calls.specs.Replies.{is_plain}
-use Rattle.job_calls.specs.Words.{has_quit}
+use Rattle.job_calls.specs.Entries.{has_quit}
 use Rattle.hub_core.specs.declared.held.Acted.{Acted}
 use Rattle.hub_core.specs.declared.held.Held.{Held}
 use Rattle.hub_core.specs.declared.held.Held.TheVariants.{NotYet, Shut, NoMemory}

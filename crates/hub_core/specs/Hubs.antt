@@ -11,9 +11,9 @@ use Rattle.job_calls.specs.declared.reply.Reply.TheVariants.{Opened, Halt}
 use Rattle.job_calls.specs.Answers.{answer_of}
 use Rattle.job_calls.specs.Fitting.{fits, is_for_lane}
 use Rattle.job_calls.specs.Models.{is_asked}
-use Rattle.job_calls.specs.Replies.{FitsCall}
+use Rattle.job_calls.specs.Replies.{CanAnswer}
 use Rattle.job_calls.specs.Runs.{Opening, opening}
-use Rattle.job_calls.specs.Words.{own_entries, is_finish}
+use Rattle.job_calls.specs.Entries.{own_entries, is_finish}
 use Rattle.hub_core.specs.declared.held.Held.{Held}
 use Rattle.hub_core.specs.declared.held.Held.TheVariants.{NotYet, Shut, NoMemory}
 use Rattle.hub_core.specs.Room.{MayWant}
@@ -55,7 +55,7 @@ IsAnswered journal lane run call reply = answer_of journal lane run call ≡ ans
 
 -- the reply fits the call, if that is one of a run and not its end
 abbrev pub FitsRun : Call → Reply → Type 0
-FitsRun call reply = is_for_lane call ≡ false → is_finish call ≡ false → FitsCall call reply
+FitsRun call reply = is_for_lane call ≡ false → is_finish call ≡ false → CanAnswer call reply
 
 -- a run that was asked to stop is told so, or finishes
 abbrev pub StopsRun : List Entry → Option ℕ → Call → Reply → Type 0

@@ -30,17 +30,17 @@ fn acknowledge() -> Answer
     Answer::Ready(Reply::Unit)
 }
 
-/// The lane is given run k.
-fn give_run<J: Lookups>(alloc: Global, journal: &J, k: u32) -> Result<Answer, NoMemory>
-    ensures { IfOk result (λ answer. answer ≡ answer_with_run k (J.list journal.now)) }
+/// The lane is given this run.
+fn give_run<J: Lookups>(alloc: Global, journal: &J, run_number: u32) -> Result<Answer, NoMemory>
+    ensures { IfOk result (λ answer. answer ≡ answer_with_run run_number (J.list journal.now)) }
 {
-    let Some(source) = journal.source_of(k) else {
+    let Some(source) = journal.source_of(run_number) else {
         return Ok(Answer::NotYet);
     };
-    match journal.params_of(k) {
+    match journal.params_of(run_number) {
         None => Ok(Answer::NotYet),
         Some(params) => Ok(Answer::Ready(Reply::Claimed {
-            run: k,
+            run: run_number,
             source,
             params: params.copy(alloc)?,
         })),
@@ -52,7 +52,7 @@ fn next_run<J: Lookups>(alloc: Global, journal: &J, run: Option<u32>) -> Result<
     ensures { IfOk result (λ answer. answer ≡ answers.next_run (J.list journal.now) run) }
 {
     match run {
-        Some(k) => give_run(alloc, journal, k),
+        Some(run_number) => give_run(alloc, journal, run_number),
         None => {
             if journal.is_finished(0) {
                 Ok(Answer::Ready(Reply::Done))
@@ -93,7 +93,7 @@ fn is_live_run<J: Lookups>(run: Option<u32>, journal: &J) -> bool
 {
     match run {
         None => false,
-        Some(k) => journal.is_live(k),
+        Some(run_number) => journal.is_live(run_number),
     }
 }
 
@@ -200,10 +200,10 @@ fn end_status(end: End) -> i32
     }
 }
 
-fn run_status<J: Lookups>(journal: &J, k: u32) -> i32
-    ensures { result ≡ models.run_status k (J.list journal.now) }
+fn run_status<J: Lookups>(journal: &J, run_number: u32) -> i32
+    ensures { result ≡ models.run_status run_number (J.list journal.now) }
 {
-    match journal.finish_of(k) {
+    match journal.finish_of(run_number) {
         None => 2,
         Some(end) => end_status(end),
     }
@@ -217,7 +217,7 @@ fn status_of<J: Lookups>(journal: &J, model: u32) -> i32
     }
     match journal.current_run(model) {
         None => 1,
-        Some(k) => run_status(journal, k),
+        Some(run_number) => run_status(journal, run_number),
     }
 }
 
@@ -227,7 +227,7 @@ fn exit_of<J: Lookups>(journal: &J, model: u32) -> i32
 {
     match journal.current_run(model) {
         None => 0,
-        Some(k) => match journal.finish_of(k) {
+        Some(run_number) => match journal.finish_of(run_number) {
             None => 0,
             Some(end) => exit_code(end),
         },

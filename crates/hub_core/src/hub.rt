@@ -37,7 +37,7 @@ impl Hub {
     ghost use Rattle.job_calls.specs.Fitting.{fits};
     ghost use Rattle.job_calls.specs.Replies.{is_plain};
     ghost use Rattle.job_calls.specs.Runs.{opening};
-    ghost use Rattle.job_calls.specs.Words.{own_entries};
+    ghost use Rattle.job_calls.specs.Entries.{own_entries};
     ghost use Rattle.job_calls.specs.Legal.{CanOpen, IsLegal};
     ghost use Rattle.job_laws.specs.Truth.{SaysTrue};
     ghost use Rattle.job_laws.specs.Laws.{KeepsLaws};

@@ -10,7 +10,7 @@ use Rattle.atomic_table.proofs.Lists.{at_map}
 use Rattle.hub_lock.specs.declared.mark.Mark.{Mark}
 use Rattle.hub_lock.specs.declared.rule.Part.{Part}
 use Rattle.hub_lock.specs.declared.rule.View.{View}
-use Rattle.hub_lock.specs.Words.{entries_of, StartsWith}
+use Rattle.hub_lock.specs.LaneEntries.{entries_of, StartsWith}
 use Rattle.hub_lock.specs.Marks.{times, IsMarkOf}
 use Rattle.hub_lock.specs.Seats.{SeatState, turns}
 use Rattle.hub_lock.specs.Calls.{InOrder, HasOrder, IsEnd}

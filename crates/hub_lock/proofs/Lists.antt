@@ -5,7 +5,7 @@ use Rattle.std.proofs.lemmas.List.Sums.{sum_by-cons}
 use Rattle.std.proofs.lemmas.List.Elements.{filter-append, All-head, All-tail}
 use mathlib.Core.Option.{some, some-injective, some-ne-none}
 use lib.ListN.{get_elem?}
-use Rattle.hub_lock.specs.Words.{entries_of, StartsWith}
+use Rattle.hub_lock.specs.LaneEntries.{entries_of, StartsWith}
 
 module _ {A : Type 0} (f : A → ℕ) where
   -- a sum after a change of one part

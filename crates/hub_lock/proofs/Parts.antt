@@ -13,7 +13,7 @@ use Rattle.hub_lock.specs.declared.rule.Stage.{Stage}
 use Rattle.hub_lock.specs.declared.rule.Stage.TheVariants.{Idle}
 use Rattle.hub_lock.specs.declared.rule.View.{View}
 use Rattle.hub_lock.specs.declared.rule.Part.{Part}
-use Rattle.hub_lock.specs.Words.{entries_of, StartsWith}
+use Rattle.hub_lock.specs.LaneEntries.{entries_of, StartsWith}
 use Rattle.hub_lock.specs.Marks.{IsMarkOf}
 use Rattle.hub_lock.specs.Inner.Rule.{is_alive, ticket_at, tickets_out, turns_held, tickets_out_of, turns_held_of, turns_of, Tickets, Apart, Fits, Knows, HasMarks, HasTurns, Home, HasJournal, first_view}
 use Rattle.hub_lock.specs.Inner.Steps.{first_after_split, new_view, after_join, spent_view, part_of}

@@ -12,7 +12,7 @@ use Rattle.hub_lock.specs.declared.rule.Stage.TheVariants.{Idle, Waits, Holds, S
 use Rattle.hub_lock.specs.declared.rule.View.{View}
 use Rattle.hub_lock.specs.declared.mark.Mark.{Mark}
 use Rattle.hub_lock.specs.declared.rule.Part.{Part}
-use Rattle.hub_lock.specs.Words.{entries_of, StartsWith, HasNoneFrom}
+use Rattle.hub_lock.specs.LaneEntries.{entries_of, StartsWith, HasNoneFrom}
 use Rattle.hub_lock.specs.Marks.{mark}
 use Rattle.hub_lock.specs.Inner.Rule.{is_alive, ticket_at, tickets_out, turns_held, tickets_out_of, turns_held_of, Tickets, Joined, Apart, Fits, Knows, IsLongest, HasTurns, Home, LockRule, HasJournal}
 use Rattle.hub_lock.specs.Inner.Steps.{view_at, after_draw, after_look, after_count, after_pass, DrawTells, Came, LookTells, CountTells, PassTells}

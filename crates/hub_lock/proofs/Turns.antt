@@ -3,7 +3,7 @@ use Rattle.std.proofs.Common.{◌≡◌, ℕ, ◌+◌, ◌%◌, ◌^◌, ◌<◌
 use mathlib.Core.Option as maybe
 use Rattle.atomic_table.specs.Table.{Me, step, Allows}
 use Rattle.hub_lock.specs.declared.rule.View.{View}
-use Rattle.hub_lock.specs.Words.{entries_of}
+use Rattle.hub_lock.specs.LaneEntries.{entries_of}
 use Rattle.hub_lock.specs.Marks.{mark}
 use Rattle.hub_lock.specs.Inner.Rule.{HasJournal}
 use Rattle.hub_lock.specs.Inner.Steps.{after_draw, LookTells, CountTells}

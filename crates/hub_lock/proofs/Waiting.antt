@@ -1,7 +1,7 @@
 -- Calls that are tried again: what they leave together.
 use Rattle.std.proofs.Common.{◌≡◌, ℕ, ◌≤◌, List, [], ◌++◌, refl, sym, subst, append-nil, arith}
 use Rattle.hub_lock.specs.declared.story.Story.{Ghosts}
-use Rattle.hub_lock.specs.Words.{entries_of, StartsWith}
+use Rattle.hub_lock.specs.LaneEntries.{entries_of, StartsWith}
 use Rattle.hub_lock.specs.Seats.{SeatState, turns, first_entry, own_list, IsSameSeat}
 
 module _ {S C A H E : Type 0} (story : Ghosts S C A H E) where

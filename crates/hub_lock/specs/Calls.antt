@@ -1,7 +1,7 @@
 -- What a call leaves, and what the end of a lock gives.
 use Rattle.std.specs.Prelude.{◌≡◌, ℕ, ◌+◌, ◌<◌, List, [], ◌∷◌, ◌++◌, length, All, sum_by, slice_get, Some}
 use Rattle.hub_lock.specs.declared.story.Story.{Ghosts}
-use Rattle.hub_lock.specs.Words.{entries_of, StartsWith}
+use Rattle.hub_lock.specs.LaneEntries.{entries_of, StartsWith}
 use Rattle.hub_lock.specs.Marks.{times, FoundLast, IsOrder, IsMarkOf}
 use Rattle.hub_lock.specs.Seats.{SeatState, turns, first_entry, own_list}
 

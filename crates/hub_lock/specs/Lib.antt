@@ -1,4 +1,4 @@
-pub mod Words
+pub mod LaneEntries
 pub mod Marks
 pub mod Seats
 pub mod Calls

@@ -3,7 +3,7 @@ use Rattle.std.specs.Prelude.{◌≡◌, ℕ, List, length, Option, slice_get}
 use Rattle.atomic_table.specs.Seated.{TableId}
 use Rattle.hub_lock.specs.declared.mark.Mark.{Mark}
 use Rattle.hub_lock.specs.declared.story.Story.{Ghosts}
-use Rattle.hub_lock.specs.Words.{entries_of}
+use Rattle.hub_lock.specs.LaneEntries.{entries_of}
 
 -- which lock it is, and how many seats it may have
 pub record KeepState : Type 0 where

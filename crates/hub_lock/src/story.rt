@@ -1,6 +1,6 @@
 //! What a lock keeps: a value that stands for a list of entries, each of one lane.
 ghost use Rattle.std.specs.Prelude.{◌≡◌, ℕ, ◌^◌, ◌<◌, List, [], ◌∷◌, ◌++◌, length, slice_get, Option, Some, None, IfOk, IfErr, MatchResult};
-ghost use Rattle.hub_lock.specs.Words.{entries_of};
+ghost use Rattle.hub_lock.specs.LaneEntries.{entries_of};
 
 /// A value that stands for a list of entries, to which each accepted call adds one.
 ///

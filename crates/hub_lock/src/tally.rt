@@ -45,7 +45,7 @@ impl Model for Tally {
 
 impl Tally {
     ghost use Rattle.std.specs.Prelude.{◌≡◌, [], ◌∷◌, length, IfOk};
-    ghost use Rattle.hub_lock.specs.Words.{entries_of};
+    ghost use Rattle.hub_lock.specs.LaneEntries.{entries_of};
     ghost use Rattle.hub_lock.specs.Tally.{total};
 
     /// A tally whose only entry is lane 0's, of the amount 0.

@@ -9,12 +9,12 @@ use mos_text::{Blob, NoMemory};
 use std::alloc::{AllocError, Global};
 
 mod calls;
+mod fields;
 mod replies;
-mod words;
 
 use calls::{put_call, put_end};
+pub use fields::put_number;
 use replies::put_reply;
-pub use words::put_number;
 
 /// The text of a report.
 #[tactic(auto, unfolding(crate::specs::ReportText::report_text))]

@@ -13,7 +13,7 @@ use Rattle.std.proofs.lemmas.List.Folds.{list_any-append}
 use Rattle.std.proofs.lemmas.Option.{slice_get_past}
 use Rattle.job_calls.specs.declared.entry.Entry.{Entry}
 use Rattle.job_calls.specs.Moments.{Moment, moments, moments_from, place_of}
-use Rattle.job_calls.specs.Runs.{later, last_given}
+use Rattle.job_calls.specs.Runs.{last_of, last_given}
 use Rattle.job_calls.specs.Blocks.{last_place}
 use Rattle.job_calls.specs.Events.{comes_to, arrivals}
 use Rattle.hub_words.proofs.Scans.{last_given-snoc}
@@ -75,7 +75,7 @@ one_passes f xs i d less is passes =
 
 -- what was last given by the moments, one more looked at
 pub given-take : {B : Type 0} (give : Moment → Option B) (xs : List Entry) (i n : ℕ) (d : Entry) → i < length xs → d ≡ get_or xs i d → n ≡ i + 1
-    → last_given give (moments (take n xs)) ≡ later (last_given give (moments (take i xs))) (give (at xs i d))
+    → last_given give (moments (take n xs)) ≡ last_of (last_given give (moments (take i xs))) (give (at xs i d))
 given-take give xs i n d less is next =
     let s : n ≡ suc i = omega arith in
     ap (λ m. last_given give (moments (take m xs))) s
@@ -144,7 +144,7 @@ arrival-here r xs i number d less is so_far comes =
 pub no_arrival : (r : ℕ) (xs : List Entry) (number : ℕ) → length (arrivals r xs) ≤ number → slice_get (arrivals r xs) number ≡ None
 no_arrival r xs number less = slice_get_past (arrivals r xs) number less
 
-within_later : (a b : Option ℕ) (m : ℕ) → IfSome a (λ p. p < m) → IfSome b (λ p. p < m) → IfSome (later a b) (λ p. p < m)
+within_later : (a b : Option ℕ) (m : ℕ) → IfSome a (λ p. p < m) → IfSome b (λ p. p < m) → IfSome (last_of a b) (λ p. p < m)
 within_later a None m h k = h
 within_later a (Some p) m h k = k
 
@@ -167,7 +167,7 @@ one_at_most false = omega arith
 
 -- what was last given by a list's elements, one more looked at
 pub list_given-take : {A B : Type 0} (give : A → Option B) (xs : List A) (i n : ℕ) (d : A) → i < length xs → d ≡ get_or xs i d → n ≡ i + 1
-    → last_given give (take n xs) ≡ later (last_given give (take i xs)) (give d)
+    → last_given give (take n xs) ≡ last_of (last_given give (take i xs)) (give d)
 list_given-take give xs i n d less is next =
     let s : n ≡ suc i = omega arith in
     ap (λ m. last_given give (take m xs)) s
@@ -182,7 +182,7 @@ places-take n (x ∷ xs) e =
 
 -- the last place that passes, one more entry looked at
 pub place-take : (test : Entry → Bool) (xs : List Entry) (i n : ℕ) (d : Entry) → i < length xs → d ≡ get_or xs i d → n ≡ i + 1
-    → last_place test (take n xs) ≡ later (last_place test (take i xs)) (if test d then Some i else None)
+    → last_place test (take n xs) ≡ last_of (last_place test (take i xs)) (if test d then Some i else None)
 place-take test xs i n d less is next =
     let give : ℕ × Entry → Option ℕ = λ p. if test p.1 then Some p.0 else None in
     let s : n ≡ suc i = omega arith in
@@ -192,9 +192,9 @@ place-take test xs i n d less is next =
     ∙ ap (last_place test) (take-suc xs i d less ∙ ap (λ e. take i xs ++ e ∷ []) (sym is))
     ∙ ap (last_given give) (places-take 0 (take i xs) d)
     ∙ last_given-snoc give (enumerate_from 0 (take i xs)) (0 + length (take i xs), d)
-    ∙ ap (λ m. later (last_place test (take i xs)) (if test d then Some m else None)) here
+    ∙ ap (λ m. last_of (last_place test (take i xs)) (if test d then Some m else None)) here
 
-pub or-copied : {A : Type 0} (a b : Option (Bor A)) → option_copied (option_or b a) ≡ later (option_copied a) (option_copied b)
+pub or-copied : {A : Type 0} (a b : Option (Bor A)) → option_copied (option_or b a) ≡ last_of (option_copied a) (option_copied b)
 or-copied a None = refl
 or-copied a (Some x) = refl
 

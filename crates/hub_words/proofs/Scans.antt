@@ -5,27 +5,27 @@ use Rattle.std.specs.List.{list_any}
 use Rattle.std.specs.Option.{option_or}
 use Rattle.std.specs.Bool.{then_some}
 use Rattle.std.proofs.lemmas.List.{length-append}
-use Rattle.job_calls.specs.Runs.{later, last_given}
+use Rattle.job_calls.specs.Runs.{last_of, last_given}
 
-later_assoc : {A : Type 0} (a b c : Option A) → later (later a b) c ≡ later a (later b c)
+later_assoc : {A : Type 0} (a b c : Option A) → last_of (last_of a b) c ≡ last_of a (last_of b c)
 later_assoc a b None = refl
 later_assoc a b (Some x) = refl
 
-later_none : {A : Type 0} (a : Option A) → later None a ≡ a
+later_none : {A : Type 0} (a : Option A) → last_of None a ≡ a
 later_none None = refl
 later_none (Some x) = refl
 
 -- the first, or else the second, the other way round
-pub or_later : {A : Type 0} (a b : Option A) → option_or b a ≡ later a b
+pub or_later : {A : Type 0} (a b : Option A) → option_or b a ≡ last_of a b
 or_later a None = refl
 or_later a (Some x) = refl
 
 fold_later : {A B : Type 0} (give : A → Option B) (acc : Option B) (xs : List A)
-    → fold (λ found x. option_or (give x) found) acc xs ≡ later acc (last_given give xs)
+    → fold (λ found x. option_or (give x) found) acc xs ≡ last_of acc (last_given give xs)
 fold_later give acc [] = refl
 fold_later give acc (x ∷ xs) =
     fold_later give (option_or (give x) acc) xs
-    ∙ ap (λ a. later a (last_given give xs)) (or_later acc (give x))
+    ∙ ap (λ a. last_of a (last_given give xs)) (or_later acc (give x))
     ∙ later_assoc acc (give x) (last_given give xs)
 
 -- a fold that keeps what was given last
@@ -35,9 +35,9 @@ fold_given give xs = fold_later give None xs ∙ later_none (last_given give xs)
 
 -- one more element
 pub last_given-snoc : {A B : Type 0} (give : A → Option B) (xs : List A) (x : A)
-    → last_given give (xs ++ x ∷ []) ≡ later (last_given give xs) (give x)
+    → last_given give (xs ++ x ∷ []) ≡ last_of (last_given give xs) (give x)
 last_given-snoc give [] x = sym (later_none (give x))
-last_given-snoc give (y ∷ ys) x = ap (later (give y)) (last_given-snoc give ys x) ∙ sym (later_assoc (give y) (last_given give ys) (give x))
+last_given-snoc give (y ∷ ys) x = ap (last_of (give y)) (last_given-snoc give ys x) ∙ sym (later_assoc (give y) (last_given give ys) (give x))
 
 sub_sub : (n a b : ℕ) → (n - a) - b ≡ n - (a + b)
 sub_sub n a b = omega arith

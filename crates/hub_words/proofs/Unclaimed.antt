@@ -1,7 +1,7 @@
 -- The search for the least run that no lane was given, a step at a time.
 use Rattle.std.proofs.Common.{◌≡◌, ◌<◌, ℕ, ◌+◌, ◌-◌, suc, true, false, List, Some, None, sym, ap, ◌∙◌, arith, cond}
 use Rattle.job_calls.specs.declared.entry.Entry.{Entry}
-use Rattle.job_calls.specs.Words.{is_claimed, first_unclaimed}
+use Rattle.job_calls.specs.Entries.{is_claimed, first_unclaimed}
 
 pub one_more : (k many : ℕ) → k < many → many - k ≡ suc (many - (k + 1))
 one_more k many less = omega arith

@@ -5,8 +5,8 @@ ghost use Rattle.job_calls.specs.Models as models;
 ghost use Rattle.hub_words.specs.Fronts.{event_value};
 ghost use Rattle.job_calls.specs.Moments.{Moment, moments};
 
+use crate::entry_tests::is_run;
 use crate::models::parent_of;
-use crate::words::is_run;
 use job_calls::{Call, End, Entry, Reply};
 
 /// The run that the entry makes an event for.
@@ -23,10 +23,11 @@ fn receiver_of(before: &[Entry], entry: &Entry) -> Option<u32>
     }
 }
 
-fn comes_to(r: u32, before: &[Entry], entry: &Entry) -> bool
-    ensures { result ≡ events.comes_to r (record { before = before.now; entry = entry.now }) }
+fn comes_to(run_number: u32, before: &[Entry], entry: &Entry) -> bool
+    ensures { result ≡ events.comes_to run_number
+        (record { before = before.now; entry = entry.now }) }
 {
-    is_run(r, receiver_of(before, entry))
+    is_run(run_number, receiver_of(before, entry))
 }
 
 fn is_took(reply: &Reply) -> bool
@@ -35,13 +36,13 @@ fn is_took(reply: &Reply) -> bool
     matches!(reply, Reply::Took { .. })
 }
 
-/// How many events run r took.
-fn taken_count(r: u32, journal: &[Entry]) -> usize
-    ensures { result ≡ events.taken_count r journal.now }
+/// How many events this run took.
+fn taken_count(run_number: u32, journal: &[Entry]) -> usize
+    ensures { result ≡ events.taken_count run_number journal.now }
 {
     journal
         .iter()
-        .filter(|e| is_run(r, e.run) && is_took(&e.reply))
+        .filter(|e| is_run(run_number, e.run) && is_took(&e.reply))
         .count()
 }
 
@@ -51,32 +52,32 @@ fn one_if(holds: bool) -> usize
     if holds { 1 } else { 0 }
 }
 
-/// How many events came to run r.
-fn arrival_count(r: u32, journal: &[Entry]) -> usize
-    ensures { result ≡ length (events.arrivals r journal.now) }
+/// How many events came to this run.
+fn arrival_count(run_number: u32, journal: &[Entry]) -> usize
+    ensures { result ≡ length (events.arrivals run_number journal.now) }
 {
     let mut count = 0;
     for (i, e) in journal.iter().enumerate() {
-        count += one_if(comes_to(r, &journal[..i], e));
+        count += one_if(comes_to(run_number, &journal[..i], e));
     }
     count
 }
 
-/// How many events run r has not taken.
-pub(crate) fn queue_length(r: u32, journal: &[Entry]) -> usize
-    ensures { result ≡ length (events.queue r journal.now) }
+/// How many events this run has not taken.
+pub(crate) fn queue_length(run_number: u32, journal: &[Entry]) -> usize
+    ensures { result ≡ length (events.queue run_number journal.now) }
 {
-    arrival_count(r, journal).saturating_sub(taken_count(r, journal))
+    arrival_count(run_number, journal).saturating_sub(taken_count(run_number, journal))
 }
 
-/// The place of the event that came to run r after so many.
-fn arrival_at(r: u32, journal: &[Entry], number: usize) -> Option<u32>
+/// The place of the event that came to this run after so many.
+fn arrival_at(run_number: u32, journal: &[Entry], number: usize) -> Option<u32>
     requires { length journal.now < 2 ^ 31 }
-    ensures { result ≡ slice_get (events.arrivals r journal.now) number }
+    ensures { result ≡ slice_get (events.arrivals run_number journal.now) number }
 {
     let mut left = number;
     for (i, e) in journal.iter().enumerate() {
-        let comes = comes_to(r, &journal[..i], e);
+        let comes = comes_to(run_number, &journal[..i], e);
         if comes && left == 0 {
             return Some(i as u32);
         }
@@ -85,12 +86,12 @@ fn arrival_at(r: u32, journal: &[Entry], number: usize) -> Option<u32>
     None
 }
 
-/// The place of the first event that run r has not taken.
-pub(crate) fn first_event(r: u32, journal: &[Entry]) -> Option<u32>
+/// The place of the first event that this run has not taken.
+pub(crate) fn first_event(run_number: u32, journal: &[Entry]) -> Option<u32>
     requires { length journal.now < 2 ^ 31 }
-    ensures { result ≡ events.first_event r journal.now }
+    ensures { result ≡ events.first_event run_number journal.now }
 {
-    arrival_at(r, journal, taken_count(r, journal))
+    arrival_at(run_number, journal, taken_count(run_number, journal))
 }
 
 /// The number of an end that the run which started it is told.
@@ -143,12 +144,12 @@ fn event_at(place: u32, journal: &[Entry]) -> Option<Event>
     }
 }
 
-/// The first event that run r has not taken.
-pub(crate) fn front(r: u32, journal: &[Entry]) -> Option<Event>
+/// The first event that this run has not taken.
+pub(crate) fn front(run_number: u32, journal: &[Entry]) -> Option<Event>
     requires { length journal.now < 2 ^ 31 }
-    ensures { option_map event_value result ≡ events.front r journal.now }
+    ensures { option_map event_value result ≡ events.front run_number journal.now }
 {
-    match first_event(r, journal) {
+    match first_event(run_number, journal) {
         None => None,
         Some(place) => event_at(place, journal),
     }

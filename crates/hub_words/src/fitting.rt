@@ -1,13 +1,13 @@
 //! Which calls a lane may make.
 ghost use Rattle.std.specs.Prelude.{◌≡◌, ◌&&◌, ℕ, nat_eq};
-ghost use Rattle.job_calls.specs.Words.{is_run, own_entries};
+ghost use Rattle.job_calls.specs.Entries.{is_run, own_entries};
 ghost use Rattle.job_calls.specs.Runs.{opening};
 ghost use Rattle.job_calls.specs.Fitting as fitting;
 ghost use Rattle.job_calls.specs.Fitting.{exchange_of};
 
+use crate::entry_tests::{is_claim, is_done, is_finish, is_last, is_quit, is_run};
 use crate::files::lanes_of;
 use crate::pipes::{lets_go, opened_session};
-use crate::words::{is_claim, is_done, is_finish, is_last, is_quit, is_run};
 use job_calls::{Call, Entry, Reply, Way};
 use mos_text::Text;
 

@@ -4,6 +4,7 @@
 #![tactic(auto)]
 
 mod blocks;
+mod entry_tests;
 mod events;
 mod files;
 mod fitting;
@@ -15,7 +16,6 @@ mod pipes;
 mod runs;
 mod scanning;
 mod weights;
-mod words;
 
 pub use events::{Event, exit_code};
 pub use lookups::Lookups;

@@ -1,7 +1,7 @@
 //! What the hub's answers look up in a journal: each method gives one word on the list of its entries.
 ghost use Rattle.std.specs.Prelude.{◌≡◌, ◌<◌, ◌^◌, ℕ, List, None, length, option_map, option_copied, IfOk, MatchOption};
 ghost use Rattle.job_calls.specs.declared.entry.Entry.{Entry};
-ghost use Rattle.job_calls.specs.Words as words;
+ghost use Rattle.job_calls.specs.Entries as entries;
 ghost use Rattle.job_calls.specs.Runs as runs;
 ghost use Rattle.job_calls.specs.Models as models;
 ghost use Rattle.job_calls.specs.Files as files;
@@ -28,7 +28,8 @@ pub trait Lookups {
 
     /// The lane may make the call, for itself or for the run.
     fn fits(&self, lane: u32, run: Option<u32>, call: &Call) -> bool
-        ensures { result ≡ fitting.fits (runs.opening (list self.now)) (words.own_entries lane (list self.now)) lane run call.now };
+        ensures { result ≡ fitting.fits (runs.opening (list self.now))
+            (entries.own_entries lane (list self.now)) lane run call.now };
 
     /// The journal takes no further call of a run, or none of this weight.
     fn is_full(&self, call: &Call) -> bool
@@ -36,7 +37,7 @@ pub trait Lookups {
 
     /// The job was ended before its time.
     fn has_quit(&self) -> bool
-        ensures { result ≡ words.has_quit (list self.now) };
+        ensures { result ≡ entries.has_quit (list self.now) };
 
     /// The number of lanes that the job was opened with.
     fn lanes(&self) -> u32
@@ -45,7 +46,7 @@ pub trait Lookups {
     /// The runs that there are, run 0 included.
     fn run_count(&self) -> u32
         requires { IsSmall (list self.now) }
-        ensures { result ≡ words.run_count (list self.now) };
+        ensures { result ≡ entries.run_count (list self.now) };
 
     /// How many runs are live.
     fn live_count(&self) -> usize
@@ -54,11 +55,11 @@ pub trait Lookups {
 
     /// A lane was given the run.
     fn is_claimed(&self, run: u32) -> bool
-        ensures { result ≡ words.is_claimed run (list self.now) };
+        ensures { result ≡ entries.is_claimed run (list self.now) };
 
     /// The run has ended.
     fn is_finished(&self, run: u32) -> bool
-        ensures { result ≡ words.is_finished run (list self.now) };
+        ensures { result ≡ entries.is_finished run (list self.now) };
 
     /// The run was started and has not ended.
     fn is_live(&self, run: u32) -> bool
@@ -77,7 +78,7 @@ pub trait Lookups {
     /// The least run that no lane was given.
     fn unclaimed(&self) -> Option<u32>
         requires { IsSmall (list self.now) }
-        ensures { result ≡ words.unclaimed (list self.now) };
+        ensures { result ≡ entries.unclaimed_run (list self.now) };
 
     /// The place, in the list of files, of the run's source.
     fn source_of(&self, run: u32) -> Option<u32>
@@ -161,5 +162,6 @@ pub trait Lookups {
 
     /// The bytes of the pipe's last session that were put and not yet taken.
     fn untaken(&self, alloc: Global, name: &Text) -> Result<Vec<u8>, NoMemory>
-        ensures { IfOk result (λ bytes. bytes.items ≡ pipes.untaken name.now (list self.now)) };
+        ensures { IfOk result
+            (λ bytes. bytes.items ≡ pipes.untaken_bytes name.now (list self.now)) };
 }

@@ -1,16 +1,16 @@
 //! Models and their runs, as the journal has them.
 ghost use Rattle.std.specs.Prelude.{◌≡◌, ℕ, ◌<◌, ◌^◌, length, if◌then◌else◌, None, option_and_then, option_copied};
-ghost use Rattle.job_calls.specs.Words as words;
+ghost use Rattle.job_calls.specs.Entries as entries;
 ghost use Rattle.job_calls.specs.Models as models;
 ghost use Rattle.job_calls.specs.Moments.{Moment, moments};
 ghost use Rattle.std.specs.List.{list_any};
 ghost use Rattle.job_calls.specs.Runs as runs;
 ghost use Rattle.job_calls.specs.Files.{files_of};
 
+use crate::entry_tests::is_run;
 use crate::files::file_at;
 use crate::given::last_given;
 use crate::jobs::{is_finished, run_count};
-use crate::words::is_run;
 use job_calls::{Call, End, Entry, Reply};
 use mos_text::Text;
 
@@ -75,66 +75,69 @@ pub(crate) fn loaded_count(journal: &[Entry]) -> u32
 }
 
 /// Whether the model is loaded from this entry on, where the entry says so.
-fn loads(m: u32, call: &Call, reply: &Reply) -> Option<bool>
-    ensures { result ≡ models.loads m call.now reply.now }
+fn loads(model_number: u32, call: &Call, reply: &Reply) -> Option<bool>
+    ensures { result ≡ models.loads model_number call.now reply.now }
 {
     match (call, reply) {
-        (_, Reply::Loaded { model, .. }) => (*model == m).then_some(true),
-        (Call::Unload { model }, Reply::Unit) => (*model == m).then_some(false),
+        (_, Reply::Loaded { model, .. }) => (*model == model_number).then_some(true),
+        (Call::Unload { model }, Reply::Unit) => (*model == model_number).then_some(false),
         _ => None,
     }
 }
 
-fn last_load(m: u32, journal: &[Entry]) -> Option<bool>
-    ensures { result ≡ runs.last_given (λ e. models.loads m e.call e.reply) journal.now }
+fn last_load(model_number: u32, journal: &[Entry]) -> Option<bool>
+    ensures { result ≡ runs.last_given (λ e. models.loads model_number e.call e.reply) journal.now }
 {
-    last_given(journal, |e| loads(m, &e.call, &e.reply))
+    last_given(journal, |e| loads(model_number, &e.call, &e.reply))
 }
 
-pub(crate) fn is_loaded(m: u32, journal: &[Entry]) -> bool
-    ensures { result ≡ models.is_loaded m journal.now }
+pub(crate) fn is_loaded(model_number: u32, journal: &[Entry]) -> bool
+    ensures { result ≡ models.is_loaded model_number journal.now }
 {
-    last_load(m, journal).unwrap_or(false)
+    last_load(model_number, journal).unwrap_or(false)
 }
 
-fn run_of_model(m: u32, entry: &Entry) -> Option<u32>
-    ensures { result ≡ models.run_of_model m entry.now }
+fn run_of_model(model_number: u32, entry: &Entry) -> Option<u32>
+    ensures { result ≡ models.run_of_model model_number entry.now }
 {
     match (&entry.call, &entry.reply) {
-        (Call::Run { model, .. }, Reply::Started { run }) => (*model == m).then_some(*run),
+        (Call::Run { model, .. }, Reply::Started { run }) => (*model == model_number).then_some(
+            *run,
+        ),
         _ => None,
     }
 }
 
 /// The last run of the model.
-pub(crate) fn current_run(m: u32, journal: &[Entry]) -> Option<u32>
-    ensures { result ≡ models.current_run m journal.now }
+pub(crate) fn current_run(model_number: u32, journal: &[Entry]) -> Option<u32>
+    ensures { result ≡ models.current_run model_number journal.now }
 {
-    last_given(journal, |e| run_of_model(m, e))
+    last_given(journal, |e| run_of_model(model_number, e))
 }
 
-/// The run that starts run k by this entry.
-fn started_from(k: u32, entry: &Entry) -> Option<u32>
-    ensures { result ≡ option_and_then (λ start. start.parent) (runs.start_of_run k entry.now) }
+/// The run that starts this run by this entry.
+fn started_from(run_number: u32, entry: &Entry) -> Option<u32>
+    ensures { result ≡ option_and_then (λ start. start.parent)
+        (runs.start_of_run run_number entry.now) }
 {
     match (&entry.call, &entry.reply) {
-        (Call::Run { .. }, Reply::Started { run }) if *run == k => entry.run,
+        (Call::Run { .. }, Reply::Started { run }) if *run == run_number => entry.run,
         _ => None,
     }
 }
 
-/// The run that started run k.
-pub(crate) fn parent_of(k: u32, journal: &[Entry]) -> Option<u32>
-    ensures { result ≡ models.parent_of k journal.now }
+/// The run that started this run.
+pub(crate) fn parent_of(run_number: u32, journal: &[Entry]) -> Option<u32>
+    ensures { result ≡ models.parent_of run_number journal.now }
 {
-    last_given(journal, |e| started_from(k, e))
+    last_given(journal, |e| started_from(run_number, e))
 }
 
-pub(crate) fn is_live(k: u32, journal: &[Entry]) -> bool
+pub(crate) fn is_live(run_number: u32, journal: &[Entry]) -> bool
     requires { length journal.now < 2 ^ 31 }
-    ensures { result ≡ models.is_live k journal.now }
+    ensures { result ≡ models.is_live run_number journal.now }
 {
-    k < run_count(journal) && !is_finished(k, journal)
+    run_number < run_count(journal) && !is_finished(run_number, journal)
 }
 
 /// How many runs are live.
@@ -143,7 +146,9 @@ pub(crate) fn live_count(journal: &[Entry]) -> usize
     ensures { result ≡ length (models.live_runs journal.now) }
 {
     let many = run_count(journal);
-    (0..many).filter(|k| is_live(*k, journal)).count()
+    (0..many)
+        .filter(|run_number| is_live(*run_number, journal))
+        .count()
 }
 
 fn stopped_model(call: &Call, reply: &Reply) -> Option<u32>
@@ -155,24 +160,25 @@ fn stopped_model(call: &Call, reply: &Reply) -> Option<u32>
     }
 }
 
-/// The entry asks run k to stop, by the entries before it.
-fn asks(k: u32, before: &[Entry], entry: &Entry) -> bool
+/// The entry asks this run to stop, by the entries before it.
+fn asks(run_number: u32, before: &[Entry], entry: &Entry) -> bool
     requires { length before.now < 2 ^ 31 }
-    ensures { result ≡ models.asks k (record { before = before.now; entry = entry.now }) }
+    ensures { result ≡ models.asks run_number (record { before = before.now; entry = entry.now }) }
 {
     match stopped_model(&entry.call, &entry.reply) {
         None => false,
-        Some(model) => is_run(k, current_run(model, before)) && is_live(k, before),
+        Some(model) => is_run(run_number, current_run(model, before))
+            && is_live(run_number, before),
     }
 }
 
-/// Some entry asks run k to stop.
-fn was_asked(k: u32, journal: &[Entry]) -> bool
+/// Some entry asks this run to stop.
+fn was_asked(run_number: u32, journal: &[Entry]) -> bool
     requires { length journal.now < 2 ^ 31 }
-    ensures { result ≡ list_any (models.asks k) (moments journal.now) }
+    ensures { result ≡ list_any (models.asks run_number) (moments journal.now) }
 {
     for (i, e) in journal.iter().enumerate() {
-        if asks(k, &journal[..i], e) {
+        if asks(run_number, &journal[..i], e) {
             return true;
         }
     }
@@ -180,25 +186,26 @@ fn was_asked(k: u32, journal: &[Entry]) -> bool
 }
 
 /// The run is to stop.
-pub(crate) fn is_asked(k: u32, journal: &[Entry]) -> bool
+pub(crate) fn is_asked(run_number: u32, journal: &[Entry]) -> bool
     requires { length journal.now < 2 ^ 31 }
-    ensures { result ≡ models.is_asked k journal.now }
+    ensures { result ≡ models.is_asked run_number journal.now }
 {
-    is_finished(0, journal) || was_asked(k, journal)
+    is_finished(0, journal) || was_asked(run_number, journal)
 }
 
-fn finish_by(k: u32, entry: &Entry) -> Option<End>
-    ensures { result ≡ (if words.is_run k entry.now.run then runs.finish entry.now.call else None) }
+fn finish_by(run_number: u32, entry: &Entry) -> Option<End>
+    ensures { result ≡ (if entries.is_run run_number entry.now.run then runs.finish entry.now.call
+        else None) }
 {
     match &entry.call {
-        Call::Finish(end) if is_run(k, entry.run) => Some(*end),
+        Call::Finish(end) if is_run(run_number, entry.run) => Some(*end),
         _ => None,
     }
 }
 
-/// How run k ended, where it has.
-pub(crate) fn finish_of(k: u32, journal: &[Entry]) -> Option<End>
-    ensures { result ≡ runs.finish_of k journal.now }
+/// How this run ended, where it has.
+pub(crate) fn finish_of(run_number: u32, journal: &[Entry]) -> Option<End>
+    ensures { result ≡ runs.finish_of run_number journal.now }
 {
-    last_given(journal, |e| finish_by(k, e))
+    last_given(journal, |e| finish_by(run_number, e))
 }

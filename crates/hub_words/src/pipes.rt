@@ -1,12 +1,12 @@
 //! Pipes: who holds their ends, their sessions, and the bytes in them.
 ghost use Rattle.std.specs.Prelude.{◌≡◌, ℕ, ◌<◌, ◌^◌, ◌+◌, ◌-◌, ◌&&◌, length, drop, IfOk, IfSome, is_some};
-ghost use Rattle.job_calls.specs.Words as words;
+ghost use Rattle.job_calls.specs.Entries as words;
 ghost use Rattle.job_calls.specs.Runs as runs;
 ghost use Rattle.job_calls.specs.Pipes as pipes;
 ghost use Rattle.job_calls.specs.Blocks.{last_place};
 
+use crate::entry_tests::{is_finish, is_run};
 use crate::given::{last_given, last_place};
-use crate::words::{is_finish, is_run};
 use job_calls::{Call, Entry, Reply, Way};
 use mos_text::{NoMemory, Text};
 use std::alloc::Global;
@@ -218,7 +218,7 @@ fn less_taken(many: usize, name: &Text, entries: &[Entry]) -> usize
 
 /// The bytes of the last session that were put and not yet taken.
 pub(crate) fn untaken(alloc: Global, name: &Text, journal: &[Entry]) -> Result<Vec<u8>, NoMemory>
-    ensures { IfOk result (λ bytes. bytes.items ≡ pipes.untaken name.now journal.now) }
+    ensures { IfOk result (λ bytes. bytes.items ≡ pipes.untaken_bytes name.now journal.now) }
 {
     let entries = in_session(name, journal);
     let put = put_in(alloc, name, entries)?;

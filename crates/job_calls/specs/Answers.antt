@@ -11,13 +11,13 @@ use Rattle.job_calls.specs.declared.reply.Answer.TheVariants.{Ready, NotYet, Shu
 use Rattle.job_calls.specs.declared.reply.Reply.TheVariants.{Opened, Claimed, Done, Code, Loaded, Started, Took, Seen, Nothing, Flag, Queued, Lost, Number, Found, Session, Bytes, PipeEnd, Halt, Fault}
 use Rattle.job_calls.specs.declared.reply.Reply.TheVariants as reply
 use Rattle.job_calls.specs.declared.entry.Entry.{Entry}
-use Rattle.job_calls.specs.Words.{has_quit, is_claimed, is_finished, run_count, unclaimed}
+use Rattle.job_calls.specs.Entries.{has_quit, is_claimed, is_finished, run_count, unclaimed_run}
 use Rattle.job_calls.specs.Runs.{source_of, params_of}
 use Rattle.job_calls.specs.Files.{lanes_of, code_of, data_of}
 use Rattle.job_calls.specs.Models.{image_source, loaded_count, is_loaded, current_run, parent_of, is_live, live_runs, is_live_run, is_asked, exit_of, status_of}
 use Rattle.job_calls.specs.Events.{Event, queue, first_event, front}
-use Rattle.job_calls.specs.Blocks.{Written, last_written}
-use Rattle.job_calls.specs.Pipes.{holder, session, had_writer, is_joined, is_ended, untaken}
+use Rattle.job_calls.specs.Blocks.{WrittenBytes, last_written}
+use Rattle.job_calls.specs.Pipes.{holder, session, had_writer, is_joined, is_ended, untaken_bytes}
 use Rattle.job_calls.specs.Weights.{call_weight, weight}
 
 -- the answer of the first row whose test holds, else the last one
@@ -48,7 +48,7 @@ next_run journal None = if is_finished 0 journal then Ready Done else NotYet
 abbrev pub claim_answer : List Entry → ℕ → Answer
 claim_answer journal lane =
     if not (is_claimed 0 journal) && not (nat_eq lane 0) then NotYet
-    else next_run journal (unclaimed journal)
+    else next_run journal (unclaimed_run journal)
 
 -- the model gets the next number, and the source that the image was made of
 abbrev pub load_answer : List Entry → Option ℕ → Answer
@@ -110,7 +110,7 @@ abbrev pub unload_answer : List Entry → ℕ → Answer
 unload_answer journal model = first_row (unload_rows journal model) acknowledge
 
 -- the last write, else the listed file
-abbrev pub read_answer : Option Written → Option (List ℕ) → Answer
+abbrev pub read_answer : Option WrittenBytes → Option (List ℕ) → Answer
 read_answer (Some write) file = Ready (Found (record { 0 = write.place }) write.bytes)
 read_answer None (Some bytes) = Ready (Found (record { 0 = 0 }) bytes)
 read_answer None None = fault kind.NoFile
@@ -144,7 +144,7 @@ writer_answer journal name = first_row (writer_rows journal name) (join_answer (
 abbrev pub put_rows : List Entry → List ℕ → List ℕ → List (Bool × Answer)
 put_rows journal name bytes =
     (not (is_joined name journal), fault kind.Broken)
-    ∷ (nat_lt 4096 (length (untaken name journal) + length bytes), NotYet)
+    ∷ (nat_lt 4096 (length (untaken_bytes name journal) + length bytes), NotYet)
     ∷ []
 
 -- else they are put
@@ -154,7 +154,7 @@ put_answer journal name bytes = first_row (put_rows journal name bytes) acknowle
 -- all that was put and not taken; the end, once the writer has closed
 abbrev pub pipe_rows : List Entry → List ℕ → List (Bool × Answer)
 pipe_rows journal name =
-    (nat_lt 0 (length (untaken name journal)), Ready (Bytes (untaken name journal)))
+    (nat_lt 0 (length (untaken_bytes name journal)), Ready (Bytes (untaken_bytes name journal)))
     ∷ (is_ended name journal, Ready PipeEnd)
     ∷ []
 

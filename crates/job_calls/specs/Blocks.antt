@@ -29,16 +29,16 @@ bytes_written (Write name bytes) = Some bytes
 bytes_written call = None
 
 -- bytes that were written, and the place of the entry that wrote them
-pub record Written : Type 0 where
+pub record WrittenBytes : Type 0 where
   pub place : ℕ
   pub bytes : List ℕ
 
 -- what the entry at this place wrote
-abbrev pub written_at : ℕ → List Entry → Option Written
+abbrev pub written_at : ℕ → List Entry → Option WrittenBytes
 written_at place journal =
     option_map (λ bytes. record { place = place; bytes = bytes })
     (option_and_then (λ e. bytes_written e.call) (slice_get journal place))
 
 -- what was last written under this name
-abbrev pub last_written : List ℕ → List Entry → Option Written
+abbrev pub last_written : List ℕ → List Entry → Option WrittenBytes
 last_written name journal = option_and_then (λ place. written_at place journal) (last_write name journal)

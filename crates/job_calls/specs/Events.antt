@@ -7,7 +7,7 @@ use Rattle.job_calls.specs.declared.reply.Reply.{Reply}
 use Rattle.job_calls.specs.declared.reply.Reply.TheVariants.{Queued, Took}
 use Rattle.job_calls.specs.declared.entry.Entry.{Entry}
 use Rattle.job_calls.specs.Moments.{Moment, moments, place_of}
-use Rattle.job_calls.specs.Words.{is_run}
+use Rattle.job_calls.specs.Entries.{is_run}
 use Rattle.job_calls.specs.Models.{parent_of, exit_code}
 
 -- the run that a call makes an event for: the one that an event was sent to, or the one that started a run which

@@ -10,7 +10,7 @@ use Rattle.job_calls.specs.declared.call.Way.TheVariants.{Reads, Writes}
 use Rattle.job_calls.specs.declared.reply.Reply.{Reply}
 use Rattle.job_calls.specs.declared.reply.Reply.TheVariants.{Claimed}
 use Rattle.job_calls.specs.declared.entry.Entry.{Entry}
-use Rattle.job_calls.specs.Words.{is_run, is_quit, is_claim, is_finish, is_done, is_last}
+use Rattle.job_calls.specs.Entries.{is_run, is_quit, is_claim, is_finish, is_done, is_last}
 use Rattle.job_calls.specs.Runs.{Opening}
 use Rattle.job_calls.specs.Pipes.{opened_session, lets_go}
 
@@ -55,46 +55,46 @@ exchange_of k entries = map (λ e. (e.call, e.reply)) (filter (λ e. is_run k e.
 
 -- a run that was told so much holds this end of the pipe, after one more call
 abbrev pub holds_after : Way → List ℕ → Bool → Call × Reply → Bool
-holds_after way name held told =
-    is_some (opened_session way name told.0 told.1) || (held && not (lets_go name told.0 told.1))
+holds_after way name held exchange =
+    is_some (opened_session way name exchange.0 exchange.1) || (held && not (lets_go name exchange.0 exchange.1))
 
 -- the run that called so and was told so holds this end of the pipe
 abbrev pub holds : Way → List ℕ → List (Call × Reply) → Bool
-holds way name told = fold (holds_after way name) false told
+holds way name exchanges = fold (holds_after way name) false exchanges
 
 -- the run was told to stop, or met a fault of the hub: it may only finish
 abbrev pub is_over : List (Call × Reply) → Bool
-is_over told = list_any (λ pair. is_last pair.1) told
+is_over exchanges = list_any (λ pair. is_last pair.1) exchanges
 
 -- a run puts into the end to write that it holds, takes out of the end to read, and closes either
 abbrev pub ends_fit : List (Call × Reply) → Call → Bool
-ends_fit told (Open lanes budget params files) = true
-ends_fit told Claim = true
-ends_fit told Quit = true
-ends_fit told (Finish end) = true
-ends_fit told (Compile src dst) = true
-ends_fit told (Load file) = true
-ends_fit told (Run model params) = true
-ends_fit told Wait = true
-ends_fit told Next = true
-ends_fit told Peek = true
-ends_fit told Drop = true
-ends_fit told IsEmpty = true
-ends_fit told (Send to class value) = true
-ends_fit told (Status model) = true
-ends_fit told (ExitCode model) = true
-ends_fit told (Stop model) = true
-ends_fit told (Unload model) = true
-ends_fit told (Read name) = true
-ends_fit told (Write name bytes) = true
-ends_fit told (PipeOpen name way) = true
-ends_fit told (PipePut name bytes) = holds Writes name told
-ends_fit told (PipeTake name) = holds Reads name told
-ends_fit told (PipeClose name) = holds Reads name told || holds Writes name told
+ends_fit exchanges (Open lanes budget params files) = true
+ends_fit exchanges Claim = true
+ends_fit exchanges Quit = true
+ends_fit exchanges (Finish end) = true
+ends_fit exchanges (Compile src dst) = true
+ends_fit exchanges (Load file) = true
+ends_fit exchanges (Run model params) = true
+ends_fit exchanges Wait = true
+ends_fit exchanges Next = true
+ends_fit exchanges Peek = true
+ends_fit exchanges Drop = true
+ends_fit exchanges IsEmpty = true
+ends_fit exchanges (Send to class value) = true
+ends_fit exchanges (Status model) = true
+ends_fit exchanges (ExitCode model) = true
+ends_fit exchanges (Stop model) = true
+ends_fit exchanges (Unload model) = true
+ends_fit exchanges (Read name) = true
+ends_fit exchanges (Write name bytes) = true
+ends_fit exchanges (PipeOpen name way) = true
+ends_fit exchanges (PipePut name bytes) = holds Writes name exchanges
+ends_fit exchanges (PipeTake name) = holds Reads name exchanges
+ends_fit exchanges (PipeClose name) = holds Reads name exchanges || holds Writes name exchanges
 
 -- the calls that a run which called so and was told so may make, beside `Finish`
 abbrev pub may_call : List (Call × Reply) → Call → Bool
-may_call told call = not (is_over told) && ends_fit told call
+may_call exchanges call = not (is_over exchanges) && ends_fit exchanges call
 
 -- the calls that a lane makes for itself
 abbrev pub is_for_lane : Call → Bool

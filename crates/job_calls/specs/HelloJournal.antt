@@ -7,7 +7,7 @@ use Rattle.job_calls.specs.declared.end.End.TheVariants as end
 use Rattle.job_calls.specs.declared.entry.Entry.{Entry}
 use Rattle.job_calls.specs.declared.entry.Listed.{Listed}
 use Rattle.job_calls.specs.declared.reply.Reply.{Reply}
-use Rattle.job_calls.specs.declared.reply.Reply.TheVariants.{Opened, Claimed, Done, Unit as Accepted}
+use Rattle.job_calls.specs.declared.reply.Reply.TheVariants.{Opened, Claimed, Done, Unit as UnitReply}
 use Rattle.job_calls.specs.declared.run_line.RunEnd.TheVariants.{Ended}
 use Rattle.job_calls.specs.declared.run_line.RunLine.{RunLine}
 
@@ -29,7 +29,7 @@ abbrev pub hello_entries : List Entry
 hello_entries =
     entry [] (Open 1 10000000 [] (hello_file ∷ [])) Opened
     ∷ entry [] Claim (Claimed 0 0 [])
-    ∷ entry (0 ∷ []) (Finish (end.Code (pos 0))) Accepted
+    ∷ entry (0 ∷ []) (Finish (end.Code (pos 0))) UnitReply
     ∷ entry [] Claim Done
     ∷ []
 

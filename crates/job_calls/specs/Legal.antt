@@ -7,7 +7,7 @@ use Rattle.job_calls.specs.declared.reply.Answer.TheVariants.{Ready}
 use Rattle.job_calls.specs.declared.reply.Reply.TheVariants.{Opened}
 use Rattle.job_calls.specs.declared.entry.Entry.{Entry}
 use Rattle.job_calls.specs.declared.entry.Listed.{Listed}
-use Rattle.job_calls.specs.Words.{own_entries}
+use Rattle.job_calls.specs.Entries.{own_entries}
 use Rattle.job_calls.specs.Runs.{Opening, opening, opening_of}
 use Rattle.job_calls.specs.Answers.{answer_of}
 use Rattle.job_calls.specs.Fitting.{fits}

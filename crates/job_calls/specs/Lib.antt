@@ -1,4 +1,4 @@
-pub mod Words
+pub mod Entries
 pub mod Moments
 pub mod Runs
 pub mod Files

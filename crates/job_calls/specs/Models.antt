@@ -14,7 +14,7 @@ use Rattle.job_calls.specs.declared.reply.Reply.TheVariants.{Code, Loaded}
 use Rattle.job_calls.specs.declared.reply.Reply.TheVariants as reply
 use Rattle.job_calls.specs.declared.entry.Entry.{Entry}
 use Rattle.job_calls.specs.Moments.{Moment, moments}
-use Rattle.job_calls.specs.Words.{is_run, is_finished, run_count}
+use Rattle.job_calls.specs.Entries.{is_run, is_finished, run_count}
 use Rattle.job_calls.specs.Files.{file_at}
 use Rattle.job_calls.specs.Runs.{last_given, finish_of, start_of, start_of_run}
 

@@ -12,7 +12,7 @@ use Rattle.job_calls.specs.declared.reply.Reply.{Reply}
 use Rattle.job_calls.specs.declared.reply.Reply.TheVariants.{Session, Bytes}
 use Rattle.job_calls.specs.declared.reply.Reply.TheVariants as reply
 use Rattle.job_calls.specs.declared.entry.Entry.{Entry}
-use Rattle.job_calls.specs.Words.{is_run, is_finish}
+use Rattle.job_calls.specs.Entries.{is_run, is_finish}
 use Rattle.job_calls.specs.Runs.{last_given}
 use Rattle.job_calls.specs.Blocks.{last_place}
 
@@ -192,5 +192,5 @@ abbrev pub taken_in : List ℕ → List Entry → List ℕ
 taken_in name entries = flat_map (λ e. taken_by name e.call e.reply) entries
 
 -- the bytes of the last session that were put and not yet taken
-abbrev pub untaken : List ℕ → List Entry → List ℕ
-untaken name journal = drop (length (taken_in name (in_session name journal))) (put_in name (in_session name journal))
+abbrev pub untaken_bytes : List ℕ → List Entry → List ℕ
+untaken_bytes name journal = drop (length (taken_in name (in_session name journal))) (put_in name (in_session name journal))

@@ -9,7 +9,7 @@ use Rattle.job_calls.specs.declared.call.Call.TheVariants as call
 use Rattle.job_calls.specs.declared.reply.Reply.{Reply}
 use Rattle.job_calls.specs.declared.reply.Reply.TheVariants.{Opened, Claimed, Done, Code, Loaded, Started, Took, Seen, Nothing, Flag, Queued, Lost, Number, Found, Session, Bytes, PipeEnd, Halt, Fault}
 use Rattle.job_calls.specs.declared.reply.Reply.TheVariants as reply
-use Rattle.job_calls.specs.Words.{is_finish}
+use Rattle.job_calls.specs.Entries.{is_finish}
 use Rattle.job_calls.specs.Fitting.{is_for_lane}
 
 -- what the table of answers has for a call, whatever the journal
@@ -79,8 +79,8 @@ InRange Halt = Unit {0}
 InRange (Fault kind) = Unit {0}
 
 -- a reply fits a call: the table has it, or it ends the run that called; and what it holds is in range
-abbrev pub FitsCall : Call → Reply → Type 0
-FitsCall call reply = IsTrue (can_answer call reply || (may_end_run call && ends_run reply)) × InRange reply
+abbrev pub CanAnswer : Call → Reply → Type 0
+CanAnswer call reply = IsTrue (can_answer call reply || (may_end_run call && ends_run reply)) × InRange reply
 
 -- the reply has neither texts nor bytes
 abbrev pub is_plain : Reply → Bool
@@ -106,7 +106,7 @@ is_plain Halt = true
 is_plain (Fault kind) = true
 
 -- each reply fits the call beside it, and there are as many
-abbrev pub AllFit : List Call → List Reply → Type 0
-AllFit [] [] = Unit {0}
-AllFit (c ∷ cs) (r ∷ rs) = FitsCall c r × AllFit cs rs
-AllFit _ _ = ⊥
+abbrev pub AllCanAnswer : List Call → List Reply → Type 0
+AllCanAnswer [] [] = Unit {0}
+AllCanAnswer (c ∷ cs) (r ∷ rs) = CanAnswer c r × AllCanAnswer cs rs
+AllCanAnswer _ _ = ⊥

@@ -10,17 +10,17 @@ use Rattle.job_calls.specs.declared.reply.Reply.TheVariants.{Loaded, Started}
 use Rattle.job_calls.specs.declared.entry.Entry.{Entry}
 use Rattle.job_calls.specs.declared.entry.Listed.{Listed}
 use Rattle.job_calls.specs.Moments.{Moment, moments}
-use Rattle.job_calls.specs.Words.{is_run, is_finish}
+use Rattle.job_calls.specs.Entries.{is_run, is_finish}
 
 -- the second, where it is there
-abbrev pub later : {A : Type 0} → Option A → Option A → Option A
-later first None = first
-later first (Some x) = Some x
+abbrev pub last_of : {A : Type 0} → Option A → Option A → Option A
+last_of first None = first
+last_of first (Some x) = Some x
 
 -- what the last element gives that gives anything
 abbrev pub last_given : {A B : Type 0} → (A → Option B) → List A → Option B
 last_given give [] = None
-last_given give (x ∷ xs) = later (give x) (last_given give xs)
+last_given give (x ∷ xs) = last_of (give x) (last_given give xs)
 
 -- what entry 0, an `Open`, says
 pub record Opening : Type 0 where

@@ -10,7 +10,7 @@ use Rattle.job_calls.specs.declared.reply.Answer.TheVariants.{Ready}
 use Rattle.job_calls.specs.declared.reply.Reply.{Reply}
 use Rattle.job_calls.specs.declared.entry.Entry.{Entry}
 use Rattle.job_calls.specs.Moments.{moments}
-use Rattle.job_calls.specs.Words.{is_run, is_finish, is_claim, is_done, is_started, claims, own_entries, run_count, is_claimed, is_finished, first_unclaimed, unclaimed}
+use Rattle.job_calls.specs.Entries.{is_run, is_finish, is_claim, is_done, is_started, claims, own_entries, run_count, is_claimed, is_finished, first_unclaimed, unclaimed_run}
 use Rattle.job_calls.specs.Files.{lanes_of}
 use Rattle.job_calls.specs.Models.{asks}
 use Rattle.job_calls.specs.Answers.{stop_rows, table_answer}
@@ -40,7 +40,7 @@ done_any (x ∷ y ∷ ys) h = ap (λ b. is_done x.reply || b) (done_any (y ∷ y
 
 -- where the job is done nothing is left to be given
 record IsDoneNow (log : List Entry) (lane : ℕ) (call : Call) (reply : Reply) : Type 0 where
-  none : unclaimed log ≡ None
+  none : unclaimed_run log ≡ None
   ended : is_finished 0 log ≡ true
   free : held_after (held_run (own_entries lane log)) call reply ≡ None
   starts : is_started reply ≡ false

@@ -10,9 +10,9 @@ use Rattle.job_calls.specs.declared.call.Call.{Call}
 use Rattle.job_calls.specs.declared.call.Call.TheVariants.{Open, Claim, Quit, Finish}
 use Rattle.job_calls.specs.declared.reply.Answer.TheVariants.{Ready}
 use Rattle.job_calls.specs.declared.reply.Reply.{Reply}
-use Rattle.job_calls.specs.declared.reply.Reply.TheVariants.{Opened, Claimed, Done, Started, Unit as Accepted}
+use Rattle.job_calls.specs.declared.reply.Reply.TheVariants.{Opened, Claimed, Done, Started, Unit as UnitReply}
 use Rattle.job_calls.specs.declared.entry.Entry.{Entry}
-use Rattle.job_calls.specs.Words.{is_run, is_quit, is_finish, is_started, claims, is_done, is_last, own_entries, run_count, is_claimed, first_unclaimed}
+use Rattle.job_calls.specs.Entries.{is_run, is_quit, is_finish, is_started, claims, is_done, is_last, own_entries, run_count, is_claimed, first_unclaimed}
 use Rattle.job_calls.specs.Runs.{Opening, opening, opening_of}
 use Rattle.std.specs.Option.{option_map_or}
 use Rattle.job_calls.specs.Files.{files_of, lanes_of}
@@ -173,7 +173,7 @@ lane_step log lane _ _ _ c (enter.told_done not_done none q is) =
     }
 lane_step log lane _ _ _ c enter.quits =
     let own = own_entries lane log in
-    let e : Entry = record { lane = lane; run = None; call = Quit; reply = Accepted } in
+    let e : Entry = record { lane = lane; run = None; call = Quit; reply = UnitReply } in
     let f : fins (own ++ e ∷ []) ≡ fins own + 0 = fins-snoc own e in
     let g : gives (own ++ e ∷ []) ≡ gives own + 0 = gives-snoc own e in
     let l : lasts (own ++ e ∷ []) ≡ lasts own + 0 = lasts-snoc own e in
@@ -188,7 +188,7 @@ lane_step log lane _ _ _ c enter.quits =
     }
 lane_step log lane _ _ _ c (enter.finishes run end held) =
     let own = own_entries lane log in
-    let e : Entry = record { lane = lane; run = Some run; call = Finish end; reply = Accepted } in
+    let e : Entry = record { lane = lane; run = Some run; call = Finish end; reply = UnitReply } in
     let f : fins (own ++ e ∷ []) ≡ fins own + 1 = fins-snoc own e in
     let g : gives (own ++ e ∷ []) ≡ gives own + 0 = gives-snoc own e in
     let l : lasts (own ++ e ∷ []) ≡ lasts own + 0 = lasts-snoc own e in

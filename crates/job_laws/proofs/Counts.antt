@@ -11,7 +11,7 @@ use Rattle.std.proofs.lemmas.List.Folds.{list_any-append}
 use Rattle.std.proofs.lemmas.List.{map-append}
 use Rattle.std.proofs.lemmas.List.Elements.{filter-append}
 use Rattle.job_calls.specs.declared.entry.Entry.{Entry}
-use Rattle.job_calls.specs.Words.{is_run, own_entries}
+use Rattle.job_calls.specs.Entries.{is_run, own_entries}
 use Rattle.job_calls.specs.Fitting.{exchange_of}
 
 abbrev pub as_number : Bool → ℕ

@@ -13,9 +13,9 @@ use Rattle.job_calls.specs.declared.call.Call.{Call}
 use Rattle.job_calls.specs.declared.call.Call.TheVariants.{PipePut, PipeTake}
 use Rattle.job_calls.specs.declared.call.Way.TheVariants.{Reads, Writes}
 use Rattle.job_calls.specs.declared.reply.Reply.{Reply}
-use Rattle.job_calls.specs.declared.reply.Reply.TheVariants.{PipeEnd, Unit as Accepted}
+use Rattle.job_calls.specs.declared.reply.Reply.TheVariants.{PipeEnd, Unit as UnitReply}
 use Rattle.job_calls.specs.declared.entry.Entry.{Entry}
-use Rattle.job_calls.specs.Words.{own_entries}
+use Rattle.job_calls.specs.Entries.{own_entries}
 use Rattle.job_calls.specs.Pipes.{opened_session, opens, closes, holder, session, is_session, had_writer, is_ended, in_session, put_by, taken_by, put_in, taken_in}
 use Rattle.job_calls.specs.Fitting.{held_run, exchange_of, holds, ends_fit}
 use Rattle.job_calls.specs.Legal.{IsLegal, Follows, FollowOn}
@@ -69,7 +69,7 @@ idle_ends name (PipeTake taken) PipeEnd e = absurd (false_true e)
 idle_ends name (PipeTake taken) reply e = refl
 idle_ends name call reply e = refl
 
-granted_ends : (name : List ℕ) (call : Call) → is_pipe_end name call Accepted ≡ false
+granted_ends : (name : List ℕ) (call : Call) → is_pipe_end name call UnitReply ≡ false
 granted_ends name (PipeTake taken) = refl
 granted_ends name call = refl
 
@@ -121,11 +121,11 @@ over_stays name log e over f same =
     )
 
 idle_puts : (name : List ℕ) (call : Call) (reply : Reply) → is_idle reply ≡ true → put_by name call reply ≡ []
-idle_puts name (PipePut put bytes) Accepted e = absurd (false_true e)
+idle_puts name (PipePut put bytes) UnitReply e = absurd (false_true e)
 idle_puts name (PipePut put bytes) reply e = refl
 idle_puts name call reply e = refl
 
-granted_puts : (name : List ℕ) (call : Call) → is_granted call ≡ true → put_by name call Accepted ≡ []
+granted_puts : (name : List ℕ) (call : Call) → is_granted call ≡ true → put_by name call UnitReply ≡ []
 granted_puts name (PipePut put bytes) e = absurd (false_true e)
 granted_puts name call e = refl
 

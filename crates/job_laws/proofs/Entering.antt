@@ -9,9 +9,9 @@ use Rattle.job_calls.specs.declared.end.End.{End}
 use Rattle.job_calls.specs.declared.reply.Answer.{Answer}
 use Rattle.job_calls.specs.declared.reply.Answer.TheVariants.{Ready, NotYet, Shut}
 use Rattle.job_calls.specs.declared.reply.Reply.{Reply}
-use Rattle.job_calls.specs.declared.reply.Reply.TheVariants.{Claimed, Done, Unit as Accepted}
+use Rattle.job_calls.specs.declared.reply.Reply.TheVariants.{Claimed, Done, Unit as UnitReply}
 use Rattle.job_calls.specs.declared.entry.Entry.{Entry}
-use Rattle.job_calls.specs.Words.{is_run, is_finish, has_quit, is_claimed, is_finished, unclaimed, own_entries}
+use Rattle.job_calls.specs.Entries.{is_run, is_finish, has_quit, is_claimed, is_finished, unclaimed_run, own_entries}
 use Rattle.job_calls.specs.Runs.{opening, source_of, params_of}
 use Rattle.job_calls.specs.Answers.{give_run, next_run, answer_to_run, open_answer}
 use Rattle.job_calls.specs.Fitting.{held_run, was_done, exchange_of, is_over, ends_fit, may_call, is_for_lane, below_lanes, call_fits}
@@ -32,12 +32,12 @@ is_run-some k (Some run) e = ap Some (eqb-true run k e)
 
 -- an entry that a lane adds to the journal, by its run, call and reply
 pub data Entering (log : List Entry) (lane : ℕ) : Option ℕ → Call → Reply → Type 0 where
-  claims : (k source : ℕ) (params : List ℕ) → held_run (own_entries lane log) ≡ None → unclaimed log ≡ Some k
+  claims : (k source : ℕ) (params : List ℕ) → held_run (own_entries lane log) ≡ None → unclaimed_run log ≡ Some k
       → source_of k log ≡ Some source → params_of k log ≡ Some params → Entering log lane None Claim (Claimed k source params)
-  told_done : was_done (own_entries lane log) ≡ false → held_run (own_entries lane log) ≡ None → unclaimed log ≡ None
+  told_done : was_done (own_entries lane log) ≡ false → held_run (own_entries lane log) ≡ None → unclaimed_run log ≡ None
       → is_finished 0 log ≡ true → Entering log lane None Claim Done
-  quits : Entering log lane None Quit Accepted
-  finishes : (run : ℕ) (end : End) → held_run (own_entries lane log) ≡ Some run → Entering log lane (Some run) (Finish end) Accepted
+  quits : Entering log lane None Quit UnitReply
+  finishes : (run : ℕ) (end : End) → held_run (own_entries lane log) ≡ Some run → Entering log lane (Some run) (Finish end) UnitReply
   acts : (run : ℕ) (call : Call) (reply : Reply) → held_run (own_entries lane log) ≡ Some run → is_over (exchange_of run (own_entries lane log)) ≡ false
       → ends_fit (exchange_of run (own_entries lane log)) call ≡ true → is_for_lane call ≡ false → is_finish call ≡ false → answer_to_run log (Some run) call ≡ Ready reply → Entering log lane (Some run) call reply
 
@@ -68,12 +68,12 @@ not_yet_if true a reply e = absurd (not_yet_ready reply e)
 not_yet_if false a reply e = e
 
 done_by : (log : List Entry) (lane : ℕ) (b : Bool) (reply : Reply) → was_done (own_entries lane log) ≡ false → held_run (own_entries lane log) ≡ None
-    → unclaimed log ≡ None → is_finished 0 log ≡ b → (if b then Ready Done else NotYet) ≡ Ready reply → Entering log lane None Claim reply
+    → unclaimed_run log ≡ None → is_finished 0 log ≡ b → (if b then Ready Done else NotYet) ≡ Ready reply → Entering log lane None Claim reply
 done_by log lane true reply not_done none q is e = subst (Entering log lane None Claim) (ap reply_of e) (told_done not_done none q is)
 done_by log lane false reply not_done none q is e = absurd (not_yet_ready reply e)
 
 given_by : (log : List Entry) (lane k : ℕ) (source : Option ℕ) (params : Option (List ℕ)) (reply : Reply) → held_run (own_entries lane log) ≡ None
-    → unclaimed log ≡ Some k → source_of k log ≡ source → params_of k log ≡ params → give_run k source params ≡ Ready reply
+    → unclaimed_run log ≡ Some k → source_of k log ≡ source → params_of k log ≡ params → give_run k source params ≡ Ready reply
     → Entering log lane None Claim reply
 given_by log lane k (Some source) (Some params) reply none q s p e =
     subst (Entering log lane None Claim) (ap reply_of e) (claims k source params none q s p)
@@ -81,7 +81,7 @@ given_by log lane k (Some source) None reply none q s p e = absurd (not_yet_read
 given_by log lane k None params reply none q s p e = absurd (not_yet_ready reply e)
 
 claim_by : (log : List Entry) (lane : ℕ) (o : Option ℕ) (reply : Reply) → was_done (own_entries lane log) ≡ false → held_run (own_entries lane log) ≡ None
-    → unclaimed log ≡ o → next_run log o ≡ Ready reply → Entering log lane None Claim reply
+    → unclaimed_run log ≡ o → next_run log o ≡ Ready reply → Entering log lane None Claim reply
 claim_by log lane None reply not_done none q e = done_by log lane (is_finished 0 log) reply not_done none q refl e
 claim_by log lane (Some k) reply not_done none q e = given_by log lane k (source_of k log) (params_of k log) reply none q refl refl e
 
@@ -89,13 +89,13 @@ by_lane : (log : List Entry) (lane : ℕ) (call : Call) (reply : Reply) → call
     → open_answer log lane None call ≡ Ready reply → Entering log lane None call reply
 by_lane log lane Claim reply fit e =
     let both = and_true (not (is_some (held_run (own_entries lane log)))) (not (was_done (own_entries lane log))) fit in
-    claim_by log lane (unclaimed log) reply (not_true _ both.1) (none_some _ (not_true _ both.0)) refl
-    (not_yet_if (not (is_claimed 0 log) && not (nat_eq lane 0)) (next_run log (unclaimed log)) reply e)
+    claim_by log lane (unclaimed_run log) reply (not_true _ both.1) (none_some _ (not_true _ both.0)) refl
+    (not_yet_if (not (is_claimed 0 log) && not (nat_eq lane 0)) (next_run log (unclaimed_run log)) reply e)
 by_lane log lane Quit reply fit e = subst (Entering log lane None Quit) (ap reply_of e) quits
 by_lane log lane call reply fit e = absurd (false_true fit)
 
 by_run_end : (log : List Entry) (lane run : ℕ) (end : End) (reply : Reply) → held_run (own_entries lane log) ≡ Some run
-    → Ready Accepted ≡ Ready reply → Entering log lane (Some run) (Finish end) reply
+    → Ready UnitReply ≡ Ready reply → Entering log lane (Some run) (Finish end) reply
 by_run_end log lane run end reply held e = subst (Entering log lane (Some run) (Finish end)) (ap reply_of e) (finishes run end held)
 
 by_run : (log : List Entry) (lane run : ℕ) (call : Call) (reply : Reply) → call_fits (own_entries lane log) (Some run) call ≡ true

@@ -10,9 +10,9 @@ use Rattle.job_calls.specs.declared.call.Call.TheVariants.{PipeOpen}
 use Rattle.job_calls.specs.declared.call.Way.{Way}
 use Rattle.job_calls.specs.declared.call.Way.TheVariants.{Reads, Writes}
 use Rattle.job_calls.specs.declared.reply.Reply.{Reply}
-use Rattle.job_calls.specs.declared.reply.Reply.TheVariants.{Session, Unit as Accepted}
+use Rattle.job_calls.specs.declared.reply.Reply.TheVariants.{Session, Unit as UnitReply}
 use Rattle.job_calls.specs.declared.entry.Entry.{Entry}
-use Rattle.job_calls.specs.Words.{is_run}
+use Rattle.job_calls.specs.Entries.{is_run}
 use Rattle.job_calls.specs.Pipes.{is_way, opened_session, opens, lets_go, closes, holder_after, holder, had_writer}
 use Rattle.job_calls.specs.Fitting.{exchange_of, holds_after, holds}
 use Rattle.job_calls.specs.Legal.{IsLegal, IsOpening, Follows}
@@ -37,7 +37,7 @@ idle_opens way name (PipeOpen opened end) (Session place) e = absurd (false_true
 idle_opens way name (PipeOpen opened end) reply e = refl
 idle_opens way name call reply e = refl
 
-granted_opens : (way : Way) (name : List ℕ) (call : Call) → is_some (opened_session way name call Accepted) ≡ false
+granted_opens : (way : Way) (name : List ℕ) (call : Call) → is_some (opened_session way name call UnitReply) ≡ false
 granted_opens way name (PipeOpen opened end) = refl
 granted_opens way name call = refl
 

@@ -14,8 +14,8 @@ use Rattle.job_calls.specs.declared.reply.Reply.{Reply}
 use Rattle.job_calls.specs.declared.reply.Reply.TheVariants.{Opened, Halt}
 use Rattle.job_calls.specs.declared.entry.Entry.{Entry}
 use Rattle.job_calls.specs.Moments.{moments, moments_from}
-use Rattle.job_calls.specs.Words.{is_run, is_quit, is_finish, claims, own_entries, has_quit, run_count, is_claimed, is_finished}
-use Rattle.job_calls.specs.Runs.{opening_of, last_given, later, finish}
+use Rattle.job_calls.specs.Entries.{is_run, is_quit, is_finish, claims, own_entries, has_quit, run_count, is_claimed, is_finished}
+use Rattle.job_calls.specs.Runs.{opening_of, last_given, last_of, finish}
 use Rattle.job_calls.specs.Files.{lanes_of}
 use Rattle.job_calls.specs.Models.{asks, is_asked}
 use Rattle.job_calls.specs.Answers.{stop_rows, table_answer}
@@ -300,8 +300,8 @@ last_within : {B : Type 0} (p : Entry → Bool) (f : Entry → Option B) (xs : L
 last_within p f [] = refl
 last_within p f (x ∷ xs) = by (p x) (last_within p f xs) where
   by : (a : Bool) → last_given (λ e. if p e then f e else None) xs ≡ last_given f (filter p xs)
-      → later (if a then f x else None) (last_given (λ e. if p e then f e else None) xs) ≡ last_given f (cond a (x ∷ filter p xs) (filter p xs))
-  by true go = ap (later (f x)) go
+      → last_of (if a then f x else None) (last_given (λ e. if p e then f e else None) xs) ≡ last_given f (cond a (x ∷ filter p xs) (filter p xs))
+  by true go = ap (last_of (f x)) go
   by false go = later_none (last_given (λ e. if p e then f e else None) xs) ∙ go
 
 pub one_lane_a_run : (journal : List Entry) → IsLegal journal → (k lane : ℕ) → is_claimed k (own_entries lane journal) ≡ true

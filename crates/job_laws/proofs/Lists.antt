@@ -3,25 +3,25 @@
 use Rattle.std.proofs.Common.{◌≡◌, ℕ, suc, ◌+◌, Bool, true, false, ◌||◌, List, [], ◌∷◌, ◌++◌, Option, Some, None, refl, sym, ap, ◌∙◌, length, arith}
 use Rattle.std.specs.Prelude.{slice_get, is_some}
 use Rattle.std.specs.List.{enumerate_from, list_any}
-use Rattle.job_calls.specs.Runs.{later, last_given}
+use Rattle.job_calls.specs.Runs.{last_of, last_given}
 use Rattle.job_laws.proofs.Outcomes.{false_true}
 
 pub none_some : {A B : Type 0} (x : A) → None ≡ Some x → B
 none_some x e = absurd (false_true (ap is_some e))
 
-pub later_none : {A : Type 0} (a : Option A) → later None a ≡ a
+pub later_none : {A : Type 0} (a : Option A) → last_of None a ≡ a
 later_none None = refl
 later_none (Some x) = refl
 
-later_assoc : {A : Type 0} (a b c : Option A) → later (later a b) c ≡ later a (later b c)
+later_assoc : {A : Type 0} (a b c : Option A) → last_of (last_of a b) c ≡ last_of a (last_of b c)
 later_assoc a b None = refl
 later_assoc a b (Some x) = refl
 
 -- one more element
 pub last_given-snoc : {A B : Type 0} (give : A → Option B) (xs : List A) (x : A)
-    → last_given give (xs ++ x ∷ []) ≡ later (last_given give xs) (give x)
+    → last_given give (xs ++ x ∷ []) ≡ last_of (last_given give xs) (give x)
 last_given-snoc give [] x = sym (later_none (give x))
-last_given-snoc give (y ∷ ys) x = ap (later (give y)) (last_given-snoc give ys x) ∙ sym (later_assoc (give y) (last_given give ys) (give x))
+last_given-snoc give (y ∷ ys) x = ap (last_of (give y)) (last_given-snoc give ys x) ∙ sym (later_assoc (give y) (last_given give ys) (give x))
 
 pub enumerate-snoc : {A : Type 0} (n : ℕ) (xs : List A) (x : A) → enumerate_from n (xs ++ x ∷ []) ≡ enumerate_from n xs ++ (n + length xs, x) ∷ []
 enumerate-snoc n [] x = let e : n ≡ n + 0 = omega arith in ap (λ m. (m, x) ∷ []) e

@@ -9,16 +9,16 @@ use Rattle.job_calls.specs.declared.call.Way.TheVariants.{Reads, Writes}
 use Rattle.job_calls.specs.declared.reply.Answer.{Answer}
 use Rattle.job_calls.specs.declared.reply.Answer.TheVariants.{Ready, NotYet}
 use Rattle.job_calls.specs.declared.reply.Reply.{Reply}
-use Rattle.job_calls.specs.declared.reply.Reply.TheVariants.{Opened, Claimed, Done, Code, Loaded, Started, Took, Queued, Found, Session, Bytes, PipeEnd, Nothing, Halt, Fault, Unit as Accepted}
+use Rattle.job_calls.specs.declared.reply.Reply.TheVariants.{Opened, Claimed, Done, Code, Loaded, Started, Took, Queued, Found, Session, Bytes, PipeEnd, Nothing, Halt, Fault, Unit as UnitReply}
 use Rattle.job_calls.specs.declared.entry.Entry.{Entry}
-use Rattle.job_calls.specs.Words.{is_finish, run_count}
+use Rattle.job_calls.specs.Entries.{is_finish, run_count}
 use Rattle.job_calls.specs.Files.{code_of, data_of}
 use Rattle.job_calls.specs.Models.{image_source, is_loaded, loaded_count}
 use Rattle.job_calls.specs.Events.{Event, first_event, front}
-use Rattle.job_calls.specs.Blocks.{Written, last_written}
-use Rattle.job_calls.specs.Replies.{InRange, FitsCall}
+use Rattle.job_calls.specs.Blocks.{WrittenBytes, last_written}
+use Rattle.job_calls.specs.Replies.{InRange, CanAnswer}
 use Rattle.job_calls.specs.Fitting.{is_for_lane}
-use Rattle.job_calls.specs.Pipes.{holder, session, had_writer, is_joined, is_ended, untaken}
+use Rattle.job_calls.specs.Pipes.{holder, session, had_writer, is_joined, is_ended, untaken_bytes}
 use Rattle.job_calls.specs.Answers.{first_row, load_answer, run_rows, wait_answer, take_answer, peek_answer, target, send_rows, send_answer, unload_rows, read_answer, reader_rows, writer_rows, join_answer, put_rows, pipe_rows, table_answer, stop_rows, answer_to_run}
 
 -- the replies that say nothing which later answers rest on
@@ -29,7 +29,7 @@ is_idle Done = false
 is_idle (Code code) = false
 is_idle (Loaded model source) = false
 is_idle (Started run) = false
-is_idle Accepted = false
+is_idle UnitReply = false
 is_idle (Took place class value) = false
 is_idle (Queued run) = false
 is_idle (Found place bytes) = false
@@ -49,26 +49,26 @@ is_granted _ = false
 
 -- the reply fits the call of a run, where what it holds is in range
 abbrev pub CanFit : Call → Reply → Type 0
-CanFit call reply = is_for_lane call ≡ false → is_finish call ≡ false → InRange reply → FitsCall call reply
+CanFit call reply = is_for_lane call ≡ false → is_finish call ≡ false → InRange reply → CanAnswer call reply
 
 -- what an answer is, with what the journal then says
 pub data Outcome (log : List Entry) (run : ℕ) : Call → Reply → Type 0 where
   idle : (call : Call) (reply : Reply) → is_idle reply ≡ true → CanFit call reply → Outcome log run call reply
-  granted : (call : Call) → is_granted call ≡ true → Outcome log run call Accepted
+  granted : (call : Call) → is_granted call ≡ true → Outcome log run call UnitReply
   compiled : (src dst : List ℕ) → Outcome log run (Compile src dst) (Code (code_of src log))
   loaded : (file : List ℕ) (source : ℕ) → image_source file log ≡ Some source → Outcome log run (Load file) (Loaded (1 + loaded_count log) source)
   started : (model : ℕ) (params : List ℕ) → is_loaded model log ≡ true → nat_lt (run_count log) 4096 ≡ true → Outcome log run (Run model params) (Started (run_count log))
   next_took : (event : Event) → front run log ≡ Some event → Outcome log run Next (Took (record { 0 = event.place }) event.class event.value)
   drop_took : (event : Event) → front run log ≡ Some event → Outcome log run Drop (Took (record { 0 = event.place }) event.class event.value)
   queued : (to : Option ℕ) (class value : ℤ) (receiver : ℕ) → Outcome log run (Send to class value) (Queued receiver)
-  found_write : (name : List ℕ) (write : Written) → last_written name log ≡ Some write → Outcome log run (Read name) (Found (record { 0 = write.place }) write.bytes)
+  found_write : (name : List ℕ) (write : WrittenBytes) → last_written name log ≡ Some write → Outcome log run (Read name) (Found (record { 0 = write.place }) write.bytes)
   found_file : (name bytes : List ℕ) → last_written name log ≡ None → data_of name log ≡ Some bytes → Outcome log run (Read name) (Found (record { 0 = 0 }) bytes)
   reads : (name : List ℕ) → is_some (holder Reads name log) ≡ false → Outcome log run (PipeOpen name Reads) (Session (record { 0 = length log }))
   joins : (name : List ℕ) (place : ℕ) → is_some (holder Writes name log) ≡ false → not (is_some (holder Reads name log)) ≡ false → had_writer name log ≡ false
       → session name log ≡ Some place → Outcome log run (PipeOpen name Writes) (Session (record { 0 = place }))
-  put : (name bytes : List ℕ) → not (is_joined name log) ≡ false → Outcome log run (PipePut name bytes) Accepted
-  took_all : (name : List ℕ) → Outcome log run (PipeTake name) (Bytes (untaken name log))
-  ended : (name : List ℕ) → nat_lt 0 (length (untaken name log)) ≡ false → is_ended name log ≡ true → Outcome log run (PipeTake name) PipeEnd
+  put : (name bytes : List ℕ) → not (is_joined name log) ≡ false → Outcome log run (PipePut name bytes) UnitReply
+  took_all : (name : List ℕ) → Outcome log run (PipeTake name) (Bytes (untaken_bytes name log))
+  ended : (name : List ℕ) → nat_lt 0 (length (untaken_bytes name log)) ≡ false → is_ended name log ≡ true → Outcome log run (PipeTake name) PipeEnd
 
 -- the answer is a row's whose test holds, where all before it fail, or the last one
 abbrev pub InRows : List (Bool × Answer) → Answer → Answer → Type 0
@@ -96,7 +96,7 @@ is_ready _ = false
 idle_by : (log : List Entry) (run : ℕ) (call : Call) (x reply : Reply) → is_idle x ≡ true → CanFit call x → Ready x ≡ Ready reply → Outcome log run call reply
 idle_by log run call x reply is can e = subst (Outcome log run call) (ap reply_of e) (idle call x is can)
 
-granted_by : (log : List Entry) (run : ℕ) (call : Call) (reply : Reply) → is_granted call ≡ true → Ready Accepted ≡ Ready reply → Outcome log run call reply
+granted_by : (log : List Entry) (run : ℕ) (call : Call) (reply : Reply) → is_granted call ≡ true → Ready UnitReply ≡ Ready reply → Outcome log run call reply
 granted_by log run call reply is e = subst (Outcome log run call) (ap reply_of e) (granted call is)
 
 pub false_true : false ≡ true → ⊥
@@ -165,14 +165,14 @@ send_by log run to class value None reply e = idle_by log run (Send to class val
 send_by log run to class value (Some receiver) reply e =
     send_rows_by log run to class value receiver reply (by_rows (send_rows log receiver) (Ready (Queued receiver)) (Ready reply) e)
 
-unload_by : (log : List Entry) (run model : ℕ) (reply : Reply) → InRows (unload_rows log model) (Ready Accepted) (Ready reply) → Outcome log run (Unload model) reply
+unload_by : (log : List Entry) (run model : ℕ) (reply : Reply) → InRows (unload_rows log model) (Ready UnitReply) (Ready reply) → Outcome log run (Unload model) reply
 unload_by log run model reply h =
     elim h [
       | inl w ↦ idle_by log run (Unload model) _ reply refl (λ a b r. (refl, r)) w.1
       | inr w ↦ granted_by log run (Unload model) reply refl w.1
     ]
 
-read_by : (log : List Entry) (run : ℕ) (name : List ℕ) (o : Option Written) (file : Option (List ℕ)) (reply : Reply)
+read_by : (log : List Entry) (run : ℕ) (name : List ℕ) (o : Option WrittenBytes) (file : Option (List ℕ)) (reply : Reply)
     → last_written name log ≡ o → data_of name log ≡ file → read_answer o file ≡ Ready reply → Outcome log run (Read name) reply
 read_by log run name (Some write) file reply q d e = subst (Outcome log run (Read name)) (ap reply_of e) (found_write name write q)
 read_by log run name None (Some bytes) reply q d e = subst (Outcome log run (Read name)) (ap reply_of e) (found_file name bytes q d)
@@ -207,7 +207,7 @@ writer_by log run name reply h =
     ]
 
 put_by_rows : (log : List Entry) (run : ℕ) (name bytes : List ℕ) (reply : Reply)
-    → InRows (put_rows log name bytes) (Ready Accepted) (Ready reply) → Outcome log run (PipePut name bytes) reply
+    → InRows (put_rows log name bytes) (Ready UnitReply) (Ready reply) → Outcome log run (PipePut name bytes) reply
 put_by_rows log run name bytes reply h =
     elim h [
       | inl w ↦ idle_by log run (PipePut name bytes) _ reply refl (λ a b r. (refl, r)) w.1
@@ -243,13 +243,13 @@ outcome log run (Send to class value) reply e =
 outcome log run (Status model) reply e = idle_by log run (Status model) _ reply refl (λ a b r. (refl, r)) e
 outcome log run (ExitCode model) reply e = idle_by log run (ExitCode model) _ reply refl (λ a b r. (refl, r)) e
 outcome log run (Stop model) reply e = granted_by log run (Stop model) reply refl e
-outcome log run (Unload model) reply e = unload_by log run model reply (by_rows (unload_rows log model) (Ready Accepted) (Ready reply) e)
+outcome log run (Unload model) reply e = unload_by log run model reply (by_rows (unload_rows log model) (Ready UnitReply) (Ready reply) e)
 outcome log run (Read name) reply e = read_by log run name (last_written name log) (data_of name log) reply refl refl e
 outcome log run (Write name bytes) reply e = granted_by log run (Write name bytes) reply refl e
 outcome log run (PipeOpen name Reads) reply e = reader_by log run name reply (by_rows (reader_rows log name) (Ready (Session (record { 0 = length log }))) (Ready reply) e)
 outcome log run (PipeOpen name Writes) reply e =
     writer_by log run name reply (by_rows (writer_rows log name) (join_answer (session name log)) (Ready reply) e)
-outcome log run (PipePut name bytes) reply e = put_by_rows log run name bytes reply (by_rows (put_rows log name bytes) (Ready Accepted) (Ready reply) e)
+outcome log run (PipePut name bytes) reply e = put_by_rows log run name bytes reply (by_rows (put_rows log name bytes) (Ready UnitReply) (Ready reply) e)
 outcome log run (PipeTake name) reply e = take_by_rows log run name reply (by_rows (pipe_rows log name) NotYet (Ready reply) e)
 outcome log run (PipeClose name) reply e = granted_by log run (PipeClose name) reply refl e
 outcome log run (Open lanes budget params files) reply e = not_yet log run (Open lanes budget params files) reply e
@@ -272,7 +272,7 @@ full_fits Quit a b r = absurd (false_true (sym a))
 full_fits (Finish end) a b r = absurd (false_true (sym b))
 full_fits call a b r = (refl, r)
 
-granted_fits : (call : Call) → is_granted call ≡ true → CanFit call Accepted
+granted_fits : (call : Call) → is_granted call ≡ true → CanFit call UnitReply
 granted_fits Wait e a b r = (refl, r)
 granted_fits (Stop model) e a b r = (refl, r)
 granted_fits (Unload model) e a b r = (refl, r)

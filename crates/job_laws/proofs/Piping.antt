@@ -13,11 +13,11 @@ use Rattle.job_calls.specs.declared.call.Call.{Call}
 use Rattle.job_calls.specs.declared.call.Call.TheVariants.{Write, PipeTake}
 use Rattle.job_calls.specs.declared.call.Way.TheVariants.{Reads}
 use Rattle.job_calls.specs.declared.reply.Reply.{Reply}
-use Rattle.job_calls.specs.declared.reply.Reply.TheVariants.{Opened, Bytes, Unit as Accepted}
+use Rattle.job_calls.specs.declared.reply.Reply.TheVariants.{Opened, Bytes, Unit as UnitReply}
 use Rattle.job_calls.specs.declared.entry.Entry.{Entry}
-use Rattle.job_calls.specs.Runs.{later, last_given, opening_of}
-use Rattle.job_calls.specs.Blocks.{Written, writes, last_write, bytes_written, written_at, last_written}
-use Rattle.job_calls.specs.Pipes.{opens, session, in_session, put_by, taken_by, put_in, taken_in, untaken}
+use Rattle.job_calls.specs.Runs.{last_of, last_given, opening_of}
+use Rattle.job_calls.specs.Blocks.{WrittenBytes, writes, last_write, bytes_written, written_at, last_written}
+use Rattle.job_calls.specs.Pipes.{opens, session, in_session, put_by, taken_by, put_in, taken_in, untaken_bytes}
 use Rattle.job_calls.specs.Legal.{IsLegal, OpensSo}
 use Rattle.job_laws.specs.Truth.{IsLastWrite}
 use Rattle.job_laws.proofs.Growing.{legal_induct}
@@ -41,7 +41,7 @@ pub record LastCut (test : Entry → Bool) (n place : ℕ) (xs : List Entry) : T
   pub passes : test at ≡ true
   pub last : list_any test after ≡ false
 
-later_is_none : {A : Type 0} (a b : Option A) → later a b ≡ None → (a ≡ None) × (b ≡ None)
+later_is_none : {A : Type 0} (a b : Option A) → last_of a b ≡ None → (a ≡ None) × (b ≡ None)
 later_is_none a None e = (e, refl)
 later_is_none a (Some x) e = none_some x (sym e)
 
@@ -61,7 +61,7 @@ if_some false n place e = none_some place e
 
 cut_by : (test : Entry → Bool) (n place : ℕ) (x : Entry) (xs : List Entry) (rest : Option ℕ) → last_from test (n + 1) xs ≡ rest
     → ((p : ℕ) → last_from test (n + 1) xs ≡ Some p → LastCut test (n + 1) p xs)
-    → later (if test x then Some n else None) rest ≡ Some place → LastCut test n place (x ∷ xs)
+    → last_of (if test x then Some n else None) rest ≡ Some place → LastCut test n place (x ∷ xs)
 cut_by test n place x xs None r go e =
     let here = if_some (test x) n place e in
     record {
@@ -91,8 +91,8 @@ last_cut : (test : Entry → Bool) (n place : ℕ) (xs : List Entry) → last_fr
 last_cut test n place [] e = none_some place e
 last_cut test n place (x ∷ xs) e = cut_by test n place x xs (last_from test (n + 1) xs) refl (λ p q. last_cut test (n + 1) p xs q) e
 
-wrote_by : (name : List ℕ) (call : Call) (reply : Reply) → writes name call reply ≡ true → (bytes : List ℕ) × (call ≡ Write name bytes) × (reply ≡ Accepted)
-wrote_by name (Write other bytes) Accepted e = (bytes, ap (λ n. Write n bytes) ((bytes_eq-Decides other name).0 e), refl)
+wrote_by : (name : List ℕ) (call : Call) (reply : Reply) → writes name call reply ≡ true → (bytes : List ℕ) × (call ≡ Write name bytes) × (reply ≡ UnitReply)
+wrote_by name (Write other bytes) UnitReply e = (bytes, ap (λ n. Write n bytes) ((bytes_eq-Decides other name).0 e), refl)
 wrote_by name (Write other bytes) reply e = absurd (false_true e)
 wrote_by name call reply e = absurd (false_true e)
 
@@ -128,14 +128,14 @@ write_at log name place h q =
       },
     )
 
-write_by : (log : List Entry) (name : List ℕ) (o : Option ℕ) (write : Written) → IsLegal log → last_write name log ≡ o
+write_by : (log : List Entry) (name : List ℕ) (o : Option ℕ) (write : WrittenBytes) → IsLegal log → last_write name log ≡ o
     → option_and_then (λ place. written_at place log) o ≡ Some write → IsLastWrite log name write.place write.bytes
 write_by log name None write h q r = none_some write r
 write_by log name (Some place) write h q r =
     let w = write_at log name place h q in
-    subst (λ (x : Written). IsLastWrite log name x.place x.bytes) (some_is _ write (sym w.1 ∙ r)) w.2
+    subst (λ (x : WrittenBytes). IsLastWrite log name x.place x.bytes) (some_is _ write (sym w.1 ∙ r)) w.2
 
-pub write_is : (log : List Entry) (name : List ℕ) (write : Written) → IsLegal log → last_written name log ≡ Some write
+pub write_is : (log : List Entry) (name : List ℕ) (write : WrittenBytes) → IsLegal log → last_written name log ≡ Some write
     → IsLastWrite log name write.place write.bytes
 write_is log name write h q = write_by log name (last_write name log) write h refl q
 
@@ -150,13 +150,13 @@ pub unwritten : (log : List Entry) (name : List ℕ) → IsLegal log → last_wr
 unwritten log name h q = unwritten_by log name (last_write name log) h refl q
 
 pub session-snoc : (name : List ℕ) (log : List Entry) (e : Entry) (b : Bool) → opens Reads name e ≡ b
-    → session name (log ++ e ∷ []) ≡ later (session name log) (if b then Some (length log) else None)
+    → session name (log ++ e ∷ []) ≡ last_of (session name log) (if b then Some (length log) else None)
 session-snoc name log e b is =
     let zero_more : 0 + length log ≡ length log = omega arith in
     ap (last_given (λ (p : ℕ × Entry). if opens Reads name p.1 then Some p.0 else None)) (enumerate-snoc 0 log e)
     ∙ last_given-snoc (λ (p : ℕ × Entry). if opens Reads name p.1 then Some p.0 else None) (enumerate_from 0 log) (0 + length log, e)
-    ∙ ap (λ o. later (session name log) (if o then Some (0 + length log) else None)) is
-    ∙ ap (λ n. later (session name log) (if b then Some n else None)) zero_more
+    ∙ ap (λ o. last_of (session name log) (if o then Some (0 + length log) else None)) is
+    ∙ ap (λ n. last_of (session name log) (if b then Some n else None)) zero_more
 
 abbrev pub part_of : Option ℕ → List Entry → List Entry
 part_of o journal = option_map_or (λ place. drop (place + 1) journal) o []
@@ -201,21 +201,21 @@ taken-snoc name part e =
 -- an entry takes nothing out of the pipe, or all that nobody has taken
 data Flow (name : List ℕ) (log : List Entry) (call : Call) (reply : Reply) : Type 0 where
   quiet : taken_by name call reply ≡ [] → Flow name log call reply
-  empties : put_by name call reply ≡ [] → taken_by name call reply ≡ untaken name log → Flow name log call reply
+  empties : put_by name call reply ≡ [] → taken_by name call reply ≡ untaken_bytes name log → Flow name log call reply
 
 idle_quiet : (name : List ℕ) (call : Call) (reply : Reply) → is_idle reply ≡ true → taken_by name call reply ≡ []
 idle_quiet name (PipeTake other) (Bytes bytes) e = absurd (false_true e)
 idle_quiet name (PipeTake other) reply e = refl
 idle_quiet name call reply e = refl
 
-unit_quiet : (name : List ℕ) (call : Call) → taken_by name call Accepted ≡ []
+unit_quiet : (name : List ℕ) (call : Call) → taken_by name call UnitReply ≡ []
 unit_quiet name (PipeTake other) = refl
 unit_quiet name call = refl
 
-take_flow : (name other : List ℕ) (log : List Entry) (b : Bool) → bytes_eq other name ≡ b → Flow name log (PipeTake other) (Bytes (untaken other log))
+take_flow : (name other : List ℕ) (log : List Entry) (b : Bool) → bytes_eq other name ≡ b → Flow name log (PipeTake other) (Bytes (untaken_bytes other log))
 take_flow name other log true is =
-    empties refl (ap (λ b. if b then untaken other log else []) is ∙ ap (λ n. untaken n log) ((bytes_eq-Decides other name).0 is))
-take_flow name other log false is = quiet (ap (λ b. if b then untaken other log else []) is)
+    empties refl (ap (λ b. if b then untaken_bytes other log else []) is ∙ ap (λ n. untaken_bytes n log) ((bytes_eq-Decides other name).0 is))
+take_flow name other log false is = quiet (ap (λ b. if b then untaken_bytes other log else []) is)
 
 flow_outcome : (name : List ℕ) (log : List Entry) (run : ℕ) (call : Call) (reply : Reply) → Outcome log run call reply → Flow name log call reply
 flow_outcome name log run _ _ (outcome.idle call reply is can) = quiet (idle_quiet name call reply is)
@@ -243,7 +243,7 @@ flow_entering name log lane _ _ _ (enter.acts run call reply held fresh ends_fit
     flow_outcome name log run call reply (run_outcome log run call reply answered)
 
 -- what nobody has taken is the rest
-pub untaken_is : (name : List ℕ) (log : List Entry) (rest : List ℕ) → put_in name (in_session name log) ≡ taken_in name (in_session name log) ++ rest → untaken name log ≡ rest
+pub untaken_is : (name : List ℕ) (log : List Entry) (rest : List ℕ) → put_in name (in_session name log) ≡ taken_in name (in_session name log) ++ rest → untaken_bytes name log ≡ rest
 untaken_is name log rest q =
     ap (drop (length (taken_in name (in_session name log)))) q ∙ drop-append_seam (taken_in name (in_session name log)) rest
 

@@ -12,12 +12,12 @@ use Rattle.mos_text.specs.FileName.{is_source_name}
 use Rattle.job_calls.specs.declared.call.Call.{Call}
 use Rattle.job_calls.specs.declared.call.Call.TheVariants.{Compile, Run, Unload}
 use Rattle.job_calls.specs.declared.reply.Reply.{Reply}
-use Rattle.job_calls.specs.declared.reply.Reply.TheVariants.{Opened, Code, Loaded, Started, Unit as Accepted}
+use Rattle.job_calls.specs.declared.reply.Reply.TheVariants.{Opened, Code, Loaded, Started, Unit as UnitReply}
 use Rattle.job_calls.specs.declared.entry.Entry.{Entry}
 use Rattle.job_calls.specs.declared.entry.Listed.{Listed}
 use Rattle.job_calls.specs.Moments.{moments}
-use Rattle.job_calls.specs.Words.{is_started, run_count, unclaimed}
-use Rattle.job_calls.specs.Runs.{later, last_given, Opening, opening, opening_of, Start, start_by, start_of_run, loaded_source, source_of_model, source_started, source_of, params_of}
+use Rattle.job_calls.specs.Entries.{is_started, run_count, unclaimed_run}
+use Rattle.job_calls.specs.Runs.{last_of, last_given, Opening, opening, opening_of, Start, start_by, start_of_run, loaded_source, source_of_model, source_started, source_of, params_of}
 use Rattle.job_calls.specs.Files.{files_of, code_of, file_at}
 use Rattle.job_calls.specs.Models.{compiled_to, compiled_from, image_source, loaded_count, loads, is_loaded}
 use Rattle.job_calls.specs.Legal.{IsLegal, IsOpening, IsMaster, OpensSo, Follows, FollowOn}
@@ -131,7 +131,7 @@ compiled_outcome log run _ _ (outcome.idle call reply is can) file src e = idle_
   idle_made (Compile a b) reply is e = none_some src e
   idle_made call reply is e = none_some src e
 compiled_outcome log run _ _ (outcome.granted call is) file src e = granted_made call e where
-  granted_made : (call : Call) → compiled_to file call Accepted ≡ Some src → code_of src log ≡ 0
+  granted_made : (call : Call) → compiled_to file call UnitReply ≡ Some src → code_of src log ≡ 0
   granted_made (Compile a b) e = none_some src e
   granted_made call e = none_some src e
 compiled_outcome log run _ _ (outcome.compiled other dst) file src e =
@@ -159,7 +159,7 @@ compiled_entering log lane _ _ _ (enter.acts run call reply held fresh fit for_r
     compiled_outcome log run call reply (run_outcome log run call reply answered) file src e
 
 -- the second, or the first where there is no second
-later_is : {A : Type 0} (a b : Option A) (x : A) → later a b ≡ Some x → (a ≡ Some x) ⊎ (b ≡ Some x)
+later_is : {A : Type 0} (a b : Option A) (x : A) → last_of a b ≡ Some x → (a ≡ Some x) ⊎ (b ≡ Some x)
 later_is a None x e = inl e
 later_is a (Some y) x e = inr e
 
@@ -169,7 +169,7 @@ opened_compiles file call = refl
 
 compiled_first : (e : Entry) → IsOpening e → IsCompiled (e ∷ [])
 compiled_first e o file src q =
-    none_some src (sym (ap (λ x. later x None) (ap (compiled_to file e.call) o.reply ∙ opened_compiles file e.call)) ∙ q)
+    none_some src (sym (ap (λ x. last_of x None) (ap (compiled_to file e.call) o.reply ∙ opened_compiles file e.call)) ∙ q)
 
 compiled_step : (log : List Entry) (e : Entry) → IsLegal log → IsCompiled log → Follows log e → IsCompiled (log ++ e ∷ [])
 compiled_step log e h p f file src q =
@@ -201,7 +201,7 @@ accepted_stays log e source h a = record {
 }
 
 -- a model that is loaded has a source
-later_some : {A : Type 0} (x : A) (o : Option A) → (y : A) × (later (Some x) o ≡ Some y)
+later_some : {A : Type 0} (x : A) (o : Option A) → (y : A) × (last_of (Some x) o ≡ Some y)
 later_some x None = (x, refl)
 later_some x (Some y) = (y, refl)
 
@@ -215,7 +215,7 @@ if_false false e = none_some true e
 
 loads_source : (m : ℕ) (call : Call) (reply : Reply) → loads m call reply ≡ Some true → (source : ℕ) × (loaded_source m reply ≡ Some source)
 loads_source m call (Loaded model source) e = (source, ap (λ b. if b then Some source else None) (if_true (nat_eq model m) e))
-loads_source m (Unload model) Accepted e = if_false (nat_eq model m) e
+loads_source m (Unload model) UnitReply e = if_false (nat_eq model m) e
 loads_source m (Unload model) reply e = none_some true e
 loads_source m call reply e = none_some true e
 
@@ -223,14 +223,14 @@ loaded_has : (m : ℕ) (log : List Entry) → last_given (λ (e : Entry). loads 
     → (source : ℕ) × (source_of_model m log ≡ Some source)
 loaded_has m [] e = none_some true e
 loaded_has m (x ∷ xs) e = by (last_given (λ (y : Entry). loads m y.call y.reply) xs) refl e (λ q. loaded_has m xs q) where
-  by : (o : Option Bool) → last_given (λ (y : Entry). loads m y.call y.reply) xs ≡ o → later (loads m x.call x.reply) o ≡ Some true
+  by : (o : Option Bool) → last_given (λ (y : Entry). loads m y.call y.reply) xs ≡ o → last_of (loads m x.call x.reply) o ≡ Some true
       → (last_given (λ (y : Entry). loads m y.call y.reply) xs ≡ Some true → (source : ℕ) × (source_of_model m xs ≡ Some source))
-      → (source : ℕ) × (later (loaded_source m x.reply) (source_of_model m xs) ≡ Some source)
-  by (Some b) q r go = let s = go (q ∙ r) in (s.0, ap (later (loaded_source m x.reply)) s.1)
+      → (source : ℕ) × (last_of (loaded_source m x.reply) (source_of_model m xs) ≡ Some source)
+  by (Some b) q r go = let s = go (q ∙ r) in (s.0, ap (last_of (loaded_source m x.reply)) s.1)
   by None q r go =
       let s = loads_source m x.call x.reply r in
       let l = later_some s.0 (source_of_model m xs) in
-      (l.0, ap (λ o. later o (source_of_model m xs)) s.1 ∙ l.1)
+      (l.0, ap (λ o. last_of o (source_of_model m xs)) s.1 ∙ l.1)
 
 unwrap_true : (o : Option Bool) → unwrap_or o false ≡ true → o ≡ Some true
 unwrap_true None e = absurd (false_true e)
@@ -279,7 +279,7 @@ loaded_entering log lane _ _ _ h (enter.acts run call reply held fresh fit for_r
     loaded_outcome log run call reply h (run_outcome log run call reply answered) m source e
 
 models_first : (e : Entry) → IsOpening e → AreModelsAccepted (e ∷ [])
-models_first e o m source q = none_some source (sym (ap (λ r. later (loaded_source m r) None) o.reply) ∙ q)
+models_first e o m source q = none_some source (sym (ap (λ r. last_of (loaded_source m r) None) o.reply) ∙ q)
 
 models_step : (log : List Entry) (e : Entry) → IsLegal log → AreModelsAccepted log → Follows log e → AreModelsAccepted (log ++ e ∷ [])
 models_step log e h p f m source q =
@@ -350,26 +350,26 @@ no_start log e k f less = by (is_started e.reply) refl where
       ∙ ap (λ b. if b then Some s.start else None) (ne_eqb s.start.run k (λ q. absurd (omega (arith, q, r, less))))
 
 source-snoc : (k : ℕ) (log : List Entry) (e : Entry)
-    → source_of (suc k) (log ++ e ∷ []) ≡ later (source_of (suc k) log) (source_started (suc k) (record { before = log; entry = e }))
+    → source_of (suc k) (log ++ e ∷ []) ≡ last_of (source_of (suc k) log) (source_started (suc k) (record { before = log; entry = e }))
 source-snoc k log e =
     ap (last_given (source_started (suc k))) (moments-snoc log e)
     ∙ last_given-snoc (source_started (suc k)) (moments log) (record { before = log; entry = e })
 
 params-snoc : (k : ℕ) (log : List Entry) (e : Entry)
-    → params_of (suc k) (log ++ e ∷ []) ≡ later (params_of (suc k) log) (option_map (λ (start : Start). start.params) (start_of_run (suc k) e))
+    → params_of (suc k) (log ++ e ∷ []) ≡ last_of (params_of (suc k) log) (option_map (λ (start : Start). start.params) (start_of_run (suc k) e))
 params-snoc k log e = last_given-snoc (λ (x : Entry). option_map (λ (start : Start). start.params) (start_of_run (suc k) x)) log e
 
 source_keeps : (log : List Entry) (e : Entry) (k : ℕ) → IsLegal log → Follows log e → k < run_count log → source_of k (log ++ e ∷ []) ≡ source_of k log
 source_keeps log e zero h f less = refl
 source_keeps log e (suc k) h f less =
     source-snoc k log e
-    ∙ ap (λ o. later (source_of (suc k) log) (option_and_then (λ (start : Start). source_of_model start.model log) o)) (no_start log e (suc k) f less)
+    ∙ ap (λ o. last_of (source_of (suc k) log) (option_and_then (λ (start : Start). source_of_model start.model log) o)) (no_start log e (suc k) f less)
 
 params_keeps : (log : List Entry) (e : Entry) (k : ℕ) → IsLegal log → Follows log e → k < run_count log → params_of k (log ++ e ∷ []) ≡ params_of k log
 params_keeps log e zero h f less = ap (option_map (λ (o : Opening). o.params)) (opening_stays log e h)
 params_keeps log e (suc k) h f less =
     params-snoc k log e
-    ∙ ap (λ o. later (params_of (suc k) log) (option_map (λ (start : Start). start.params) o)) (no_start log e (suc k) f less)
+    ∙ ap (λ o. last_of (params_of (suc k) log) (option_map (λ (start : Start). start.params) o)) (no_start log e (suc k) f less)
 
 has_stays : (log : List Entry) (e : Entry) (k source : ℕ) (params : List ℕ) → IsLegal log → Follows log e → k < run_count log
     → HasSource log k source params → HasSource (log ++ e ∷ []) k source params
@@ -397,11 +397,11 @@ has_started log e k h s q =
         file = a.file;
         source_is =
             source-snoc k log e
-            ∙ ap (λ o. later (source_of (suc k) log) (option_and_then (λ (start : Start). source_of_model start.model log) o)) is
-            ∙ ap (later (source_of (suc k) log)) m.1;
+            ∙ ap (λ o. last_of (source_of (suc k) log) (option_and_then (λ (start : Start). source_of_model start.model log) o)) is
+            ∙ ap (last_of (source_of (suc k) log)) m.1;
         params_is =
             params-snoc k log e
-            ∙ ap (λ o. later (params_of (suc k) log) (option_map (λ (start : Start). start.params) o)) is;
+            ∙ ap (λ o. last_of (params_of (suc k) log) (option_map (λ (start : Start). start.params) o)) is;
         listed = a.listed;
         code = a.code;
         named = inr a.named;
@@ -464,7 +464,7 @@ pub have_sources : (journal : List Entry) → IsLegal journal → HaveSources jo
 have_sources = legal_grow HaveSources has_first has_step
 
 -- a run that is given to a lane is given with its source
-pub claim_says : (log : List Entry) (k source : ℕ) (params : List ℕ) → IsLegal log → unclaimed log ≡ Some k → source_of k log ≡ Some source
+pub claim_says : (log : List Entry) (k source : ℕ) (params : List ℕ) → IsLegal log → unclaimed_run log ≡ Some k → source_of k log ≡ Some source
     → params_of k log ≡ Some params → HasSource log k source params
 claim_says log k source params h q s p =
     let at = least log (gives log) (run_counts log h).first_given 0 (run_count log) k (omega arith) q in

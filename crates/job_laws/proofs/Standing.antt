@@ -10,7 +10,7 @@ use Rattle.job_calls.specs.declared.reply.Answer.{Answer}
 use Rattle.job_calls.specs.declared.reply.Answer.TheVariants.{Ready}
 use Rattle.job_calls.specs.declared.reply.Reply.TheVariants.{Opened}
 use Rattle.job_calls.specs.declared.entry.Entry.{Entry}
-use Rattle.job_calls.specs.Words.{own_entries}
+use Rattle.job_calls.specs.Entries.{own_entries}
 use Rattle.job_calls.specs.Moments.{Moment, moments_from}
 use Rattle.job_calls.specs.Runs.{opening}
 use Rattle.job_calls.specs.Answers.{answer_of}

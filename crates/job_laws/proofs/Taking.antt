@@ -14,7 +14,7 @@ use Rattle.job_calls.specs.declared.reply.Reply.{Reply}
 use Rattle.job_calls.specs.declared.reply.Reply.TheVariants.{Took, Queued}
 use Rattle.job_calls.specs.declared.entry.Entry.{Entry}
 use Rattle.job_calls.specs.Moments.{Moment, moments_from, moments, place_of}
-use Rattle.job_calls.specs.Words.{is_run}
+use Rattle.job_calls.specs.Entries.{is_run}
 use Rattle.job_calls.specs.Models.{parent_of}
 use Rattle.job_calls.specs.Events.{receiver_of, comes_to, arrivals, is_took, taken_count, first_event, Event, event_of, event_at, front}
 use Rattle.job_calls.specs.Legal.{IsLegal, IsOpening, Follows}

@@ -5,11 +5,11 @@ use Rattle.std.proofs.lemmas.Bool.{ltb-false}
 use Rattle.job_calls.specs.declared.call.Call.{Call}
 use Rattle.job_calls.specs.declared.call.Call.TheVariants.{Claim, Read, Next, Drop}
 use Rattle.job_calls.specs.declared.reply.Reply.{Reply}
-use Rattle.job_calls.specs.declared.reply.Reply.TheVariants.{Opened, Claimed, Loaded, Took, Found, Bytes, PipeEnd, Unit as Accepted}
+use Rattle.job_calls.specs.declared.reply.Reply.TheVariants.{Opened, Claimed, Loaded, Took, Found, Bytes, PipeEnd, Unit as UnitReply}
 use Rattle.job_calls.specs.declared.entry.Entry.{Entry}
 use Rattle.job_calls.specs.Files.{data_of}
 use Rattle.job_calls.specs.Events.{Event, front}
-use Rattle.job_calls.specs.Pipes.{in_session, taken_in, untaken}
+use Rattle.job_calls.specs.Pipes.{in_session, taken_in, untaken_bytes}
 use Rattle.job_calls.specs.Legal.{IsLegal, Follows}
 use Rattle.job_laws.specs.Truth.{IsTaken, IsLastWrite, IsListed, SaysTrue}
 use Rattle.job_laws.proofs.Growing.{legal_cut, IsCut, opens as cut_opens, follows as cut_follows}
@@ -47,7 +47,7 @@ took_says log run call event q =
     taken_is_event log (Some run) call (record { 0 = event.place }) event.class event.value
     (record { taker = run; by = refl; taking = taking log run event q })
 
-granted_says : (log : List Entry) (run : Option ℕ) (call : Call) → SaysTrue log run call Accepted
+granted_says : (log : List Entry) (run : Option ℕ) (call : Call) → SaysTrue log run call UnitReply
 granted_says log run Claim = tt
 granted_says log run call = tt
 
@@ -71,7 +71,7 @@ says_outcome log run _ _ h p (outcome.took_all name) =
     (p name).1 ∙ ap (λ xs. taken_in name (in_session name log) ++ xs) (sym (untaken_is name log (p name).0 (p name).1))
 says_outcome log run _ _ h p (outcome.ended name a b) =
     (p name).1
-    ∙ ap (λ xs. taken_in name (in_session name log) ++ xs) (sym (untaken_is name log (p name).0 (p name).1) ∙ no_bytes (untaken name log) a)
+    ∙ ap (λ xs. taken_in name (in_session name log) ++ xs) (sym (untaken_is name log (p name).0 (p name).1) ∙ no_bytes (untaken_bytes name log) a)
     ∙ append-nil (taken_in name (in_session name log))
 
 says_entering : (log : List Entry) (lane : ℕ) (run : Option ℕ) (call : Call) (reply : Reply) → IsLegal log → ((name : List ℕ) → Piped name (in_session name log))

@@ -9,7 +9,7 @@ use Rattle.job_calls.specs.declared.end.End.TheVariants as end
 use Rattle.job_calls.specs.declared.entry.Entry.{Entry}
 use Rattle.job_calls.specs.declared.reply.Reply.TheVariants.{Done, Started, Halt, Fault}
 use Rattle.job_calls.specs.declared.reply.Reply.TheVariants as reply
-use Rattle.job_calls.specs.Words.{own_entries}
+use Rattle.job_calls.specs.Entries.{own_entries}
 use Rattle.job_calls.specs.Runs.{opening}
 use Rattle.job_calls.specs.Fitting.{fits}
 use Rattle.job_laws.specs.HubExamples.{alone, by_run, child_is_loaded, child_runs, pipe_is_open}

@@ -3,7 +3,7 @@
 use Rattle.std.specs.Prelude.{◌≡◌, ◌≤◌, ◌<◌, ℕ, List, [], ◌∷◌, ◌++◌, length}
 use Rattle.job_calls.specs.declared.entry.Entry.{Entry}
 use Rattle.job_calls.specs.Moments.{moments_from}
-use Rattle.job_calls.specs.Words.{run_count}
+use Rattle.job_calls.specs.Entries.{run_count}
 use Rattle.job_calls.specs.Runs.{source_of, params_of}
 use Rattle.job_calls.specs.Files.{files_of}
 use Rattle.job_calls.specs.Legal.{IsLegal, Follows}

@@ -5,7 +5,7 @@ use Rattle.job_calls.specs.declared.call.Call.TheVariants.{Open, Claim, Finish}
 use Rattle.job_calls.specs.declared.end.End.TheVariants as end
 use Rattle.job_calls.specs.declared.entry.Entry.{Entry}
 use Rattle.job_calls.specs.declared.reply.Answer.TheVariants.{NotYet}
-use Rattle.job_calls.specs.declared.reply.Reply.TheVariants.{Opened, Claimed, Done, Unit as Acknowledged}
+use Rattle.job_calls.specs.declared.reply.Reply.TheVariants.{Opened, Claimed, Done, Unit as UnitReply}
 use Rattle.job_calls.specs.Answers.{answer_of}
 use Rattle.job_calls.specs.Legal.{IsLegal, Follows}
 use Rattle.job_calls.specs.HelloJournal.{hello_entries, hello_file, entry}
@@ -20,7 +20,7 @@ HelloIsLegal = IsLegal hello_entries
 
 -- a lane that holds no run finishes none: the call does not fit
 abbrev pub UnheldRun : Type 0
-UnheldRun = Follows opened_only (entry (0 ∷ []) (Finish (end.Code (pos 0))) Acknowledged) → ⊥
+UnheldRun = Follows opened_only (entry (0 ∷ []) (Finish (end.Code (pos 0))) UnitReply) → ⊥
 
 -- the first run that a lane is given is run 0, and not another
 abbrev pub AnotherRun : Type 0

@@ -5,10 +5,10 @@ use Rattle.job_calls.specs.declared.call.Call.{Call}
 use Rattle.job_calls.specs.declared.reply.Answer.TheVariants.{Ready}
 use Rattle.job_calls.specs.declared.reply.Reply.{Reply}
 use Rattle.job_calls.specs.declared.entry.Entry.{Entry}
-use Rattle.job_calls.specs.Words.{is_run, is_claim, is_done, is_finish, claims, own_entries, has_quit, run_count, is_claimed, is_finished}
+use Rattle.job_calls.specs.Entries.{is_run, is_claim, is_done, is_finish, claims, own_entries, has_quit, run_count, is_claimed, is_finished}
 use Rattle.job_calls.specs.Runs.{acts_of, calls_of, replies_of, finish_of}
 use Rattle.job_calls.specs.Files.{lanes_of}
-use Rattle.job_calls.specs.Replies.{InRange, FitsCall, AllFit}
+use Rattle.job_calls.specs.Replies.{InRange, CanAnswer, AllCanAnswer}
 use Rattle.job_calls.specs.Answers.{answer_of}
 use Rattle.job_calls.specs.Fitting.{exchange_of, is_for_lane}
 use Rattle.job_calls.specs.Legal.{IsLegal}
@@ -18,13 +18,13 @@ abbrev pub AnswersFit : Type 0
 AnswersFit =
     (journal : List Entry) (lane run : ℕ) (call : Call) (reply : Reply)
     → answer_of journal lane (Some run) call ≡ Ready reply
-    → is_for_lane call ≡ false → is_finish call ≡ false → InRange reply → FitsCall call reply
+    → is_for_lane call ≡ false → is_finish call ≡ false → InRange reply → CanAnswer call reply
 
 -- where all replies can be held, all that a run was answered fits what it called
 abbrev pub RunsFit : Type 0
 RunsFit =
     (journal : List Entry) → IsLegal journal → All (λ e. InRange e.reply) journal
-    → (k : ℕ) → AllFit (calls_of k journal) (replies_of k journal)
+    → (k : ℕ) → AllCanAnswer (calls_of k journal) (replies_of k journal)
 
 -- a run is given to a lane at most once
 abbrev pub ClaimedOnce : Type 0

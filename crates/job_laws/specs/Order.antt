@@ -10,7 +10,7 @@ use Rattle.job_calls.specs.declared.call.Way.TheVariants.{Reads}
 use Rattle.job_calls.specs.declared.reply.Reply.{Reply}
 use Rattle.job_calls.specs.declared.reply.Reply.TheVariants.{Took, PipeEnd, Halt}
 use Rattle.job_calls.specs.declared.entry.Entry.{Entry}
-use Rattle.job_calls.specs.Words.{is_run, is_finish}
+use Rattle.job_calls.specs.Entries.{is_run, is_finish}
 use Rattle.job_calls.specs.Models.{is_asked}
 use Rattle.job_calls.specs.Events.{arrivals, is_took}
 use Rattle.job_calls.specs.Pipes.{opens, put_in, taken_in}

@@ -6,10 +6,10 @@ use Rattle.job_calls.specs.declared.call.Call.TheVariants.{Open, Claim, Finish, 
 use Rattle.job_calls.specs.declared.end.End.TheVariants as end
 use Rattle.job_calls.specs.declared.entry.Entry.{Entry}
 use Rattle.job_calls.specs.declared.entry.Listed.{Listed}
-use Rattle.job_calls.specs.declared.reply.Reply.TheVariants.{Opened, Claimed, Done, Code, Loaded, Started, Took, Number, Halt, Fault, Unit as Acknowledged}
-use Rattle.job_calls.specs.Words.{run_count}
+use Rattle.job_calls.specs.declared.reply.Reply.TheVariants.{Opened, Claimed, Done, Code, Loaded, Started, Took, Number, Halt, Fault, Unit as UnitReply}
+use Rattle.job_calls.specs.Entries.{run_count}
 use Rattle.job_calls.specs.Runs.{source_of, params_of, calls_of, replies_of, finish_of}
-use Rattle.job_calls.specs.Replies.{AllFit, FitsCall}
+use Rattle.job_calls.specs.Replies.{AllCanAnswer, CanAnswer}
 use Rattle.job_calls.specs.HelloJournal.{hello_file, entry}
 
 -- the child
@@ -24,9 +24,9 @@ child_entries =
     ∷ entry (0 ∷ []) (Compile (codes "child.mos") (codes "child.bim")) (Code 0)
     ∷ entry (0 ∷ []) (Load (codes "child.bim")) (Loaded 1 1)
     ∷ entry (0 ∷ []) (Run 1 (codes "N=3")) (Started 1)
-    ∷ entry (0 ∷ []) (Finish (end.Code (pos 0))) Acknowledged
+    ∷ entry (0 ∷ []) (Finish (end.Code (pos 0))) UnitReply
     ∷ entry [] Claim (Claimed 1 1 (codes "N=3"))
-    ∷ entry (1 ∷ []) (Finish (end.Code (pos 7))) Acknowledged
+    ∷ entry (1 ∷ []) (Finish (end.Code (pos 7))) UnitReply
     ∷ entry [] Claim Done
     ∷ []
 
@@ -68,20 +68,20 @@ FinishOfChild = finish_of 1 child_entries ≡ Some (end.Code (pos 7))
 
 -- replies that fit the calls beside them; the last ends the run
 abbrev pub FittingReplies : Type 0
-FittingReplies = AllFit (Wait ∷ Next ∷ Status 1 ∷ Wait ∷ []) (Acknowledged ∷ Took (record { 0 = 6 }) (pos 1) (negsuc 0) ∷ Number (pos 2) ∷ Halt ∷ [])
+FittingReplies = AllCanAnswer (Wait ∷ Next ∷ Status 1 ∷ Wait ∷ []) (UnitReply ∷ Took (record { 0 = 6 }) (pos 1) (negsuc 0) ∷ Number (pos 2) ∷ Halt ∷ [])
 
 -- a fault that only the hub knows of may be a reply
 abbrev pub FittingFault : Type 0
-FittingFault = FitsCall (Run 1 []) (Fault NotLoaded)
+FittingFault = CanAnswer (Run 1 []) (Fault NotLoaded)
 
 -- but no fault of its own
 abbrev pub FaultOfItsOwn : Type 0
-FaultOfItsOwn = FitsCall (Run 1 []) (Fault Overflow) → ⊥
+FaultOfItsOwn = CanAnswer (Run 1 []) (Fault Overflow) → ⊥
 
 -- the reply of another call does not fit
 abbrev pub ReplyOfAnotherCall : Type 0
-ReplyOfAnotherCall = FitsCall Wait (Code 0) → ⊥
+ReplyOfAnotherCall = CanAnswer Wait (Code 0) → ⊥
 
 -- nor does a code that is no byte
 abbrev pub CodeTooLarge : Type 0
-CodeTooLarge = FitsCall (Compile (codes "a.mos") (codes "a.bim")) (Code 256) → ⊥
+CodeTooLarge = CanAnswer (Compile (codes "a.mos") (codes "a.bim")) (Code 256) → ⊥

@@ -7,7 +7,7 @@ use Rattle.job_calls.specs.declared.call.Call.{Call}
 use Rattle.job_calls.specs.declared.call.Call.TheVariants.{Open, Claim, Quit, Finish, Compile, Load, Run, Wait, Next, Peek, Drop, IsEmpty, Send, Status, ExitCode, Stop, Unload, Read, Write, PipeOpen, PipePut, PipeTake, PipeClose}
 use Rattle.job_calls.specs.declared.end.End.{End}
 use Rattle.job_calls.specs.declared.reply.Reply.{Reply}
-use Rattle.job_calls.specs.declared.reply.Reply.TheVariants.{Claimed, Loaded, Took, Queued, Found, Bytes, PipeEnd, Unit as Accepted}
+use Rattle.job_calls.specs.declared.reply.Reply.TheVariants.{Claimed, Loaded, Took, Queued, Found, Bytes, PipeEnd, Unit as UnitReply}
 use Rattle.job_calls.specs.declared.entry.Entry.{Entry}
 use Rattle.job_calls.specs.declared.entry.Listed.{Listed}
 use Rattle.job_calls.specs.Runs.{source_of, params_of}
@@ -57,7 +57,7 @@ pub record IsLastWrite (journal : List Entry) (name : List ℕ) (place : ℕ) (b
   pub place_is : length before ≡ place
   pub some : 0 < place
   pub wrote : write.call ≡ Write name bytes
-  pub accepted : write.reply ≡ Accepted
+  pub accepted : write.reply ≡ UnitReply
   pub last : list_any (λ e. writes name e.call e.reply) after ≡ false
 
 -- nothing was written under the name, and a data file of that name with these bytes is listed

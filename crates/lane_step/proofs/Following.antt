@@ -6,7 +6,7 @@ use Rattle.job_calls.specs.declared.end.End.{End}
 use Rattle.job_calls.specs.declared.entry.Listed.{Listed}
 use Rattle.job_calls.specs.declared.run_line.RunLine.{RunLine}
 use Rattle.job_calls.specs.Runs.{Opening, calls_of, replies_of}
-use Rattle.job_calls.specs.Replies.{AllFit}
+use Rattle.job_calls.specs.Replies.{AllCanAnswer}
 use Rattle.bim_code.specs.declared.image.Image.{Image}
 use Rattle.run_state.specs.Stops.{Course}
 use Rattle.bim_machine.specs.Courses.{course_of}
@@ -26,7 +26,7 @@ took o file ran end ends =
     let course : Course = record { outcome = outcome_of ran; steps = ran.steps } in
     record {
       named = refl;
-      replies_fit = subst (AllFit (calls_of 0 journal)) (sym (no_replies o end)) (subst (λ calls. AllFit calls []) (sym (no_calls o end)) tt);
+      replies_fit = subst (AllCanAnswer (calls_of 0 journal)) (sym (no_replies o end)) (subst (λ calls. AllCanAnswer calls []) (sym (no_calls o end)) tt);
       calls = no_calls o end;
       says = subst (Says (line_of file.name end ran) course) (sym (finish_is o end)) (ended end ends refl (record { output = refl; ticks = refl; steps = refl }));
     }

@@ -11,7 +11,7 @@ use Rattle.job_calls.specs.declared.entry.Entry.{Entry}
 use Rattle.job_calls.specs.declared.reply.Answer.TheVariants.{Ready, NotYet, Shut}
 use Rattle.job_calls.specs.declared.reply.Reply.TheVariants.{Done}
 use Rattle.job_calls.specs.declared.call.Call.TheVariants.{Claim}
-use Rattle.job_calls.specs.Words.{is_run, is_quit, is_finish, is_started, claims, own_entries, has_quit, run_count, is_claimed, is_finished, unclaimed, first_unclaimed}
+use Rattle.job_calls.specs.Entries.{is_run, is_quit, is_finish, is_started, claims, own_entries, has_quit, run_count, is_claimed, is_finished, unclaimed_run, first_unclaimed}
 use Rattle.job_calls.specs.Runs.{Opening, opening}
 use Rattle.job_calls.specs.Answers.{claim_answer, next_run}
 use Rattle.job_calls.specs.Fitting.{fits, below_lanes, held_run, was_done}
@@ -63,13 +63,13 @@ lane_done o before lane h free less =
     ap (λ b. b && (not (is_some (held_run (own_entries lane before))) && not (was_done (own_entries lane before)))) below
     ∙ ap (λ held. not (is_some held) && not (was_done (own_entries lane before))) free.holds_none
     ∙ ap not free.not_done in
-    let none : unclaimed before ≡ None =
+    let none : unclaimed_run before ≡ None =
     ap (first_unclaimed before 0) h.one_run ∙ ap (λ b. if b then first_unclaimed before 1 0 else Some 0) h.claimed_0 in
     record {
       fit = subst IsTrue (sym fit) refl;
       answered =
           ap (λ b. if b then Shut else claim_answer before lane) h.no_quit
-          ∙ ap (λ b. if not b && not (nat_eq lane 0) then NotYet else next_run before (unclaimed before)) h.claimed_0
+          ∙ ap (λ b. if not b && not (nat_eq lane 0) then NotYet else next_run before (unclaimed_run before)) h.claimed_0
           ∙ ap (next_run before) none
           ∙ ap (λ b. if b then Ready Done else NotYet) h.finished_0;
     }

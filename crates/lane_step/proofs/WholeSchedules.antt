@@ -7,8 +7,8 @@ use Rattle.std.proofs.lemmas.Bool.Decides.{eqb_tells}
 use Rattle.job_calls.specs.declared.end.End.{End}
 use Rattle.job_calls.specs.declared.end.End.TheVariants.{Code, Fault, Spent, Stopped, NoMemory}
 use Rattle.job_calls.specs.declared.entry.Entry.{Entry}
-use Rattle.job_calls.specs.Words.{is_run, is_quit, is_finish, is_started, own_entries, has_quit, run_count, is_finished}
-use Rattle.job_calls.specs.Runs.{Opening, acts_of, calls_of, replies_of, finish, finish_of, last_given, later}
+use Rattle.job_calls.specs.Entries.{is_run, is_quit, is_finish, is_started, own_entries, has_quit, run_count, is_finished}
+use Rattle.job_calls.specs.Runs.{Opening, acts_of, calls_of, replies_of, finish, finish_of, last_given, last_of}
 use Rattle.job_calls.specs.Legal.{CanOpen}
 use Rattle.lane_step.specs.Schedule.{open_entry, claim_entry, finish_entry, done_entry, done_entries, schedule_of}
 use Rattle.job_laws.specs.Lanes.{EndsDone}
@@ -37,20 +37,20 @@ one_run o end = ap (λ n. n + 1) (no_starts 1 (o.lanes - 1) 0)
 
 no_finish : (lane many : ℕ) → last_given (λ (e : Entry). if is_run 0 e.run then finish e.call else None) (done_entries lane many) ≡ None
 no_finish lane zero = refl
-no_finish lane (suc many) = ap (later None) (no_finish (lane + 1) many)
+no_finish lane (suc many) = ap (last_of None) (no_finish (lane + 1) many)
 
 pub finish_is : (o : Opening) (end : End) → finish_of 0 (schedule_of o end) ≡ Some end
-finish_is o end = ap (λ rest. later None (later None (later (Some end) rest))) (no_finish 1 (o.lanes - 1))
+finish_is o end = ap (λ rest. last_of None (last_of None (last_of (Some end) rest))) (no_finish 1 (o.lanes - 1))
 
 -- no other run has an end
 other_finish : (run lane many : ℕ) → last_given (λ (e : Entry). if is_run run e.run then finish e.call else None) (done_entries lane many) ≡ None
 other_finish run lane zero = refl
-other_finish run lane (suc many) = ap (later None) (other_finish run (lane + 1) many)
+other_finish run lane (suc many) = ap (last_of None) (other_finish run (lane + 1) many)
 
 no_other : (o : Opening) (end : End) (run : ℕ) → finish_of (suc run) (schedule_of o end) ≡ None
 no_other o end run =
-    ap (λ b. later None (later None (later (if b then Some end else None) (last_given (λ (e : Entry). if is_run (suc run) e.run then finish e.call else None) (done_entries 1 (o.lanes - 1)))))) (ne_eqb 0 (suc run) (λ e. absurd cc))
-    ∙ ap (λ rest. later None (later None (later None rest))) (other_finish (suc run) 1 (o.lanes - 1))
+    ap (λ b. last_of None (last_of None (last_of (if b then Some end else None) (last_given (λ (e : Entry). if is_run (suc run) e.run then finish e.call else None) (done_entries 1 (o.lanes - 1)))))) (ne_eqb 0 (suc run) (λ e. absurd cc))
+    ∙ ap (λ rest. last_of None (last_of None (last_of None rest))) (other_finish (suc run) 1 (o.lanes - 1))
 
 -- an end of its own is not that of a run without memory
 not_lacking : (end : End) → IsOwnEnd end → end ≢ NoMemory

@@ -4,7 +4,7 @@
 use Rattle.std.specs.Prelude.{ℕ, ◌+◌, ◌-◌, zero, suc, List, [], ◌∷◌, Some, None}
 use Rattle.job_calls.specs.declared.call.Call.TheVariants.{Open, Claim, Finish}
 use Rattle.job_calls.specs.declared.end.End.{End}
-use Rattle.job_calls.specs.declared.reply.Reply.TheVariants.{Opened, Claimed, Done, Unit as Acknowledged}
+use Rattle.job_calls.specs.declared.reply.Reply.TheVariants.{Opened, Claimed, Done, Unit as UnitReply}
 use Rattle.job_calls.specs.declared.entry.Entry.{Entry}
 use Rattle.job_calls.specs.Runs.{Opening}
 
@@ -18,7 +18,7 @@ claim_entry params = record { lane = 0; run = None; call = Claim; reply = Claime
 
 -- which ends
 abbrev pub finish_entry : End → Entry
-finish_entry end = record { lane = 0; run = Some 0; call = Finish end; reply = Acknowledged }
+finish_entry end = record { lane = 0; run = Some 0; call = Finish end; reply = UnitReply }
 
 -- a lane is told that the job is done
 abbrev pub done_entry : ℕ → Entry

@@ -12,7 +12,7 @@ use Rattle.job_calls.specs.Answers.{answer_of}
 use Rattle.job_calls.specs.Fitting.{held_run}
 use Rattle.job_calls.specs.Legal.{IsLegal}
 use Rattle.job_calls.specs.Runs.{Opening, opening}
-use Rattle.job_calls.specs.Words.{own_entries, has_quit}
+use Rattle.job_calls.specs.Entries.{own_entries, has_quit}
 use Rattle.job_laws.specs.Lanes.{EndsDone}
 
 -- the open call of a lane: `Claim` where it holds no run, else the one that its run waits with, by the run's line

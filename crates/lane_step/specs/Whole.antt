@@ -3,7 +3,7 @@
 use Rattle.std.specs.Prelude.{◌≡◌, ◌≢◌, ℕ, ◌<◌, true, false, List, Some}
 use Rattle.job_calls.specs.declared.end.End.TheVariants.{NoMemory}
 use Rattle.job_calls.specs.declared.entry.Entry.{Entry}
-use Rattle.job_calls.specs.Words.{own_entries, has_quit, run_count, is_finished}
+use Rattle.job_calls.specs.Entries.{own_entries, has_quit, run_count, is_finished}
 use Rattle.job_calls.specs.Runs.{Opening, opening, finish_of}
 use Rattle.job_calls.specs.Legal.{IsLegal}
 use Rattle.job_laws.specs.Lanes.{EndsDone}

@@ -4,7 +4,7 @@ use Rattle.std.proofs.Common.{◌≡◌, ◌<◌, ◌≤◌, ℕ, suc, zero, ◌
 use Rattle.std.specs.Prelude.{nat_lt, if◌then◌else◌}
 use Rattle.std.proofs.lemmas.Bool.{ltb-true, ltb-false}
 use Rattle.job_calls.specs.declared.entry.Entry.{Entry}
-use Rattle.job_calls.specs.Words.{is_claimed, run_count, first_unclaimed, unclaimed}
+use Rattle.job_calls.specs.Entries.{is_claimed, run_count, first_unclaimed, unclaimed_run}
 use Rattle.model_table.specs.declared.table.ModelTable.{ModelTable}
 use Rattle.model_table.specs.Index.{IsIndexOf, GivesInOrder}
 
@@ -35,12 +35,12 @@ module _ (journal : List Entry) (g : ℕ) (all : (k : ℕ) → nat_lt k g ≡ is
       none_by from many (is_claimed from journal) refl (omega (arith, past)) (first_none (from + 1) many (omega (arith, past)))
 
 -- the least run that no lane was given
-pub unclaimed_some : (t : ModelTable) (journal : List Entry) → IsIndexOf t journal → GivesInOrder journal → t.claimed ≤ t.started → Some t.claimed ≡ unclaimed journal
+pub unclaimed_some : (t : ModelTable) (journal : List Entry) → IsIndexOf t journal → GivesInOrder journal → t.claimed ≤ t.started → Some t.claimed ≡ unclaimed_run journal
 unclaimed_some t journal is in_order le =
     let started = is.started in
     sym (first_some journal t.claimed (claimed_is t journal is in_order) 0 (run_count journal) (omega arith) (omega (arith, le, started)))
 
-pub unclaimed_none : (t : ModelTable) (journal : List Entry) → IsIndexOf t journal → GivesInOrder journal → t.started < t.claimed → None ≡ unclaimed journal
+pub unclaimed_none : (t : ModelTable) (journal : List Entry) → IsIndexOf t journal → GivesInOrder journal → t.started < t.claimed → None ≡ unclaimed_run journal
 unclaimed_none t journal is in_order less =
     let started = is.started in
     sym (first_none journal t.claimed (claimed_is t journal is in_order) 0 (run_count journal) (omega (arith, less, started)))

@@ -11,12 +11,12 @@ use Rattle.job_calls.specs.declared.reply.Reply.TheVariants.{Loaded}
 use Rattle.job_calls.specs.declared.end.End.{End}
 use Rattle.job_calls.specs.declared.entry.Entry.{Entry}
 use Rattle.job_calls.specs.Moments.{Moment, moments}
-use Rattle.job_calls.specs.Words.{is_run, is_finish, is_finished, is_started, is_quit, is_last, is_done, own_entries, run_count}
+use Rattle.job_calls.specs.Entries.{is_run, is_finish, is_finished, is_started, is_quit, is_last, is_done, own_entries, run_count}
 use Rattle.job_calls.specs.declared.reply.Reply.{Reply}
 use Rattle.job_calls.specs.Fitting.{held_after, held_run, was_done, exchange_of, is_over}
 use Rattle.std.proofs.lemmas.List.Elements.{filter-append}
 use Rattle.model_table.specs.declared.lane.Lane.{Lane}
-use Rattle.job_calls.specs.Runs.{Start, later, last_given, loaded_source, source_of_model, start_of_run, source_started, finish}
+use Rattle.job_calls.specs.Runs.{Start, last_of, last_given, loaded_source, source_of_model, start_of_run, source_started, finish}
 use Rattle.job_calls.specs.Models.{loads, is_loading, run_of_model, is_live, live_runs, current_run, stopped_model, asks}
 use Rattle.growing_lists.specs.Growing.{last_given-snoc, last_place-snoc, as_number, count-snoc, any-snoc, moments-snoc}
 use Rattle.model_table.specs.declared.model.Model.{Model}
@@ -26,7 +26,7 @@ use Rattle.model_table.specs.Tables.{model_at, run_at, lane_at, IsLaneAfter, is_
 use Rattle.model_table.specs.Index.{IsModelOf, IsRunOf, IsLaneOf, IsIndexOf, IsTold, IsTallied, gives_run, makes_image, more}
 use Rattle.model_table.proofs.Lives.{lives_noted, few_lives}
 
-unwrap_later : {A : Type 0} (old new : Option A) (d : A) → unwrap_or (later old new) d ≡ unwrap_or new (unwrap_or old d)
+unwrap_later : {A : Type 0} (old new : Option A) (d : A) → unwrap_or (last_of old new) d ≡ unwrap_or new (unwrap_or old d)
 unwrap_later old None d = refl
 unwrap_later old (Some x) d = refl
 
@@ -38,12 +38,12 @@ told_loaded call model source = refl
 -- a model, one more entry noted
 model_noted : (m : ℕ) (old new : Model) (journal : List Entry) (e : Entry) → IsModelAfter old new m e → IsModelOf old m journal → IsModelOf new m (journal ++ e ∷ [])
 model_noted m old new journal e told is = record {
-  source = told.source ∙ ap (λ o. later o (loaded_source m e.reply)) is.source ∙ sym (last_given-snoc (λ (x : Entry). loaded_source m x.reply) journal e);
+  source = told.source ∙ ap (λ o. last_of o (loaded_source m e.reply)) is.source ∙ sym (last_given-snoc (λ (x : Entry). loaded_source m x.reply) journal e);
   loaded = told.loaded
       ∙ ap (unwrap_or (loads m e.call e.reply)) is.loaded
       ∙ sym (ap (λ o. unwrap_or o false) (last_given-snoc (λ (x : Entry). loads m x.call x.reply) journal e)
       ∙ unwrap_later (last_given (λ (x : Entry). loads m x.call x.reply) journal) (loads m e.call e.reply) false);
-  current = told.current ∙ ap (λ o. later o (run_of_model m e)) is.current ∙ sym (last_given-snoc (run_of_model m) journal e);
+  current = told.current ∙ ap (λ o. last_of o (run_of_model m e)) is.current ∙ sym (last_given-snoc (run_of_model m) journal e);
 }
 
 -- whether a run is live
@@ -74,9 +74,9 @@ ended_by : (call : Call) → is_some (finish call) ≡ is_finish call
 ended_by (Finish end) = refl
 ended_by call = refl
 
-later_some : (old : Option End) (told : Bool) (call : Call) → is_some (later old (if told then finish call else None)) ≡ (is_some old || (told && is_finish call))
+later_some : (old : Option End) (told : Bool) (call : Call) → is_some (last_of old (if told then finish call else None)) ≡ (is_some old || (told && is_finish call))
 later_some old true call = or_some old (finish call) ∙ ap (λ b. is_some old || b) (ended_by call) where
-  or_some : (a b : Option End) → is_some (later a b) ≡ (is_some a || is_some b)
+  or_some : (a b : Option End) → is_some (last_of a b) ≡ (is_some a || is_some b)
   or_some None None = refl
   or_some (Some x) None = refl
   or_some None (Some y) = refl
@@ -91,9 +91,9 @@ run_noted k t new journal e told is =
     let last : Moment = record { before = journal; entry = e } in record {
       start = told.start ∙ (λ j. if starts_run k e then Some (is.count j) else run.start j) ∙ sym (last_place-snoc (starts_run k) journal e);
       source = told.source
-          ∙ (λ j. later (run.source j) (source_is t journal k e is j))
+          ∙ (λ j. last_of (run.source j) (source_is t journal k e is j))
           ∙ sym (ap (last_given (source_started k)) (moments-snoc journal e) ∙ last_given-snoc (source_started k) (moments journal) last);
-      end = told.end ∙ ap (λ o. later o (end_told k e)) run.end ∙ sym (last_given-snoc (end_told k) journal e);
+      end = told.end ∙ ap (λ o. last_of o (end_told k e)) run.end ∙ sym (last_given-snoc (end_told k) journal e);
       ended = ap is_some told.end
           ∙ later_some (run_at t k).end (is_run k e.run) e.call
           ∙ ap (λ b. b || (is_run k e.run && is_finish e.call)) run.ended

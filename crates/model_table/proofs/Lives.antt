@@ -10,7 +10,7 @@ use Rattle.std.proofs.lemmas.List.Sums.{length-filter, count_by-le-length}
 use Rattle.job_calls.specs.declared.call.Call.{Call}
 use Rattle.job_calls.specs.declared.call.Call.TheVariants.{Finish}
 use Rattle.job_calls.specs.declared.entry.Entry.{Entry}
-use Rattle.job_calls.specs.Words.{is_run, is_finish, is_finished, is_started, run_count}
+use Rattle.job_calls.specs.Entries.{is_run, is_finish, is_finished, is_started, run_count}
 use Rattle.job_calls.specs.Models.{is_live, live_runs}
 use Rattle.model_table.specs.Tables.{ender}
 use Rattle.growing_lists.specs.Growing.{as_number, any-snoc, count-cons, count-snoc}

@@ -8,7 +8,7 @@ use Rattle.job_calls.specs.declared.reply.Reply.{Reply}
 use Rattle.job_calls.specs.declared.reply.Reply.TheVariants.{Claimed}
 use Rattle.job_calls.specs.declared.entry.Entry.{Entry}
 use Rattle.job_calls.specs.Moments.{moments}
-use Rattle.job_calls.specs.Words.{is_claimed, is_run, is_last, own_entries, is_started, is_finished, is_quit, has_quit}
+use Rattle.job_calls.specs.Entries.{is_claimed, is_run, is_last, own_entries, is_started, is_finished, is_quit, has_quit}
 use Rattle.job_calls.specs.Runs.{last_given, source_of_model, source_started, finish_of}
 use Rattle.job_calls.specs.Models.{compiled_to, is_loading, loaded_count, is_loaded, current_run, live_runs, asks, end_status}
 use Rattle.job_calls.specs.Blocks.{last_place}

@@ -2,8 +2,8 @@
 
 use Rattle.std.specs.Prelude.{◌≡◌, ℕ, Bool, true, false, ◌||◌, List, Option, Some, None, nat_eq, length, slice_index_or, if◌then◌else◌}
 use Rattle.job_calls.specs.declared.end.End.{End}
-use Rattle.job_calls.specs.Words.{is_run}
-use Rattle.job_calls.specs.Runs.{later}
+use Rattle.job_calls.specs.Entries.{is_run}
+use Rattle.job_calls.specs.Runs.{last_of}
 use Rattle.model_table.specs.declared.lane.Lane.{Lane}
 use Rattle.model_table.specs.declared.model.Model.{Model}
 use Rattle.model_table.specs.declared.run.Run.{Run}
@@ -54,7 +54,7 @@ source_in (Some told) k = if nat_eq told.0 k then told.1 else None
 pub record HasEnded (old new : List Run) (told : Option (ℕ × End)) : Type 0 where
   pub start : (k : ℕ) → (run_of new k).start ≡ (run_of old k).start
   pub source : (k : ℕ) → (run_of new k).source ≡ (run_of old k).source
-  pub end : (k : ℕ) → (run_of new k).end ≡ later (run_of old k).end (end_in told k)
+  pub end : (k : ℕ) → (run_of new k).end ≡ last_of (run_of old k).end (end_in told k)
   pub asked : (k : ℕ) → (run_of new k).asked ≡ (run_of old k).asked
   pub over : (k : ℕ) → (run_of new k).over ≡ (run_of old k).over
   pub places : length new ≡ length old
@@ -62,7 +62,7 @@ pub record HasEnded (old new : List Run) (told : Option (ℕ × End)) : Type 0 w
 -- the run was started from this source by the entry at this place, if one was
 pub record HasStarted (old new : List Run) (told : Option (ℕ × Option ℕ)) (place : ℕ) : Type 0 where
   pub start : (k : ℕ) → (run_of new k).start ≡ (if is_started_in told k then Some place else (run_of old k).start)
-  pub source : (k : ℕ) → (run_of new k).source ≡ later (run_of old k).source (source_in told k)
+  pub source : (k : ℕ) → (run_of new k).source ≡ last_of (run_of old k).source (source_in told k)
   pub end : (k : ℕ) → (run_of new k).end ≡ (run_of old k).end
   pub asked : (k : ℕ) → (run_of new k).asked ≡ (run_of old k).asked
   pub over : (k : ℕ) → (run_of new k).over ≡ (run_of old k).over

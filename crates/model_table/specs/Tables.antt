@@ -8,8 +8,8 @@ use Rattle.job_calls.specs.declared.end.End.{End}
 use Rattle.job_calls.specs.declared.reply.Reply.{Reply}
 use Rattle.job_calls.specs.declared.reply.Reply.TheVariants.{Claimed, Done, Loaded, Started}
 use Rattle.job_calls.specs.declared.entry.Entry.{Entry}
-use Rattle.job_calls.specs.Words.{is_run, is_started, is_last, is_done}
-use Rattle.job_calls.specs.Runs.{Start, later, loaded_source, start_of_run, finish}
+use Rattle.job_calls.specs.Entries.{is_run, is_started, is_last, is_done}
+use Rattle.job_calls.specs.Runs.{Start, last_of, loaded_source, start_of_run, finish}
 use Rattle.job_calls.specs.Models.{loads, run_of_model, stopped_model}
 use Rattle.job_calls.specs.Fitting.{held_after}
 use Rattle.model_table.specs.declared.lane.Lane.{Lane}
@@ -77,15 +77,15 @@ starts_in table e = is_started e.reply && not (is_some (run_at table (table.star
 
 -- model m after one more entry
 pub record IsModelAfter (old new : Model) (m : ℕ) (e : Entry) : Type 0 where
-  pub source : new.source ≡ later old.source (loaded_source m e.reply)
+  pub source : new.source ≡ last_of old.source (loaded_source m e.reply)
   pub loaded : new.loaded ≡ unwrap_or (loads m e.call e.reply) old.loaded
-  pub current : new.current ≡ later old.current (run_of_model m e)
+  pub current : new.current ≡ last_of old.current (run_of_model m e)
 
 -- run k after one more entry
 pub record IsRunAfter (table : ModelTable) (new : Run) (k : ℕ) (e : Entry) : Type 0 where
   pub start : new.start ≡ (if starts_run k e then Some table.count else (run_at table k).start)
-  pub source : new.source ≡ later (run_at table k).source (source_told table k e)
-  pub end : new.end ≡ later (run_at table k).end (end_told k e)
+  pub source : new.source ≡ last_of (run_at table k).source (source_told table k e)
+  pub end : new.end ≡ last_of (run_at table k).end (end_told k e)
   pub asked : new.asked ≡ ((run_at table k).asked || asks_in table k e)
   pub over : new.over ≡ ((run_at table k).over || (is_run k e.run && is_last e.reply))
 

@@ -1,6 +1,6 @@
 //! What an entry tells of runs by what the table says of models.
 ghost use Rattle.std.specs.Prelude.{◌≡◌, ◌<◌, ◌+◌, ◌^◌, ◌&&◌, ℕ, Some, IfSome, length};
-ghost use Rattle.job_calls.specs.Words.{is_run};
+ghost use Rattle.job_calls.specs.Entries.{is_run};
 ghost use Rattle.model_table.specs.Tables as tables;
 ghost use Rattle.model_table.specs.Tables.{model_at, run_at, lane_at, is_live_in};
 ghost use Rattle.model_table.specs.Steps.{is_started_in, source_in};

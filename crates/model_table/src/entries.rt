@@ -1,7 +1,7 @@
 //! What an entry tells of models and runs.
 ghost use Rattle.std.specs.Prelude.{◌≡◌, ◌&&◌, ℕ, List, Some, IfSome, MatchOption, false};
 ghost use Rattle.std.specs.Str.{bytes_eq};
-ghost use Rattle.job_calls.specs.Words.{is_run, is_last, is_started, is_quit};
+ghost use Rattle.job_calls.specs.Entries.{is_run, is_last, is_started, is_quit};
 ghost use Rattle.job_calls.specs.Models.{is_loading};
 ghost use Rattle.model_table.specs.Tables as tables;
 ghost use Rattle.model_table.specs.Steps.{end_in};

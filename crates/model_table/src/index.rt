@@ -1,7 +1,7 @@
 //! How the table takes an entry.
 ghost use Rattle.std.specs.Prelude.{◌≡◌, ◌<◌, ◌≤◌, ◌+◌, ◌-◌, ◌^◌, ◌++◌, [], ◌∷◌, ℕ, List, Some, true, slice_index_or, IfOk, OnOk, OnErr, IsOk, length};
 ghost use Rattle.job_calls.specs.declared.entry.Entry.{Entry};
-ghost use Rattle.job_calls.specs.Words as words;
+ghost use Rattle.job_calls.specs.Entries as entries;
 ghost use Rattle.growing_lists.specs.Growing.{as_number};
 ghost use Rattle.model_table.specs.Tables as tables;
 ghost use Rattle.model_table.specs.Tables.{unknown_run};
@@ -99,7 +99,7 @@ impl ModelTable {
 
     /// Counts the entry, by which a live run ends or a run starts.
     fn tally(&mut self, entry: &Entry, ends: bool, starts: bool)
-        requires { words.is_started entry.now.reply ≡ true
+        requires { entries.is_started entry.now.reply ≡ true
             → more self.old.started true < length self.old.runs.items }
         ensures { IsTallied self.old self.new entry.now ends starts }
     {
@@ -119,7 +119,7 @@ fn ready_runs(runs: &mut Vec<Run>, entry: &Entry, next: u32) -> Result<(), NoMem
         → k < length runs.new.items) }
     ensures over { OnOk result ((k : ℕ) → tables.over_told entry.now.run entry.now.reply ≡ Some k
         → k < length runs.new.items) }
-    ensures next { OnOk result (words.is_started entry.now.reply ≡ true
+    ensures next { OnOk result (entries.is_started entry.now.reply ≡ true
         → next < length runs.new.items) }
     ensures same { (k : ℕ) → slice_index_or runs.new.items k unknown_run
         ≡ slice_index_or runs.old.items k unknown_run }
@@ -128,7 +128,7 @@ fn ready_runs(runs: &mut Vec<Run>, entry: &Entry, next: u32) -> Result<(), NoMem
         → k < length runs.old.items)
         → ((k : ℕ) → tables.over_told entry.now.run entry.now.reply ≡ Some k
         → k < length runs.old.items)
-        → (words.is_started entry.now.reply ≡ true → next < length runs.old.items) → IsOk result }
+        → (entries.is_started entry.now.reply ≡ true → next < length runs.old.items) → IsOk result }
 {
     cover_told(runs, run_told(entry), Run::UNKNOWN)?;
     cover_told(runs, run_over(entry), Run::UNKNOWN)?;

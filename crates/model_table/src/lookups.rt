@@ -1,7 +1,7 @@
 //! What the table is asked.
 ghost use Rattle.std.specs.Prelude.{◌≡◌, ◌<◌, ◌^◌, List, length, option_map};
 ghost use Rattle.job_calls.specs.declared.entry.Entry.{Entry};
-ghost use Rattle.job_calls.specs.Words as words;
+ghost use Rattle.job_calls.specs.Entries as entries;
 ghost use Rattle.job_calls.specs.Runs as runs;
 ghost use Rattle.job_calls.specs.Models as models;
 ghost use Rattle.job_calls.specs.Fitting as fitting;
@@ -68,7 +68,7 @@ impl ModelTable {
     /// The runs that there are, run 0 included.
     pub fn run_count(&self) -> u32
         ensures { (journal : List Entry) → IsIndexOf self.now journal
-            → length journal < 2 ^ 31 → result ≡ words.run_count journal }
+            → length journal < 2 ^ 31 → result ≡ entries.run_count journal }
     {
         self.started.saturating_add(1)
     }
@@ -92,7 +92,7 @@ impl ModelTable {
     /// The run has ended.
     pub fn is_finished(&self, run: u32) -> bool
         ensures { (journal : List Entry) → IsIndexOf self.now journal
-            → result ≡ words.is_finished run journal }
+            → result ≡ entries.is_finished run journal }
     {
         self.run(run).end.is_some()
     }
@@ -146,7 +146,7 @@ impl ModelTable {
     /// The live run that the lane holds.
     pub fn held_run(&self, lane: u32) -> Option<u32>
         ensures { (journal : List Entry) → IsIndexOf self.now journal → result
-            ≡ fitting.held_run (words.own_entries lane journal) }
+            ≡ fitting.held_run (entries.own_entries lane journal) }
     {
         self.lane(lane).held
     }
@@ -154,7 +154,7 @@ impl ModelTable {
     /// The lane was told that the job is done.
     pub fn was_done(&self, lane: u32) -> bool
         ensures { (journal : List Entry) → IsIndexOf self.now journal → result
-            ≡ fitting.was_done (words.own_entries lane journal) }
+            ≡ fitting.was_done (entries.own_entries lane journal) }
     {
         self.lane(lane).done
     }
@@ -162,7 +162,7 @@ impl ModelTable {
     /// A lane was given the run.
     pub fn is_claimed(&self, run: u32) -> bool
         ensures { (journal : List Entry) → IsIndexOf self.now journal
-            → GivesInOrder journal → result ≡ words.is_claimed run journal }
+            → GivesInOrder journal → result ≡ entries.is_claimed run journal }
     {
         run < self.claimed
     }
@@ -170,7 +170,7 @@ impl ModelTable {
     /// The least run that no lane was given.
     pub fn unclaimed(&self) -> Option<u32>
         ensures { (journal : List Entry) → IsIndexOf self.now journal
-            → GivesInOrder journal → result ≡ words.unclaimed journal }
+            → GivesInOrder journal → result ≡ entries.unclaimed_run journal }
     {
         let claimed = self.claimed;
         let started = self.started;
@@ -184,7 +184,7 @@ impl ModelTable {
     /// The job was ended before its time.
     pub fn has_quit(&self) -> bool
         ensures { (journal : List Entry) → IsIndexOf self.now journal
-            → result ≡ words.has_quit journal }
+            → result ≡ entries.has_quit journal }
     {
         self.quit
     }

@@ -1,7 +1,7 @@
 //! What an entry makes of models and runs.
 ghost use Rattle.std.specs.Prelude.{◌≡◌, ◌<◌, ◌||◌, ℕ, Some, IfSome, length, slice_index_or, if◌then◌else◌};
-ghost use Rattle.job_calls.specs.Words.{is_run};
-ghost use Rattle.job_calls.specs.Runs.{later};
+ghost use Rattle.job_calls.specs.Entries.{is_run};
+ghost use Rattle.job_calls.specs.Runs.{last_of};
 ghost use Rattle.model_table.specs.Tables.{unknown_model, model_told, IsModelAfter};
 ghost use Rattle.model_table.specs.Steps.{run_of, IsLoaded, IsUnloaded, IsCurrent, end_in, is_started_in, source_in, HasEnded, HasStarted, WasAsked, IsOver};
 
@@ -177,9 +177,9 @@ pub(crate) fn tell_runs(runs: &mut Vec<Run>, told: Told, place: u32)
     ensures start { (k : ℕ) → (run_of runs.new.items k).start
         ≡ (if is_started_in told.started k then Some place else (run_of runs.old.items k).start) }
     ensures source { (k : ℕ) → (run_of runs.new.items k).source
-        ≡ later (run_of runs.old.items k).source (source_in told.started k) }
+        ≡ last_of (run_of runs.old.items k).source (source_in told.started k) }
     ensures end { (k : ℕ) → (run_of runs.new.items k).end
-        ≡ later (run_of runs.old.items k).end (end_in told.ended k) }
+        ≡ last_of (run_of runs.old.items k).end (end_in told.ended k) }
     ensures asked { (k : ℕ) → (run_of runs.new.items k).asked
         ≡ ((run_of runs.old.items k).asked || is_run k told.asked) }
     ensures over { (k : ℕ) → (run_of runs.new.items k).over

@@ -10,7 +10,7 @@ use Rattle.mos_tree.specs.declared.expr.Expr.TheViews.{roll-Expr}
 use Rattle.mos_value.specs.Answers.{sum, difference, compare}
 use Rattle.mos_value.specs.Answers as comparison
 use Rattle.mos_meaning.specs.Syntax.{Expression, number, text, truth, variable, index, apply, range_of, sum_over, invoke, ask_hub, unbuilt}
-use Rattle.mos_meaning.specs.Sources.{operator_of, applied, expression, expression_step}
+use Rattle.mos_meaning.specs.Sources.{operator_of, application, expression, expression_step}
 use Rattle.mos_check.specs.declared.form.Form.{Form}
 use Rattle.mos_check.specs.declared.form.Form.TheVariants as form
 use Rattle.mos_check.specs.Forms.{of_sums, form_of_binary, form_step, form_of, is_sum, is_condition, is_shown}
@@ -37,7 +37,7 @@ with-sums made form.Sum _ names left right whole go h k = tt
 with-sums made _ b names left right whole go h k = tt
 
 binary-is : (op : BinaryOperator) (a b : Form) (names : Names) (left right : Expression) → Is a names left → Is b names right
-    → Is (form_of_binary op a b) names (applied (operator_of op) left right)
+    → Is (form_of_binary op a b) names (application (operator_of op) left right)
 binary-is Plus a b names left right h k = with-sums form.Sum a b names left right (apply sum left right) (λ x y. (tt, x, y)) h k
 binary-is Minus a b names left right h k = with-sums form.Sum a b names left right (apply difference left right) (λ x y. (tt, x, y)) h k
 binary-is Equal a b names left right h k = with-sums form.Condition a b names left right (apply (compare comparison.equal) left right) (λ x y. (x, y)) h k

@@ -4,24 +4,24 @@ use Rattle.std.proofs.Common.{◌≡◌, ℕ, ◌+◌, ◌≤◌, max, false, Li
 use Rattle.mos_tree.specs.declared.expr.Expr.{Expr}
 use Rattle.mos_tree.specs.declared.expr.Group.{Group}
 use Rattle.mos_tree.specs.declared.expr.BinaryOperator.{BinaryOperator}
-use Rattle.mos_scan.specs.declared.token.TokenKind.TheVariants as t
-use Rattle.mos_scan.specs.declared.reading.Word.{Word}
-use Rattle.mos_scan.specs.declared.reading.Word.TheVariants as w
-use Rattle.mos_expr.specs.Grammar.{Names, and_name, Syntax, Written, one_more, Over, another, level, left_of, takes, tree, trees, height, heights, height_over, groups_of, condition_of, index_of, IsGrouped, AreGrouped, IsGroupedOver, spell, spell_before, spell_between, spell_aggregate, spell_conversion, spell_names, spell_list, spell_rest, spell_over, list_of_names}
-use Rattle.mos_expr.specs.Machine.{State, Settled}
-use Rattle.mos_expr.specs.Operands as o
+use Rattle.mos_scan.specs.declared.token.TokenKind.TheVariants as token_kind
+use Rattle.mos_scan.specs.declared.grammar_word.Word.{Word}
+use Rattle.mos_scan.specs.declared.grammar_word.Word.TheVariants as word_kind
+use Rattle.mos_expr.specs.Grammar.{Names, and_name, Syntax, SyntaxList, syntax_then, IndexSyntax, another, level, left_of, takes, tree, trees, height, heights, height_index, groups_of, condition_of, index_of, IsGrouped, AreGrouped, IsGroupedIndex, spell, spell_before, spell_between, spell_aggregate, spell_conversion, spell_names, spell_list, spell_rest, spell_index, list_of_names}
+use Rattle.mos_expr.specs.Machine.{State, FoldResult}
+use Rattle.mos_expr.specs.Operands as operands
 use Rattle.mos_expr.specs.declared.operand.Operand.{Operand}
 use Rattle.mos_expr.specs.declared.operand.Parts.{Parts}
 use Rattle.mos_expr.specs.declared.operand.Groups.{Groups}
 use Rattle.mos_expr.specs.declared.operand.WholeIndex.{WholeIndex}
 use Rattle.mos_expr.specs.declared.frame.IndexKind.{IndexKind}
-use Rattle.mos_expr.specs.declared.frame.IndexKind.TheVariants as i
+use Rattle.mos_expr.specs.declared.frame.IndexKind.TheVariants as index_kind
 use Rattle.mos_expr.specs.declared.frame.ListKind.{ListKind}
-use Rattle.mos_expr.specs.declared.frame.ListKind.TheVariants as lk
+use Rattle.mos_expr.specs.declared.frame.ListKind.TheVariants as list_kind
 use Rattle.mos_expr.specs.declared.frame.Frame.{Frame}
-use Rattle.mos_expr.specs.declared.frame.Frame.TheVariants as f
+use Rattle.mos_expr.specs.declared.frame.Frame.TheVariants as frame_kind
 use Rattle.mos_expr.specs.declared.frame.Mode.{Mode}
-use Rattle.mos_expr.specs.declared.frame.Mode.TheVariants as m
+use Rattle.mos_expr.specs.declared.frame.Mode.TheVariants as mode_kind
 use Rattle.mos_expr.proofs.Values.{whole, parts_at, groups_at, index_at, group_of, parts-whole, groups-whole}
 
 -- ---- what is begun
@@ -34,15 +34,15 @@ pub record Whole (x : Operand) : Type 0 where
 
 -- expressions that were read before another one, each with its comma
 pub record PartsBefore (parts : Parts) : Type 0 where
-  pub with_more : Written → Written
+  pub with_more : SyntaxList → SyntaxList
   pub words : List Word → List Word
   pub h : ℕ
   pub xs : List Expr
   pub is : parts ≡ parts_at h xs
-  pub grouped : (ss : Written) → AreGrouped ss → AreGrouped (with_more ss)
-  pub spelled : (s : Syntax) (ss : Written) (rest : List Word) → spell_list (with_more (one_more s ss)) ++ rest ≡ words (spell s ++ (spell_rest ss ++ rest))
-  pub high : (ss : Written) → heights (with_more ss) ≡ max h (heights ss)
-  pub made : (ss : Written) → trees (with_more ss) ≡ xs ++ trees ss
+  pub grouped : (ss : SyntaxList) → AreGrouped ss → AreGrouped (with_more ss)
+  pub spelled : (s : Syntax) (ss : SyntaxList) (rest : List Word) → spell_list (with_more (syntax_then s ss)) ++ rest ≡ words (spell s ++ (spell_rest ss ++ rest))
+  pub high : (ss : SyntaxList) → heights (with_more ss) ≡ max h (heights ss)
+  pub made : (ss : SyntaxList) → trees (with_more ss) ≡ xs ++ trees ss
 
 -- names that were read before another one, each with its comma
 pub record NamesBefore (names : List (List ℕ)) : Type 0 where
@@ -53,20 +53,20 @@ pub record NamesBefore (names : List (List ℕ)) : Type 0 where
 
 -- sets of an index that were read before another one, each with its names and its comma
 pub record SetsBefore (groups : Groups) : Type 0 where
-  pub with_more : Over → Over
+  pub with_more : IndexSyntax → IndexSyntax
   pub words : List Word → List Word
   pub h : ℕ
   pub gs : List (Group Expr)
   pub is : groups ≡ groups_at h gs
-  pub grouped : (over : Over) → IsGroupedOver over → IsGroupedOver (with_more over)
-  pub spelled : (over : Over) (rest : List Word) → spell_over (with_more over) ++ rest ≡ words (spell_over over ++ rest)
-  pub high : (over : Over) → height_over (with_more over) ≡ max h (height_over over)
-  pub made : (over : Over) → groups_of (with_more over) ≡ gs ++ groups_of over
-  pub condition : (over : Over) → condition_of (with_more over) ≡ condition_of over
+  pub grouped : (over : IndexSyntax) → IsGroupedIndex over → IsGroupedIndex (with_more over)
+  pub spelled : (over : IndexSyntax) (rest : List Word) → spell_index (with_more over) ++ rest ≡ words (spell_index over ++ rest)
+  pub high : (over : IndexSyntax) → height_index (with_more over) ≡ max h (height_index over)
+  pub made : (over : IndexSyntax) → groups_of (with_more over) ≡ gs ++ groups_of over
+  pub condition : (over : IndexSyntax) → condition_of (with_more over) ≡ condition_of over
 
 -- ---- nothing before, and one more
 
-abbrev pub no_parts_before : PartsBefore o.no_parts
+abbrev pub no_parts_before : PartsBefore operands.no_parts
 no_parts_before = record {
   with_more = λ ss. ss;
   words = λ ws. ws;
@@ -79,17 +79,17 @@ no_parts_before = record {
   made = λ ss. refl;
 }
 
-abbrev pub part_before : (parts : Parts) (p : PartsBefore parts) (s : Syntax) → IsGrouped s → PartsBefore (o.parts_with parts (whole s))
+abbrev pub part_before : (parts : Parts) (p : PartsBefore parts) (s : Syntax) → IsGrouped s → PartsBefore (operands.parts_with parts (whole s))
 part_before parts p s g = record {
-  with_more = λ ss. p.with_more (one_more s ss);
-  words = λ ws. p.words (spell s ++ w.Key t.Comma ∷ ws);
+  with_more = λ ss. p.with_more (syntax_then s ss);
+  words = λ ws. p.words (spell s ++ word_kind.Key token_kind.Comma ∷ ws);
   h = max p.h (height s);
   xs = p.xs ++ tree s ∷ [];
-  is = ap (λ q. o.parts_with q (whole s)) p.is ∙ parts-whole p.h p.xs s;
-  grouped = λ ss gs. p.grouped (one_more s ss) (g, gs);
-  spelled = λ x xs rest. p.spelled s (one_more x xs) rest ∙ ap (λ z. p.words (spell s ++ w.Key t.Comma ∷ z)) (append_assoc (spell x) (spell_rest xs) rest);
-  high = λ ss. p.high (one_more s ss) ∙ (let e : max p.h (max (height s) (heights ss)) ≡ max (max p.h (height s)) (heights ss) = omega arith in e);
-  made = λ ss. p.made (one_more s ss) ∙ sym (append_assoc p.xs (tree s ∷ []) (trees ss));
+  is = ap (λ q. operands.parts_with q (whole s)) p.is ∙ parts-whole p.h p.xs s;
+  grouped = λ ss gs. p.grouped (syntax_then s ss) (g, gs);
+  spelled = λ x xs rest. p.spelled s (syntax_then x xs) rest ∙ ap (λ z. p.words (spell s ++ word_kind.Key token_kind.Comma ∷ z)) (append_assoc (spell x) (spell_rest xs) rest);
+  high = λ ss. p.high (syntax_then s ss) ∙ (let e : max p.h (max (height s) (heights ss)) ≡ max (max p.h (height s)) (heights ss) = omega arith in e);
+  made = λ ss. p.made (syntax_then s ss) ∙ sym (append_assoc p.xs (tree s ∷ []) (trees ss));
 }
 
 abbrev pub no_names_before : NamesBefore []
@@ -103,12 +103,12 @@ no_names_before = record {
 abbrev pub name_before : (names : List (List ℕ)) → NamesBefore names → (n : List ℕ) → NamesBefore (names ++ n ∷ [])
 name_before names p n = record {
   with_more = λ ns. p.with_more (and_name n ns);
-  words = λ ws. p.words (w.Name n ∷ w.Key t.Comma ∷ ws);
+  words = λ ws. p.words (word_kind.Name n ∷ word_kind.Key token_kind.Comma ∷ ws);
   spelled = λ ns rest. p.spelled (and_name n ns) rest;
   made = λ ns. p.made (and_name n ns) ∙ sym (append_assoc names (n ∷ []) (list_of_names ns));
 }
 
-abbrev pub no_sets_before : SetsBefore o.no_groups
+abbrev pub no_sets_before : SetsBefore operands.no_groups
 no_sets_before = record {
   with_more = λ over. over;
   words = λ ws. ws;
@@ -122,16 +122,16 @@ no_sets_before = record {
   condition = λ over. refl;
 }
 
-abbrev pub set_before : (groups : Groups) (p : SetsBefore groups) (ns : Names) (s : Syntax) → level s ≤ 5 → IsGrouped s → SetsBefore (o.groups_with groups (list_of_names ns) (whole s))
+abbrev pub set_before : (groups : Groups) (p : SetsBefore groups) (ns : Names) (s : Syntax) → level s ≤ 5 → IsGrouped s → SetsBefore (operands.groups_with groups (list_of_names ns) (whole s))
 set_before groups p ns s l g = record {
   with_more = λ over. p.with_more (another ns s over);
-  words = λ ws. p.words (spell_names ns ++ w.Key t.In ∷ (spell s ++ w.Key t.Comma ∷ ws));
+  words = λ ws. p.words (spell_names ns ++ word_kind.Key token_kind.In ∷ (spell s ++ word_kind.Key token_kind.Comma ∷ ws));
   h = max p.h (height s + 1);
   gs = p.gs ++ group_of (list_of_names ns) s ∷ [];
-  is = ap (λ q. o.groups_with q (list_of_names ns) (whole s)) p.is ∙ groups-whole p.h p.gs (list_of_names ns) s;
+  is = ap (λ q. operands.groups_with q (list_of_names ns) (whole s)) p.is ∙ groups-whole p.h p.gs (list_of_names ns) s;
   grouped = λ over gs. p.grouped (another ns s over) (l, g, gs);
-  spelled = λ over rest. p.spelled (another ns s over) rest ∙ ap p.words (append_assoc (spell_names ns) (w.Key t.In ∷ (spell s ++ w.Key t.Comma ∷ spell_over over)) rest ∙ ap (λ z. spell_names ns ++ w.Key t.In ∷ z) (append_assoc (spell s) (w.Key t.Comma ∷ spell_over over) rest));
-  high = λ over. p.high (another ns s over) ∙ (let e : max p.h (max (height s + 1) (height_over over)) ≡ max (max p.h (height s + 1)) (height_over over) = omega arith in e);
+  spelled = λ over rest. p.spelled (another ns s over) rest ∙ ap p.words (append_assoc (spell_names ns) (word_kind.Key token_kind.In ∷ (spell s ++ word_kind.Key token_kind.Comma ∷ spell_index over)) rest ∙ ap (λ z. spell_names ns ++ word_kind.Key token_kind.In ∷ z) (append_assoc (spell s) (word_kind.Key token_kind.Comma ∷ spell_index over) rest));
+  high = λ over. p.high (another ns s over) ∙ (let e : max p.h (max (height s + 1) (height_index over)) ≡ max (max p.h (height s + 1)) (height_index over) = omega arith in e);
   made = λ over. p.made (another ns s over) ∙ sym (append_assoc p.gs (group_of (list_of_names ns) s ∷ []) (groups_of over));
   condition = λ over. p.condition (another ns s over);
 }
@@ -148,13 +148,13 @@ pub record LastSet (groups : Groups) : Type 0 where
 
 -- a whole index
 pub record SpelledIndex (ready : WholeIndex) : Type 0 where
-  pub over : Over
-  pub grouped : IsGroupedOver over
-  pub is : ready ≡ index_at (height_over over) (index_of over)
+  pub over : IndexSyntax
+  pub grouped : IsGroupedIndex over
+  pub is : ready ≡ index_at (height_index over) (index_of over)
 
 -- expressions between brackets
 pub record WholeParts (parts : Parts) : Type 0 where
-  pub written : Written
+  pub written : SyntaxList
   pub grouped : AreGrouped written
   pub is : parts ≡ parts_at (heights written) (trees written)
 
@@ -162,51 +162,51 @@ pub record WholeParts (parts : Parts) : Type 0 where
 
 -- the words that begin expressions with commas between them
 abbrev pub begin_list : ListKind → List Word → List Word
-begin_list (lk.Call n) ws = w.Name n ∷ w.Key t.OpenRound ∷ ws
-begin_list lk.Set ws = w.Key t.OpenCurly ∷ ws
-begin_list lk.List ws = w.Key t.OpenSquare ∷ ws
-begin_list lk.Bare ws = ws
+begin_list (list_kind.Call n) ws = word_kind.Name n ∷ word_kind.Key token_kind.OpenRound ∷ ws
+begin_list list_kind.Set ws = word_kind.Key token_kind.OpenCurly ∷ ws
+begin_list list_kind.List ws = word_kind.Key token_kind.OpenSquare ∷ ws
+begin_list list_kind.Bare ws = ws
 
 -- the words that begin an index
 abbrev pub begin_index : IndexKind → List Word → List Word
-begin_index (i.Aggregate op) ws = spell_aggregate op ∷ w.Key t.OpenRound ∷ ws
-begin_index i.Count ws = w.Key t.Count ∷ w.Key t.OpenRound ∷ ws
-begin_index i.Loop ws = ws
+begin_index (index_kind.Aggregate op) ws = spell_aggregate op ∷ word_kind.Key token_kind.OpenRound ∷ ws
+begin_index index_kind.Count ws = word_kind.Key token_kind.Count ∷ word_kind.Key token_kind.OpenRound ∷ ws
+begin_index index_kind.Loop ws = ws
 
 -- all words are what the frames have read, and then these
 abbrev pub Holds : List Frame → List Word → List Word → Type 0
 Holds [] rest all = all ≡ rest
-Holds (f.Bracket ∷ fs) rest all = Holds fs (w.Key t.OpenRound ∷ rest) all
-Holds (f.Listed list parts ∷ fs) rest all = (p : PartsBefore parts) × Holds fs (begin_list list (p.words rest)) all
-Holds (f.IfExpr ∷ fs) rest all = Holds fs (w.Key t.If ∷ w.Key t.OpenRound ∷ rest) all
-Holds (f.IfFirst a ∷ fs) rest all = (x : Whole a) × Holds fs (w.Key t.If ∷ w.Key t.OpenRound ∷ (spell x.syntax ++ w.Key t.Comma ∷ rest)) all
-Holds (f.IfSecond a b ∷ fs) rest all = (x : Whole a) × (y : Whole b) × Holds fs (w.Key t.If ∷ w.Key t.OpenRound ∷ (spell x.syntax ++ w.Key t.Comma ∷ (spell y.syntax ++ w.Key t.Comma ∷ rest))) all
-Holds (f.Convert to ∷ fs) rest all = Holds fs (spell_conversion to ∷ w.Key t.OpenRound ∷ rest) all
-Holds (f.Before op ∷ fs) rest all = Holds fs (spell_before op ∷ rest) all
-Holds (f.Between op a ∷ fs) rest all = (x : Whole a) × (level x.syntax ≤ left_of op) × (takes x.syntax op ≡ false) × Holds fs (spell x.syntax ++ (spell_between op ++ rest)) all
-Holds (f.IndexSet kind groups names ∷ fs) rest all = (sets : SetsBefore groups) × (ns : Names) × (names ≡ list_of_names ns) × Holds fs (begin_index kind (sets.words (spell_names ns ++ w.Key t.In ∷ rest))) all
-Holds (f.IndexCondition kind groups ∷ fs) rest all = (last : LastSet groups) × Holds fs (begin_index kind (last.sets.words (spell_names last.names ++ w.Key t.In ∷ (spell last.syntax ++ w.Key t.Bar ∷ rest)))) all
-Holds (f.Body op ready ∷ fs) rest all = (x : SpelledIndex ready) × Holds fs (spell_aggregate op ∷ w.Key t.OpenRound ∷ (spell_over x.over ++ w.Key t.CloseRound ∷ rest)) all
+Holds (frame_kind.Bracket ∷ fs) rest all = Holds fs (word_kind.Key token_kind.OpenRound ∷ rest) all
+Holds (frame_kind.InList list parts ∷ fs) rest all = (p : PartsBefore parts) × Holds fs (begin_list list (p.words rest)) all
+Holds (frame_kind.IfExpr ∷ fs) rest all = Holds fs (word_kind.Key token_kind.If ∷ word_kind.Key token_kind.OpenRound ∷ rest) all
+Holds (frame_kind.IfFirst a ∷ fs) rest all = (x : Whole a) × Holds fs (word_kind.Key token_kind.If ∷ word_kind.Key token_kind.OpenRound ∷ (spell x.syntax ++ word_kind.Key token_kind.Comma ∷ rest)) all
+Holds (frame_kind.IfSecond a b ∷ fs) rest all = (x : Whole a) × (y : Whole b) × Holds fs (word_kind.Key token_kind.If ∷ word_kind.Key token_kind.OpenRound ∷ (spell x.syntax ++ word_kind.Key token_kind.Comma ∷ (spell y.syntax ++ word_kind.Key token_kind.Comma ∷ rest))) all
+Holds (frame_kind.Convert to ∷ fs) rest all = Holds fs (spell_conversion to ∷ word_kind.Key token_kind.OpenRound ∷ rest) all
+Holds (frame_kind.Before op ∷ fs) rest all = Holds fs (spell_before op ∷ rest) all
+Holds (frame_kind.Between op a ∷ fs) rest all = (x : Whole a) × (level x.syntax ≤ left_of op) × (takes x.syntax op ≡ false) × Holds fs (spell x.syntax ++ (spell_between op ++ rest)) all
+Holds (frame_kind.IndexSet kind groups names ∷ fs) rest all = (sets : SetsBefore groups) × (ns : Names) × (names ≡ list_of_names ns) × Holds fs (begin_index kind (sets.words (spell_names ns ++ word_kind.Key token_kind.In ∷ rest))) all
+Holds (frame_kind.IndexCondition kind groups ∷ fs) rest all = (last : LastSet groups) × Holds fs (begin_index kind (last.sets.words (spell_names last.names ++ word_kind.Key token_kind.In ∷ (spell last.syntax ++ word_kind.Key token_kind.Bar ∷ rest)))) all
+Holds (frame_kind.Body op ready ∷ fs) rest all = (x : SpelledIndex ready) × Holds fs (spell_aggregate op ∷ word_kind.Key token_kind.OpenRound ∷ (spell_index x.over ++ word_kind.Key token_kind.CloseRound ∷ rest)) all
 
 -- a bracket that was just opened
 abbrev pub HoldsFirst : List Frame → List Word → List Word → Type 0
-HoldsFirst (f.Listed list parts ∷ fs) rest all = (parts ≡ o.no_parts) × Holds fs (begin_list list rest) all
+HoldsFirst (frame_kind.InList list parts ∷ fs) rest all = (parts ≡ operands.no_parts) × Holds fs (begin_list list rest) all
 HoldsFirst _ rest all = ⊥
 
 -- the words that are left, and before them what the frames and the mode have read
 abbrev pub Stands : Mode → List Frame → List Word → List Word → Type 0
-Stands m.Want fs rest all = Holds fs rest all
-Stands m.WantFirst fs rest all = HoldsFirst fs rest all
-Stands m.WantOpen fs rest all = (after : List Word) → rest ≡ w.Key t.OpenRound ∷ after → Holds fs after all
-Stands (m.WantIndex kind) fs rest all = (after : List Word) → rest ≡ w.Key t.OpenRound ∷ after → Holds fs (begin_index kind after) all
-Stands (m.Named n) fs rest all = Holds fs (w.Name n ∷ rest) all
-Stands (m.Called n parts) fs rest all = (p : WholeParts parts) × Holds fs (w.Name n ∷ w.Key t.OpenRound ∷ (spell_list p.written ++ w.Key t.CloseRound ∷ rest)) all
-Stands (m.Dotted n) fs rest all = Holds fs (w.Name n ∷ w.Key t.Dot ∷ rest) all
-Stands (m.DottedCall n parts) fs rest all = (p : WholeParts parts) × Holds fs (w.Name n ∷ w.Key t.OpenRound ∷ (spell_list p.written ++ w.Key t.CloseRound ∷ w.Key t.Dot ∷ rest)) all
-Stands (m.After x) fs rest all = (a : Whole x) × ((op : BinaryOperator) → takes a.syntax op ≡ false) × Holds fs (spell a.syntax ++ rest) all
-Stands m.WantIn fs rest all = (after : List Word) → rest ≡ w.Key t.In ∷ after → Holds fs after all
-Stands (m.WantName kind groups names) fs rest all = (sets : SetsBefore groups) × (ns : NamesBefore names) × Holds fs (begin_index kind (sets.words (ns.words rest))) all
-Stands (m.AfterName kind groups names) fs rest all = (sets : SetsBefore groups) × (earlier : List (List ℕ)) × (ns : NamesBefore earlier) × (n : List ℕ) × (names ≡ earlier ++ n ∷ []) × Holds fs (begin_index kind (sets.words (ns.words (w.Name n ∷ rest)))) all
+Stands mode_kind.Want fs rest all = Holds fs rest all
+Stands mode_kind.WantFirst fs rest all = HoldsFirst fs rest all
+Stands mode_kind.WantOpen fs rest all = (after : List Word) → rest ≡ word_kind.Key token_kind.OpenRound ∷ after → Holds fs after all
+Stands (mode_kind.WantIndex kind) fs rest all = (after : List Word) → rest ≡ word_kind.Key token_kind.OpenRound ∷ after → Holds fs (begin_index kind after) all
+Stands (mode_kind.Named n) fs rest all = Holds fs (word_kind.Name n ∷ rest) all
+Stands (mode_kind.Called n parts) fs rest all = (p : WholeParts parts) × Holds fs (word_kind.Name n ∷ word_kind.Key token_kind.OpenRound ∷ (spell_list p.written ++ word_kind.Key token_kind.CloseRound ∷ rest)) all
+Stands (mode_kind.Dotted n) fs rest all = Holds fs (word_kind.Name n ∷ word_kind.Key token_kind.Dot ∷ rest) all
+Stands (mode_kind.DottedCall n parts) fs rest all = (p : WholeParts parts) × Holds fs (word_kind.Name n ∷ word_kind.Key token_kind.OpenRound ∷ (spell_list p.written ++ word_kind.Key token_kind.CloseRound ∷ word_kind.Key token_kind.Dot ∷ rest)) all
+Stands (mode_kind.After x) fs rest all = (a : Whole x) × ((op : BinaryOperator) → takes a.syntax op ≡ false) × Holds fs (spell a.syntax ++ rest) all
+Stands mode_kind.WantIn fs rest all = (after : List Word) → rest ≡ word_kind.Key token_kind.In ∷ after → Holds fs after all
+Stands (mode_kind.WantName kind groups names) fs rest all = (sets : SetsBefore groups) × (ns : NamesBefore names) × Holds fs (begin_index kind (sets.words (ns.words rest))) all
+Stands (mode_kind.AfterName kind groups names) fs rest all = (sets : SetsBefore groups) × (earlier : List (List ℕ)) × (ns : NamesBefore earlier) × (n : List ℕ) × (names ≡ earlier ++ n ∷ []) × Holds fs (begin_index kind (sets.words (ns.words (word_kind.Name n ∷ rest)))) all
 
 -- the next state stands
 abbrev pub Good : State → List Word → List Word → Type 0
@@ -214,6 +214,6 @@ Good None rest all = Unit {0}
 Good (Some next) rest all = Stands next.0 next.1 rest all
 
 -- an operand with what it has ended stands before these words
-abbrev pub GoodOperand : Settled → List Word → List Word → Type 0
+abbrev pub GoodOperand : FoldResult → List Word → List Word → Type 0
 GoodOperand None rest all = Unit {0}
 GoodOperand (Some y) rest all = (a : Whole y.0) × Holds y.1 (spell a.syntax ++ rest) all

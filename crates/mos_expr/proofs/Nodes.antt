@@ -4,8 +4,8 @@ use Rattle.std.proofs.Common.{◌≡◌, ℕ, ◌+◌, List, [], ◌∷◌, Opti
 use Rattle.std.specs.Prelude.{option_map}
 use Rattle.std.proofs.lemmas.List.Sums.{sum-map, sum_by-cons}
 use Rattle.mos_tree.specs.declared.expr.Expr.{Expr}
-use Rattle.mos_tree.specs.declared.expr.Expr.TheVariants as e
-use Rattle.mos_tree.specs.declared.expr.Expr.TheOpen as o
+use Rattle.mos_tree.specs.declared.expr.Expr.TheVariants as expr_kind
+use Rattle.mos_tree.specs.declared.expr.Expr.TheOpen as open_expr
 use Rattle.mos_tree.specs.declared.expr.Expr.TheOpen.{Expr-F}
 use Rattle.mos_tree.specs.declared.expr.Expr.TheViews.{roll-Expr}
 use Rattle.mos_tree.specs.declared.expr.Expr.TheFolds.{fold-roll-Expr, map-Expr}
@@ -36,21 +36,21 @@ layer z e = ap nodes (sym e) ∙ fold-roll-Expr ℕ nodes_step z
 -- ---- forms with an index
 
 index_of_layer : Expr-F ℕ → ℕ
-index_of_layer (o.Count i) = nodes_of_index i
-index_of_layer (o.Aggregate p i x) = nodes_of_index i
+index_of_layer (open_expr.Count i) = nodes_of_index i
+index_of_layer (open_expr.Aggregate p i x) = nodes_of_index i
 index_of_layer _ = 0
 
 layer_groups : Expr-F ℕ → List (Group ℕ)
-layer_groups (o.Count i) = i.groups
+layer_groups (open_expr.Count i) = i.groups
 layer_groups _ = []
 
 condition_of_layer : Expr-F ℕ → ℕ
-condition_of_layer (o.Count i) = nodes_of_condition i.condition
+condition_of_layer (open_expr.Count i) = nodes_of_condition i.condition
 condition_of_layer _ = 0
 
 -- the layer with an index, with the nodes of its parts in their place
 counts : List (Group Expr) → Option Expr → Expr-F ℕ
-counts groups condition = map-Expr Expr ℕ nodes (o.Count (record { groups = groups; condition = condition }))
+counts groups condition = map-Expr Expr ℕ nodes (open_expr.Count (record { groups = groups; condition = condition }))
 
 same_groups : (groups : List (Group Expr)) (condition : Option Expr) → layer_groups (counts groups condition) ≡ map (in_group nodes) groups
 unfolding layer_groups counts
@@ -72,12 +72,12 @@ index_is groups condition =
     let second : condition_of_layer (counts groups condition) ≡ nodes_of_condition (option_map nodes condition) = condition_is groups condition in
     ap (λ z. z + condition_of_layer (counts groups condition)) first ∙ ap (λ z. nodes_in_groups groups + z) second
 
-pub nodes_of_aggregate : (p : AggregateOperator) (i : Index Expr) (x : Expr) → nodes (e.Aggregate p i x) ≡ nodes_in_index i + nodes x + 1
+pub nodes_of_aggregate : (p : AggregateOperator) (i : Index Expr) (x : Expr) → nodes (expr_kind.Aggregate p i x) ≡ nodes_in_index i + nodes x + 1
 unfolding index_of_layer counts
 nodes_of_aggregate p i x =
-    layer (o.Aggregate p i x) (e.rolls-Aggregate p i x)
+    layer (open_expr.Aggregate p i x) (expr_kind.rolls-Aggregate p i x)
     ∙ ap (λ z. z + nodes x + 1) (index_is i.groups i.condition)
 
-pub nodes_of_counted : (i : Index Expr) → nodes (e.Count i) ≡ nodes_in_index i + 1
+pub nodes_of_counted : (i : Index Expr) → nodes (expr_kind.Count i) ≡ nodes_in_index i + 1
 unfolding index_of_layer counts
-nodes_of_counted i = layer (o.Count i) (e.rolls-Count i) ∙ ap (λ z. z + 1) (index_is i.groups i.condition)
+nodes_of_counted i = layer (open_expr.Count i) (expr_kind.rolls-Count i) ∙ ap (λ z. z + 1) (index_is i.groups i.condition)

@@ -1,8 +1,8 @@
 -- Laws of expressions.
 
 use Rattle.std.specs.Prelude.{◌≡◌, ℕ, if◌then◌else◌, nat_le, List, Result, Ok, Err}
-use Rattle.mos_scan.specs.declared.reading.Word.{Word}
-use Rattle.mos_expr.specs.Grammar.{Syntax, Written, Over, IsSpelled, AreSpelled, IsIndexSpelled, tree, trees, index_of, height, heights, height_over, limit}
+use Rattle.mos_scan.specs.declared.grammar_word.Word.{Word}
+use Rattle.mos_expr.specs.Grammar.{Syntax, SyntaxList, IndexSyntax, IsSpelled, AreSpelled, IsIndexSpelled, tree, trees, index_of, height, heights, height_index, limit}
 use Rattle.mos_expr.specs.declared.fault.ExprFault.{ExprFault}
 use Rattle.mos_expr.specs.declared.fault.ExprFault.TheVariants as fault
 
@@ -17,10 +17,10 @@ HaveOneTree = (words : List Word) (s t : Syntax) → IsSpelled words s → IsSpe
 
 -- words have at most one list of trees
 abbrev pub HaveOneList : Type 0
-HaveOneList = (words : List Word) (ss ts : Written) → AreSpelled words ss → AreSpelled words ts
+HaveOneList = (words : List Word) (ss ts : SyntaxList) → AreSpelled words ss → AreSpelled words ts
     → answer_at (trees ss) (heights ss) ≡ answer_at (trees ts) (heights ts)
 
 -- words have at most one index
 abbrev pub HaveOneIndex : Type 0
-HaveOneIndex = (words : List Word) (i j : Over) → IsIndexSpelled words i → IsIndexSpelled words j
-    → answer_at (index_of i) (height_over i) ≡ answer_at (index_of j) (height_over j)
+HaveOneIndex = (words : List Word) (i j : IndexSyntax) → IsIndexSpelled words i → IsIndexSpelled words j
+    → answer_at (index_of i) (height_index i) ≡ answer_at (index_of j) (height_index j)

@@ -3,7 +3,7 @@
 
 use Rattle.std.specs.Prelude.{ℕ, ◌+◌, min, max, if◌then◌else◌, nat_le, List, [], ◌∷◌, ◌++◌, Option, Some, None}
 use Rattle.mos_tree.specs.declared.expr.Expr.{Expr}
-use Rattle.mos_tree.specs.declared.expr.Expr.TheVariants as e
+use Rattle.mos_tree.specs.declared.expr.Expr.TheVariants as expr_kind
 use Rattle.mos_tree.specs.declared.expr.Group.{Group}
 use Rattle.mos_tree.specs.declared.expr.Index.{Index}
 use Rattle.mos_tree.specs.declared.expr.UnaryOperator.{UnaryOperator}
@@ -39,48 +39,48 @@ abbrev pub higher : ℕ → ℕ
 higher height = min (height + 1) 501
 
 -- a tree that is not too high
-abbrev pub kept : ℕ → Option Expr → Option Expr
-kept height made = if nat_le height 500 then made else None
+abbrev pub unless_deep : ℕ → Option Expr → Option Expr
+unless_deep height made = if nat_le height 500 then made else None
 
 -- a prefix operator and its operand
 abbrev pub unary : UnaryOperator → Expr → Expr
-unary op x = e.Unary op x
+unary op x = expr_kind.Unary op x
 
 -- a conversion
-abbrev pub converted : Conversion → Expr → Expr
-converted to x = e.Convert to x
+abbrev pub convert_expr : Conversion → Expr → Expr
+convert_expr to x = expr_kind.Convert to x
 
 -- an operator between two operands
 abbrev pub binary : BinaryOperator → Expr → Expr → Expr
-binary op x y = e.Binary op x y
+binary op x y = expr_kind.Binary op x y
 
 -- `if` with its three parts
 abbrev pub if_expr : Expr → Expr → Expr → Expr
-if_expr a b c = e.If a b c
+if_expr a b c = expr_kind.If a b c
 
 -- an aggregate with its index and its body
 abbrev pub aggregate : AggregateOperator → Index Expr → Expr → Expr
-aggregate op index x = e.Aggregate op index x
+aggregate op index x = expr_kind.Aggregate op index x
 
 -- the count of an index
 abbrev pub count : Option (Index Expr) → Option Expr
-count index = map1 (λ i. e.Count i) index
+count index = map1 (λ i. expr_kind.Count i) index
 
 -- a call, or a cell
 abbrev pub call : List ℕ → Option (List Expr) → Option Expr
-call name items = map1 (λ xs. e.Call name xs) items
+call name items = map1 (λ xs. expr_kind.Call name xs) items
 
 -- a field of what a call gives
 abbrev pub call_field : List ℕ → Option (List Expr) → List ℕ → Option Expr
-call_field name items field = map1 (λ xs. e.CallField name xs field) items
+call_field name items field = map1 (λ xs. expr_kind.CallField name xs field) items
 
 -- a set of its members
 abbrev pub set : Option (List Expr) → Option Expr
-set items = map1 (λ xs. e.Set xs) items
+set items = map1 (λ xs. expr_kind.Set xs) items
 
 -- a list of its items
 abbrev pub list : Option (List Expr) → Option Expr
-list items = map1 (λ xs. e.List xs) items
+list items = map1 (λ xs. expr_kind.List xs) items
 
 -- an operand without parts
 abbrev pub leaf_of : Expr → Operand
@@ -88,19 +88,19 @@ leaf_of x = record { level = 1; height = 1; expr = Some x }
 
 -- a node of this level over parts of this height
 abbrev pub node_at : ℕ → ℕ → Option Expr → Operand
-node_at level height made = record { level = level; height = higher height; expr = kept (higher height) made }
+node_at level height made = record { level = level; height = higher height; expr = unless_deep (higher height) made }
 
 -- a node that binds tightest
 abbrev pub node : ℕ → Option Expr → Operand
 node height made = node_at 1 height made
 
 -- an operand in brackets
-abbrev pub bracketed : Operand → Operand
-bracketed x = node x.height x.expr
+abbrev pub bracket_of : Operand → Operand
+bracket_of x = node x.height x.expr
 
 -- the operand that a conversion is
 abbrev pub convert_of : Conversion → Operand → Operand
-convert_of to x = node x.height (map1 (converted to) x.expr)
+convert_of to x = node x.height (map1 (convert_expr to) x.expr)
 
 -- the operand that an `if` is
 abbrev pub if_expr_of : Operand → Operand → Operand → Operand
@@ -127,12 +127,12 @@ abbrev pub no_parts : Parts
 no_parts = record { height = 0; items = Some [] }
 
 -- one more tree
-abbrev pub pushed : List Expr → Expr → List Expr
-pushed xs x = xs ++ x ∷ []
+abbrev pub append_part : List Expr → Expr → List Expr
+append_part xs x = xs ++ x ∷ []
 
 -- one more operand between the brackets
 abbrev pub parts_with : Parts → Operand → Parts
-parts_with parts x = record { height = max parts.height x.height; items = map2 pushed parts.items x.expr }
+parts_with parts x = record { height = max parts.height x.height; items = map2 append_part parts.items x.expr }
 
 -- the operand that a call is
 abbrev pub call_of : List ℕ → Parts → Operand
@@ -155,12 +155,12 @@ abbrev pub no_groups : Groups
 no_groups = record { height = 0; items = Some [] }
 
 -- one more set with its names
-abbrev pub grouped : List (List ℕ) → List (Group Expr) → Expr → List (Group Expr)
-grouped names groups x = groups ++ record { names = names; set = x } ∷ []
+abbrev pub append_group : List (List ℕ) → List (Group Expr) → Expr → List (Group Expr)
+append_group names groups x = groups ++ record { names = names; set = x } ∷ []
 
 -- names with their set are one node
 abbrev pub groups_with : Groups → List (List ℕ) → Operand → Groups
-groups_with groups names x = record { height = max groups.height (higher x.height); items = map2 (grouped names) groups.items (kept (higher x.height) x.expr) }
+groups_with groups names x = record { height = max groups.height (higher x.height); items = map2 (append_group names) groups.items (unless_deep (higher x.height) x.expr) }
 
 -- the sets of an index with one more, unless it is looser than a set may be
 abbrev pub set_read : Groups → List (List ℕ) → Operand → Option Groups
@@ -175,9 +175,9 @@ abbrev pub whole_index_of : Groups → WholeIndex
 whole_index_of groups = record { height = groups.height; index = index_of groups.items }
 
 -- an index with a condition
-abbrev pub conditioned : List (Group Expr) → Expr → Index Expr
-conditioned groups x = record { groups = groups; condition = Some x }
+abbrev pub index_with_condition : List (Group Expr) → Expr → Index Expr
+index_with_condition groups x = record { groups = groups; condition = Some x }
 
 -- a whole index with a condition
 abbrev pub conditioned_index_of : Groups → Operand → WholeIndex
-conditioned_index_of groups x = record { height = max groups.height x.height; index = map2 conditioned groups.items x.expr }
+conditioned_index_of groups x = record { height = max groups.height x.height; index = map2 index_with_condition groups.items x.expr }

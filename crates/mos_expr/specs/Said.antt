@@ -3,8 +3,8 @@
 use Rattle.std.specs.Prelude.{◌≡◌, ℕ, ◌<◌, ◌≤◌, List, Result, Ok, Err}
 use Rattle.mos_tree.specs.declared.expr.Expr.{Expr}
 use Rattle.mos_tree.specs.declared.expr.Index.{Index}
-use Rattle.mos_scan.specs.declared.reading.Word.{Word}
-use Rattle.mos_expr.specs.Grammar.{Written, no_more, one_more, IsGrouped, AreGrouped, IsGroupedOver, spell, spell_list, spell_over, tree, trees, index_of, height, heights, height_over, limit}
+use Rattle.mos_scan.specs.declared.grammar_word.Word.{Word}
+use Rattle.mos_expr.specs.Grammar.{SyntaxList, no_syntax, syntax_then, IsGrouped, AreGrouped, IsGroupedIndex, spell, spell_list, spell_index, tree, trees, index_of, height, heights, height_index, limit}
 use Rattle.mos_expr.specs.declared.fault.ExprFault.{ExprFault}
 use Rattle.mos_expr.specs.declared.fault.ExprFault.TheVariants as fault
 
@@ -28,9 +28,9 @@ abbrev pub AreExpressions : List Word → List Expr → ℕ → Type 0
 AreExpressions = Spelled AreGrouped spell_list trees heights
 
 -- at least one expression
-abbrev pub AreSomeGrouped : Written → Type 0
-AreSomeGrouped no_more = ⊥
-AreSomeGrouped (one_more first rest) = AreGrouped (one_more first rest)
+abbrev pub AreSomeGrouped : SyntaxList → Type 0
+AreSomeGrouped no_syntax = ⊥
+AreSomeGrouped (syntax_then first rest) = AreGrouped (syntax_then first rest)
 
 -- expressions with commas between them, at least one
 abbrev pub AreSomeExpressions : List Word → List Expr → ℕ → Type 0
@@ -38,7 +38,7 @@ AreSomeExpressions = Spelled AreSomeGrouped spell_list trees heights
 
 -- names with their sets, perhaps with a condition
 abbrev pub IsIndex : List Word → Index Expr → ℕ → Type 0
-IsIndex = Spelled IsGroupedOver spell_over index_of height_over
+IsIndex = Spelled IsGroupedIndex spell_index index_of height_index
 
 -- ---- what is said of it
 

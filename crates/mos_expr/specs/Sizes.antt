@@ -4,7 +4,7 @@ use Rattle.std.specs.Prelude.{ℕ, ◌≤◌, List, length}
 use Rattle.mos_tree.specs.declared.expr.Expr.{Expr}
 use Rattle.mos_tree.specs.declared.expr.Index.{Index}
 use Rattle.mos_tree.specs.Nodes.{nodes, nodes_in, nodes_in_index}
-use Rattle.mos_scan.specs.declared.reading.Word.{Word}
+use Rattle.mos_scan.specs.declared.grammar_word.Word.{Word}
 use Rattle.mos_expr.specs.Said.{IsExpression, AreExpressions, IsIndex}
 
 -- an expression

@@ -27,7 +27,7 @@ pub(crate) enum ListKind {
 #[derive(Drop)]
 pub(crate) enum Frame {
     Bracket,
-    Listed(ListKind, Parts),
+    InList(ListKind, Parts),
     /// `if`, with no, one or two of its parts.
     IfExpr,
     IfFirst(Operand),

@@ -35,33 +35,33 @@ fn room(frame: &Frame) -> u32
 }
 
 /// Lets go of what spells no expression.
-pub(crate) fn refuse(frame: Frame, x: Operand) {
+pub(crate) fn let_both_go(frame: Frame, operand: Operand) {
     let_go(frame);
-    let_go(x);
+    let_go(operand);
 }
 
 /// What the frame makes of an operand that ends it.
-fn folded(alloc: Global, frame: Frame, x: Operand) -> Result<Option<Operand>, NoMemory>
-    ensures { IfOk result (λ made. made ≡ spec.folded frame x) }
+fn frame_result(alloc: Global, frame: Frame, operand: Operand) -> Result<Option<Operand>, NoMemory>
+    ensures { IfOk result (λ made. made ≡ spec.frame_result frame operand) }
 {
     match frame {
-        Frame::Before(op) => Ok(Some(before_of(alloc, op, x)?)),
-        Frame::Between(op, a) => Ok(Some(between_of(alloc, op, a, x)?)),
-        Frame::Body(op, index) => Ok(Some(aggregate_of(alloc, op, index, x)?)),
+        Frame::Before(op) => Ok(Some(before_of(alloc, op, operand)?)),
+        Frame::Between(op, a) => Ok(Some(between_of(alloc, op, a, operand)?)),
+        Frame::Body(op, index) => Ok(Some(aggregate_of(alloc, op, index, operand)?)),
         other => {
-            refuse(other, x);
+            let_both_go(other, operand);
             Ok(None)
         }
     }
 }
 
-fn fold(alloc: Global, frame: Frame, x: Operand) -> Result<Option<Operand>, NoMemory>
-    ensures { IfOk result (λ made. made ≡ spec.fold frame x) }
+fn fold(alloc: Global, frame: Frame, operand: Operand) -> Result<Option<Operand>, NoMemory>
+    ensures { IfOk result (λ made. made ≡ spec.fold frame operand) }
 {
-    if x.level <= room(&frame) {
-        return folded(alloc, frame, x);
+    if operand.level <= room(&frame) {
+        return frame_result(alloc, frame, operand);
     }
-    refuse(frame, x);
+    let_both_go(frame, operand);
     Ok(None)
 }
 
@@ -84,24 +84,26 @@ fn stays(op: BinaryOperator, level: u32, stack: &[Frame]) -> bool
 }
 
 /// The operand with all that it ends.
-pub(crate) fn settle(
+pub(crate) fn fold_frames(
     alloc: Global,
     stack: &mut Vec<Frame>,
-    x: Operand,
+    operand: Operand,
 ) -> Result<Option<Operand>, NoMemory>
-    ensures { IfOk result (λ made. spec.settled x (spec.stack_of stack.old.items) ≡ spec.settled_of made (spec.stack_of stack.new.items)) }
+    ensures { IfOk result
+        (λ made. spec.fold_frames operand (spec.stack_of stack.old.items)
+        ≡ spec.fold_result_of made (spec.stack_of stack.new.items)) }
 {
-    let mut x = x;
+    let mut operand = operand;
     while top_folds(stack) {
         let Some(frame) = pop(stack) else {
-            return Ok(Some(x));
+            return Ok(Some(operand));
         };
-        match fold(alloc, frame, x)? {
+        match fold(alloc, frame, operand)? {
             None => return Ok(None),
-            Some(y) => x = y,
+            Some(y) => operand = y,
         }
     }
-    Ok(Some(x))
+    Ok(Some(operand))
 }
 
 /// The operator that begins with this token, behind an operand.
@@ -136,26 +138,28 @@ pub(crate) fn place(
     alloc: Global,
     stack: &mut Vec<Frame>,
     op: BinaryOperator,
-    x: Operand,
+    operand: Operand,
 ) -> Result<bool, NoMemory>
-    ensures { IfOk result (λ placed. spec.placed op x (spec.stack_of stack.old.items) ≡ spec.frames_if placed (spec.stack_of stack.new.items)) }
+    ensures { IfOk result
+        (λ placed. spec.place_operator op operand (spec.stack_of stack.old.items)
+        ≡ spec.frames_if placed (spec.stack_of stack.new.items)) }
 {
-    let mut x = x;
-    while !stays(op, x.level, stack.as_slice()) {
+    let mut operand = operand;
+    while !stays(op, operand.level, stack.as_slice()) {
         if !top_folds(stack.as_slice()) {
-            let_go(x);
+            let_go(operand);
             return Ok(false);
         }
         let Some(frame) = pop(stack) else {
-            let_go(x);
+            let_go(operand);
             return Ok(false);
         };
-        match fold(alloc, frame, x)? {
+        match fold(alloc, frame, operand)? {
             None => return Ok(false),
-            Some(y) => x = y,
+            Some(y) => operand = y,
         }
     }
-    match push(stack, Frame::Between(op, x)) {
+    match push(stack, Frame::Between(op, operand)) {
         Ok(()) => Ok(true),
         Err(refused) => Err(refused),
     }

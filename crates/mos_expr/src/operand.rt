@@ -48,7 +48,7 @@ pub(crate) fn higher(height: u32) -> u32
 
 /// The tree, unless it is too high.
 pub(crate) fn keep(height: u32, expr: Option<Expr>) -> Option<Expr>
-    ensures { result ≡ spec.kept height expr }
+    ensures { result ≡ spec.unless_deep height expr }
 {
     if height <= 500 {
         return expr;
@@ -88,10 +88,10 @@ pub(crate) fn node(height: u32, expr: Option<Expr>) -> Operand
 }
 
 /// An operand in brackets.
-pub(crate) fn bracketed(x: Operand) -> Operand
-    ensures { result ≡ spec.bracketed x }
+pub(crate) fn bracket_of(operand: Operand) -> Operand
+    ensures { result ≡ spec.bracket_of operand }
 {
-    node(x.height, x.expr)
+    node(operand.height, operand.expr)
 }
 
 fn unary(alloc: Global, op: UnaryOperator, part: Option<Expr>) -> Result<Option<Expr>, NoMemory>
@@ -107,18 +107,22 @@ fn unary(alloc: Global, op: UnaryOperator, part: Option<Expr>) -> Result<Option<
 }
 
 /// A prefix operator and its operand.
-pub(crate) fn before_of(alloc: Global, op: UnaryOperator, x: Operand) -> Result<Operand, NoMemory>
-    ensures { IfOk result (λ made. made ≡ spec.before_of op x) }
+pub(crate) fn before_of(
+    alloc: Global,
+    op: UnaryOperator,
+    operand: Operand,
+) -> Result<Operand, NoMemory>
+    ensures { IfOk result (λ made. made ≡ spec.before_of op operand) }
 {
-    let height = x.height;
-    match unary(alloc, op, x.expr) {
+    let height = operand.height;
+    match unary(alloc, op, operand.expr) {
         Ok(made) => Ok(node_at(level_before(op), height, made)),
         Err(refused) => Err(refused),
     }
 }
 
-fn converted(alloc: Global, to: Conversion, part: Option<Expr>) -> Result<Option<Expr>, NoMemory>
-    ensures { IfOk result (λ made. made ≡ spec.map1 (spec.converted to) part) }
+fn convert_expr(alloc: Global, to: Conversion, part: Option<Expr>) -> Result<Option<Expr>, NoMemory>
+    ensures { IfOk result (λ made. made ≡ spec.map1 (spec.convert_expr to) part) }
 {
     match part {
         None => Ok(None),
@@ -130,11 +134,15 @@ fn converted(alloc: Global, to: Conversion, part: Option<Expr>) -> Result<Option
 }
 
 /// A conversion.
-pub(crate) fn convert_of(alloc: Global, to: Conversion, x: Operand) -> Result<Operand, NoMemory>
-    ensures { IfOk result (λ made. made ≡ spec.convert_of to x) }
+pub(crate) fn convert_of(
+    alloc: Global,
+    to: Conversion,
+    operand: Operand,
+) -> Result<Operand, NoMemory>
+    ensures { IfOk result (λ made. made ≡ spec.convert_of to operand) }
 {
-    let height = x.height;
-    match converted(alloc, to, x.expr) {
+    let height = operand.height;
+    match convert_expr(alloc, to, operand.expr) {
         Ok(made) => Ok(node(height, made)),
         Err(refused) => Err(refused),
     }
@@ -253,12 +261,12 @@ pub(crate) fn aggregate_of(
     alloc: Global,
     op: AggregateOperator,
     index: WholeIndex,
-    x: Operand,
+    operand: Operand,
 ) -> Result<Operand, NoMemory>
-    ensures { IfOk result (λ made. made ≡ spec.aggregate_of op index x) }
+    ensures { IfOk result (λ made. made ≡ spec.aggregate_of op index operand) }
 {
-    let height = index.height.max(x.height);
-    match aggregate(alloc, op, both(index.index, x.expr)) {
+    let height = index.height.max(operand.height);
+    match aggregate(alloc, op, both(index.index, operand.expr)) {
         Ok(made) => Ok(node(height, made)),
         Err(refused) => Err(refused),
     }

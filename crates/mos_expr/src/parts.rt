@@ -19,8 +19,8 @@ pub(crate) fn no_parts(alloc: Global) -> Parts
     }
 }
 
-fn pushed(parts: Option<(Items<Expr>, Expr)>) -> Result<Option<Items<Expr>>, NoMemory>
-    ensures { IfOk result (λ made. made ≡ spec.map1 (λ p. spec.pushed p.0 p.1) parts) }
+fn append_part(parts: Option<(Items<Expr>, Expr)>) -> Result<Option<Items<Expr>>, NoMemory>
+    ensures { IfOk result (λ made. made ≡ spec.map1 (λ p. spec.append_part p.0 p.1) parts) }
 {
     match parts {
         None => Ok(None),
@@ -32,11 +32,11 @@ fn pushed(parts: Option<(Items<Expr>, Expr)>) -> Result<Option<Items<Expr>>, NoM
 }
 
 /// The expressions with one more.
-pub(crate) fn parts_with(parts: Parts, x: Operand) -> Result<Parts, NoMemory>
-    ensures { IfOk result (λ made. made ≡ spec.parts_with parts x) }
+pub(crate) fn parts_with(parts: Parts, operand: Operand) -> Result<Parts, NoMemory>
+    ensures { IfOk result (λ made. made ≡ spec.parts_with parts operand) }
 {
-    let height = parts.height.max(x.height);
-    match pushed(both(parts.items, x.expr)) {
+    let height = parts.height.max(operand.height);
+    match append_part(both(parts.items, operand.expr)) {
         Ok(items) => Ok(Parts { height, items }),
         Err(refused) => Err(refused),
     }
@@ -128,7 +128,7 @@ fn group_added(
     names: Items<SourceText>,
     set: Expr,
 ) -> Result<Option<Items<Group<Expr>>>, NoMemory>
-    ensures { IfOk result (λ made. made ≡ Some (spec.grouped names items set)) }
+    ensures { IfOk result (λ made. made ≡ Some (spec.append_group names items set)) }
 {
     match with_item(items, Group { names, set }) {
         Ok(all) => Ok(Some(all)),
@@ -136,11 +136,11 @@ fn group_added(
     }
 }
 
-fn grouped(
+fn append_group(
     names: Items<SourceText>,
     parts: Option<(Items<Group<Expr>>, Expr)>,
 ) -> Result<Option<Items<Group<Expr>>>, NoMemory>
-    ensures { IfOk result (λ made. made ≡ spec.map1 (λ p. spec.grouped names p.0 p.1) parts) }
+    ensures { IfOk result (λ made. made ≡ spec.map1 (λ p. spec.append_group names p.0 p.1) parts) }
 {
     match parts {
         None => {
@@ -152,12 +152,16 @@ fn grouped(
 }
 
 /// The sets with one more, which its names make a node.
-fn groups_with(groups: Groups, names: Items<SourceText>, x: Operand) -> Result<Groups, NoMemory>
-    ensures { IfOk result (λ made. made ≡ spec.groups_with groups names x) }
+fn groups_with(
+    groups: Groups,
+    names: Items<SourceText>,
+    operand: Operand,
+) -> Result<Groups, NoMemory>
+    ensures { IfOk result (λ made. made ≡ spec.groups_with groups names operand) }
 {
-    let high = higher(x.height);
+    let high = higher(operand.height);
     let height = groups.height.max(high);
-    match grouped(names, both(groups.items, keep(high, x.expr))) {
+    match append_group(names, both(groups.items, keep(high, operand.expr))) {
         Ok(items) => Ok(Groups { height, items }),
         Err(refused) => Err(refused),
     }
@@ -167,17 +171,17 @@ fn groups_with(groups: Groups, names: Items<SourceText>, x: Operand) -> Result<G
 pub(crate) fn set_read(
     groups: Groups,
     names: Items<SourceText>,
-    x: Operand,
+    operand: Operand,
 ) -> Result<Option<Groups>, NoMemory>
-    ensures { IfOk result (λ read. read ≡ spec.set_read groups names x) }
+    ensures { IfOk result (λ read. read ≡ spec.set_read groups names operand) }
 {
-    if 5 < x.level {
+    if 5 < operand.level {
         let_go(groups);
         let_go(names);
-        let_go(x);
+        let_go(operand);
         return Ok(None);
     }
-    match groups_with(groups, names, x) {
+    match groups_with(groups, names, operand) {
         Ok(groups) => Ok(Some(groups)),
         Err(refused) => Err(refused),
     }
@@ -205,11 +209,12 @@ pub(crate) fn whole_index_of(groups: Groups) -> WholeIndex
     }
 }
 
-fn conditioned(
+fn index_with_condition(
     alloc: Global,
     parts: Option<(Items<Group<Expr>>, Expr)>,
 ) -> Result<Option<Index<Expr>>, NoMemory>
-    ensures { IfOk result (λ made. made ≡ spec.map1 (λ p. spec.conditioned p.0 p.1) parts) }
+    ensures { IfOk result
+        (λ made. made ≡ spec.map1 (λ p. spec.index_with_condition p.0 p.1) parts) }
 {
     match parts {
         None => Ok(None),
@@ -227,12 +232,12 @@ fn conditioned(
 pub(crate) fn conditioned_index_of(
     alloc: Global,
     groups: Groups,
-    x: Operand,
+    operand: Operand,
 ) -> Result<WholeIndex, NoMemory>
-    ensures { IfOk result (λ made. made ≡ spec.conditioned_index_of groups x) }
+    ensures { IfOk result (λ made. made ≡ spec.conditioned_index_of groups operand) }
 {
-    let height = groups.height.max(x.height);
-    match conditioned(alloc, both(groups.items, x.expr)) {
+    let height = groups.height.max(operand.height);
+    match index_with_condition(alloc, both(groups.items, operand.expr)) {
         Ok(index) => Ok(WholeIndex { height, index }),
         Err(refused) => Err(refused),
     }

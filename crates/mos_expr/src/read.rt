@@ -4,7 +4,7 @@ ghost use Rattle.mos_expr.specs.Machine as spec;
 ghost use Rattle.mos_expr.specs.Reader as reads;
 
 use crate::frame::{Frame, IndexKind, ListKind, Mode};
-use crate::machine::{refuse, settle};
+use crate::machine::{fold_frames, let_both_go};
 use crate::operand::{Operand, Parts, WholeIndex, leaf_of};
 use crate::parts::{
     call_of, conditioned_index_of, no_groups, no_parts, parts_with, set_read, whole_index_of,
@@ -18,11 +18,11 @@ use sqlite_items::Items;
 use std::alloc::Global;
 
 /// The operand that ends with the last word.
-fn ended(mode: Mode) -> Option<Operand>
-    ensures { result ≡ reads.ended mode }
+fn operand_at_end(mode: Mode) -> Option<Operand>
+    ensures { result ≡ reads.operand_at_end mode }
 {
     match mode {
-        Mode::After(x) => Some(x),
+        Mode::After(operand) => Some(operand),
         Mode::Named(name) => Some(leaf_of(Expr::Name(name))),
         Mode::Called(name, parts) => Some(call_of(name, parts)),
         other => {
@@ -33,11 +33,13 @@ fn ended(mode: Mode) -> Option<Operand>
 }
 
 fn at_end(alloc: Global, stack: &mut Vec<Frame>, mode: Mode) -> Result<Option<Operand>, NoMemory>
-    ensures { IfOk result (λ x. reads.at_end mode (spec.stack_of stack.old.items) ≡ spec.settled_of x (spec.stack_of stack.new.items)) }
+    ensures { IfOk result
+        (λ operand. reads.at_end mode (spec.stack_of stack.old.items)
+        ≡ spec.fold_result_of operand (spec.stack_of stack.new.items)) }
 {
-    match ended(mode) {
+    match operand_at_end(mode) {
         None => Ok(None),
-        Some(x) => settle(alloc, stack, x),
+        Some(operand) => fold_frames(alloc, stack, operand),
     }
 }
 
@@ -48,7 +50,9 @@ fn read(
     mode: Mode,
     words: &[Word],
 ) -> Result<Option<Operand>, NoMemory>
-    ensures { IfOk result (λ x. reads.read mode (spec.stack_of stack.old.items) words.now ≡ spec.settled_of x (spec.stack_of stack.new.items)) }
+    ensures { IfOk result
+        (λ operand. reads.read mode (spec.stack_of stack.old.items) words.now
+        ≡ spec.fold_result_of operand (spec.stack_of stack.new.items)) }
 {
     let mut mode = mode;
     let mut rest = words;
@@ -63,13 +67,13 @@ fn read(
     at_end(alloc, stack, mode)
 }
 
-fn alone(x: Operand, stack: &[Frame]) -> Option<Operand>
-    ensures { result ≡ reads.alone x (spec.stack_of stack.now) }
+fn alone(operand: Operand, stack: &[Frame]) -> Option<Operand>
+    ensures { result ≡ reads.alone operand (spec.stack_of stack.now) }
 {
     match stack {
-        [] => Some(x),
+        [] => Some(operand),
         [.., _] => {
-            let_go(x);
+            let_go(operand);
             None
         }
     }
@@ -80,18 +84,18 @@ fn alone_in(
     stack: &mut Vec<Frame>,
     words: &[Word],
 ) -> Result<Option<Operand>, NoMemory>
-    ensures { stack.old.items ≡ [] → IfOk result (λ x. reads.operand_of words.now ≡ x) }
+    ensures { stack.old.items ≡ [] → IfOk result (λ operand. reads.operand_of words.now ≡ operand) }
 {
     match read(alloc, stack, Mode::Want, words) {
         Ok(None) => Ok(None),
-        Ok(Some(x)) => Ok(alone(x, stack.as_slice())),
+        Ok(Some(operand)) => Ok(alone(operand, stack.as_slice())),
         Err(refused) => Err(refused),
     }
 }
 
 /// The operand that the words are.
 pub(crate) fn operand_of(alloc: Global, words: &[Word]) -> Result<Option<Operand>, NoMemory>
-    ensures { IfOk result (λ x. reads.operand_of words.now ≡ x) }
+    ensures { IfOk result (λ operand. reads.operand_of words.now ≡ operand) }
 {
     let mut stack = Vec::new(alloc);
     let operand = alone_in(alloc, &mut stack, words);
@@ -121,27 +125,28 @@ fn only_frame(stack: &mut Vec<Frame>) -> Option<Frame>
     }
 }
 
-fn last_of_list(x: Operand, frame: Frame) -> Result<Option<Parts>, NoMemory>
-    ensures { IfOk result (λ parts. reads.last_of_list x frame ≡ parts) }
+fn last_of_list(operand: Operand, frame: Frame) -> Result<Option<Parts>, NoMemory>
+    ensures { IfOk result (λ parts. reads.last_of_list operand frame ≡ parts) }
 {
     match frame {
-        Frame::Listed(ListKind::Bare, parts) => Ok(Some(parts_with(parts, x)?)),
+        Frame::InList(ListKind::Bare, parts) => Ok(Some(parts_with(parts, operand)?)),
         other => {
-            refuse(other, x);
+            let_both_go(other, operand);
             Ok(None)
         }
     }
 }
 
-fn parts_at_end(stack: &mut Vec<Frame>, x: Operand) -> Result<Option<Parts>, NoMemory>
-    ensures { IfOk result (λ parts. reads.list_at_end x (spec.stack_of stack.old.items) ≡ parts) }
+fn parts_at_end(stack: &mut Vec<Frame>, operand: Operand) -> Result<Option<Parts>, NoMemory>
+    ensures { IfOk result
+        (λ parts. reads.list_at_end operand (spec.stack_of stack.old.items) ≡ parts) }
 {
     match only_frame(stack) {
         None => {
-            let_go(x);
+            let_go(operand);
             Ok(None)
         }
-        Some(frame) => last_of_list(x, frame),
+        Some(frame) => last_of_list(operand, frame),
     }
 }
 
@@ -154,7 +159,7 @@ fn parts_in(
 {
     match read(alloc, stack, Mode::Want, words) {
         Ok(None) => Ok(None),
-        Ok(Some(x)) => parts_at_end(stack, x),
+        Ok(Some(operand)) => parts_at_end(stack, operand),
         Err(refused) => Err(refused),
     }
 }
@@ -163,7 +168,7 @@ fn some_parts_of(alloc: Global, words: &[Word]) -> Result<Option<Parts>, NoMemor
     ensures { IfOk result (λ parts. reads.some_parts_of words.now ≡ parts) }
 {
     let mut stack = Vec::new(alloc);
-    let parts = match push(&mut stack, Frame::Listed(ListKind::Bare, no_parts(alloc))) {
+    let parts = match push(&mut stack, Frame::InList(ListKind::Bare, no_parts(alloc))) {
         Ok(()) => parts_in(alloc, &mut stack, words),
         Err(refused) => Err(refused),
     };
@@ -182,19 +187,23 @@ pub(crate) fn parts_of(alloc: Global, words: &[Word]) -> Result<Option<Parts>, N
 }
 
 /// The index of a loop, of which this is the last set or the condition.
-fn last_of_index(alloc: Global, x: Operand, frame: Frame) -> Result<Option<WholeIndex>, NoMemory>
-    ensures { IfOk result (λ whole. reads.last_of_index x frame ≡ whole) }
+fn last_of_index(
+    alloc: Global,
+    operand: Operand,
+    frame: Frame,
+) -> Result<Option<WholeIndex>, NoMemory>
+    ensures { IfOk result (λ whole. reads.last_of_index operand frame ≡ whole) }
 {
     match frame {
-        Frame::IndexSet(IndexKind::Loop, groups, names) => match set_read(groups, names, x)? {
+        Frame::IndexSet(IndexKind::Loop, groups, names) => match set_read(groups, names, operand)? {
             Some(groups) => Ok(Some(whole_index_of(groups))),
             None => Ok(None),
         },
         Frame::IndexCondition(IndexKind::Loop, groups) => {
-            Ok(Some(conditioned_index_of(alloc, groups, x)?))
+            Ok(Some(conditioned_index_of(alloc, groups, operand)?))
         }
         other => {
-            refuse(other, x);
+            let_both_go(other, operand);
             Ok(None)
         }
     }
@@ -203,16 +212,17 @@ fn last_of_index(alloc: Global, x: Operand, frame: Frame) -> Result<Option<Whole
 fn index_at_end(
     alloc: Global,
     stack: &mut Vec<Frame>,
-    x: Operand,
+    operand: Operand,
 ) -> Result<Option<WholeIndex>, NoMemory>
-    ensures { IfOk result (λ whole. reads.index_at_end x (spec.stack_of stack.old.items) ≡ whole) }
+    ensures { IfOk result
+        (λ whole. reads.index_at_end operand (spec.stack_of stack.old.items) ≡ whole) }
 {
     match only_frame(stack) {
         None => {
-            let_go(x);
+            let_go(operand);
             Ok(None)
         }
-        Some(frame) => last_of_index(alloc, x, frame),
+        Some(frame) => last_of_index(alloc, operand, frame),
     }
 }
 
@@ -226,7 +236,7 @@ fn index_in(
     let mode = Mode::WantName(IndexKind::Loop, no_groups(alloc), Items::new(alloc));
     match read(alloc, stack, mode, words) {
         Ok(None) => Ok(None),
-        Ok(Some(x)) => index_at_end(alloc, stack, x),
+        Ok(Some(operand)) => index_at_end(alloc, stack, operand),
         Err(refused) => Err(refused),
     }
 }

@@ -5,7 +5,7 @@ ghost use Rattle.mos_expr.specs.Reader as reads;
 
 use crate::building::with_name;
 use crate::frame::{Frame, IndexKind, ListKind, Mode};
-use crate::machine::{operator_of, place, refuse, settle};
+use crate::machine::{fold_frames, let_both_go, operator_of, place};
 use crate::operand::{Groups, Operand, Parts, leaf_of};
 use crate::parts::{call_field_of, call_of, no_groups, no_parts};
 use crate::stack::{opened, pop};
@@ -21,21 +21,22 @@ fn at_frame(
     alloc: Global,
     stack: &mut Vec<Frame>,
     kind: TokenKind,
-    x: Operand,
+    operand: Operand,
 ) -> Result<Option<Mode>, NoMemory>
-    ensures { IfOk result (spec.IsStep (spec.at_frame kind x) stack.old.items stack.new.items) }
+    ensures { IfOk result
+        (spec.IsStep (spec.at_frame kind operand) stack.old.items stack.new.items) }
 {
     let Some(frame) = pop(stack) else {
-        let_go(x);
+        let_go(operand);
         return Ok(None);
     };
     match kind {
-        TokenKind::CloseRound => at_round(alloc, stack, frame, x),
-        TokenKind::CloseCurly | TokenKind::CloseSquare => at_bracket(kind, frame, x),
-        TokenKind::Comma => at_comma(alloc, stack, frame, x),
-        TokenKind::Bar => at_bar(stack, frame, x),
+        TokenKind::CloseRound => at_round(alloc, stack, frame, operand),
+        TokenKind::CloseCurly | TokenKind::CloseSquare => at_bracket(kind, frame, operand),
+        TokenKind::Comma => at_comma(alloc, stack, frame, operand),
+        TokenKind::Bar => at_bar(stack, frame, operand),
         _ => {
-            refuse(frame, x);
+            let_both_go(frame, operand);
             Ok(None)
         }
     }
@@ -56,11 +57,11 @@ fn infix(
     alloc: Global,
     stack: &mut Vec<Frame>,
     op: BinaryOperator,
-    x: Operand,
+    operand: Operand,
 ) -> Result<Option<Mode>, NoMemory>
-    ensures { IfOk result (spec.IsStep (spec.infix_at op x) stack.old.items stack.new.items) }
+    ensures { IfOk result (spec.IsStep (spec.infix_at op operand) stack.old.items stack.new.items) }
 {
-    match place(alloc, stack, op, x) {
+    match place(alloc, stack, op, operand) {
         Ok(true) => Ok(Some(mode_behind(op))),
         Ok(false) => Ok(None),
         Err(refused) => Err(refused),
@@ -72,11 +73,11 @@ fn close(
     alloc: Global,
     stack: &mut Vec<Frame>,
     kind: TokenKind,
-    x: Operand,
+    operand: Operand,
 ) -> Result<Option<Mode>, NoMemory>
-    ensures { IfOk result (spec.IsStep (spec.close kind x) stack.old.items stack.new.items) }
+    ensures { IfOk result (spec.IsStep (spec.close kind operand) stack.old.items stack.new.items) }
 {
-    match settle(alloc, stack, x) {
+    match fold_frames(alloc, stack, operand) {
         Ok(None) => Ok(None),
         Ok(Some(y)) => at_frame(alloc, stack, kind, y),
         Err(refused) => Err(refused),
@@ -88,13 +89,14 @@ fn after_key(
     alloc: Global,
     stack: &mut Vec<Frame>,
     kind: TokenKind,
-    x: Operand,
+    operand: Operand,
 ) -> Result<Option<Mode>, NoMemory>
-    ensures { IfOk result (spec.IsStep (spec.after_key kind x) stack.old.items stack.new.items) }
+    ensures { IfOk result
+        (spec.IsStep (spec.after_key kind operand) stack.old.items stack.new.items) }
 {
     match operator_of(kind) {
-        Some(op) => infix(alloc, stack, op, x),
-        None => close(alloc, stack, kind, x),
+        Some(op) => infix(alloc, stack, op, operand),
+        None => close(alloc, stack, kind, operand),
     }
 }
 
@@ -102,34 +104,36 @@ fn after_key(
 fn after(
     alloc: Global,
     stack: &mut Vec<Frame>,
-    x: Operand,
+    operand: Operand,
     word: &Word,
 ) -> Result<Option<Mode>, NoMemory>
-    ensures { IfOk result (spec.IsStep (reads.after x word.now) stack.old.items stack.new.items) }
+    ensures { IfOk result
+        (spec.IsStep (reads.after operand word.now) stack.old.items stack.new.items) }
 {
     match word {
-        Word::Key(kind) => after_key(alloc, stack, *kind, x),
+        Word::Key(kind) => after_key(alloc, stack, *kind, operand),
         _ => {
-            let_go(x);
+            let_go(operand);
             Ok(None)
         }
     }
 }
 
 /// A word behind a name.
-fn named(
+fn after_named(
     alloc: Global,
     stack: &mut Vec<Frame>,
     name: SourceText,
     word: &Word,
 ) -> Result<Option<Mode>, NoMemory>
-    ensures { IfOk result (spec.IsStep (reads.named name word.now) stack.old.items stack.new.items) }
+    ensures { IfOk result
+        (spec.IsStep (reads.after_named name word.now) stack.old.items stack.new.items) }
 {
     match word {
         Word::Key(TokenKind::OpenRound) => {
             opened(
                 stack,
-                Frame::Listed(ListKind::Call(name), no_parts(alloc)),
+                Frame::InList(ListKind::Call(name), no_parts(alloc)),
                 Mode::WantFirst,
             )
         }
@@ -139,14 +143,15 @@ fn named(
 }
 
 /// A word behind a call.
-fn called(
+fn after_called(
     alloc: Global,
     stack: &mut Vec<Frame>,
     name: SourceText,
     parts: Parts,
     word: &Word,
 ) -> Result<Option<Mode>, NoMemory>
-    ensures { IfOk result (spec.IsStep (reads.called name parts word.now) stack.old.items stack.new.items) }
+    ensures { IfOk result
+        (spec.IsStep (reads.after_called name parts word.now) stack.old.items stack.new.items) }
 {
     match word {
         Word::Key(TokenKind::Dot) => Ok(Some(Mode::DottedCall(name, parts))),
@@ -155,8 +160,8 @@ fn called(
 }
 
 /// A word behind a name and a dot.
-fn dotted(alloc: Global, name: SourceText, word: &Word) -> Result<Option<Mode>, NoMemory>
-    ensures { IfOk result (spec.IsStepAnywhere (reads.dotted name word.now)) }
+fn after_dot(alloc: Global, name: SourceText, word: &Word) -> Result<Option<Mode>, NoMemory>
+    ensures { IfOk result (spec.IsStepAnywhere (reads.after_dot name word.now)) }
 {
     match word {
         Word::Name(field) => match field.copy(alloc) {
@@ -174,13 +179,13 @@ fn dotted(alloc: Global, name: SourceText, word: &Word) -> Result<Option<Mode>, 
 }
 
 /// A word behind a call and a dot.
-fn dotted_call(
+fn after_dot_of_call(
     alloc: Global,
     name: SourceText,
     parts: Parts,
     word: &Word,
 ) -> Result<Option<Mode>, NoMemory>
-    ensures { IfOk result (spec.IsStepAnywhere (reads.dotted_call name parts word.now)) }
+    ensures { IfOk result (spec.IsStepAnywhere (reads.after_dot_of_call name parts word.now)) }
 {
     match word {
         Word::Name(field) => match field.copy(alloc) {
@@ -242,12 +247,12 @@ fn want_key(
         TokenKind::OpenRound => opened(stack, Frame::Bracket, Mode::Want),
         TokenKind::OpenCurly => opened(
             stack,
-            Frame::Listed(ListKind::Set, no_parts(alloc)),
+            Frame::InList(ListKind::Set, no_parts(alloc)),
             Mode::WantFirst,
         ),
         TokenKind::OpenSquare => opened(
             stack,
-            Frame::Listed(ListKind::List, no_parts(alloc)),
+            Frame::InList(ListKind::List, no_parts(alloc)),
             Mode::WantFirst,
         ),
         TokenKind::If => opened(stack, Frame::IfExpr, Mode::WantOpen),
@@ -280,7 +285,7 @@ fn close_empty(stack: &mut Vec<Frame>, kind: TokenKind) -> Option<Mode>
         return None;
     };
     match frame {
-        Frame::Listed(list, parts) => list_closed(kind, list, parts),
+        Frame::InList(list, parts) => list_closed(kind, list, parts),
         other => {
             let_go(other);
             None
@@ -405,11 +410,11 @@ pub(crate) fn step(
         Mode::WantFirst => want_first(alloc, stack, word),
         Mode::WantOpen => Ok(want_open(word)),
         Mode::WantIndex(kind) => Ok(open_index(alloc, kind, word)),
-        Mode::Named(name) => named(alloc, stack, name, word),
-        Mode::Called(name, parts) => called(alloc, stack, name, parts, word),
-        Mode::Dotted(name) => dotted(alloc, name, word),
-        Mode::DottedCall(name, parts) => dotted_call(alloc, name, parts, word),
-        Mode::After(x) => after(alloc, stack, x, word),
+        Mode::Named(name) => after_named(alloc, stack, name, word),
+        Mode::Called(name, parts) => after_called(alloc, stack, name, parts, word),
+        Mode::Dotted(name) => after_dot(alloc, name, word),
+        Mode::DottedCall(name, parts) => after_dot_of_call(alloc, name, parts, word),
+        Mode::After(operand) => after(alloc, stack, operand, word),
         Mode::WantIn => Ok(want_in(word)),
         Mode::WantName(kind, groups, names) => want_name(alloc, kind, groups, names, word),
         Mode::AfterName(kind, groups, names) => after_name(stack, kind, groups, names, word),

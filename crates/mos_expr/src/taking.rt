@@ -2,11 +2,11 @@
 ghost use Rattle.std.specs.Prelude.{◌≡◌, IfOk};
 ghost use Rattle.mos_expr.specs.Machine as spec;
 ghost use Rattle.mos_expr.specs.Operands as operands;
-ghost use Rattle.mos_expr.specs.declared.frame.Frame.TheVariants as f;
+ghost use Rattle.mos_expr.specs.declared.frame.Frame.TheVariants as frame_kind;
 
 use crate::frame::{Frame, IndexKind, ListKind, Mode};
-use crate::machine::refuse;
-use crate::operand::{Groups, Operand, Parts, WholeIndex, bracketed, convert_of, if_expr_of};
+use crate::machine::let_both_go;
+use crate::operand::{Groups, Operand, Parts, WholeIndex, bracket_of, convert_of, if_expr_of};
 use crate::parts::{
     conditioned_index_of, counted_of, list_of, parts_with, set_of, set_read, whole_index_of,
 };
@@ -41,11 +41,12 @@ fn set_at_comma(
     kind: IndexKind,
     groups: Groups,
     names: Items<SourceText>,
-    x: Operand,
+    operand: Operand,
 ) -> Result<Option<Mode>, NoMemory>
-    ensures { IfOk result (spec.IsStep (spec.set_at_comma kind groups names x) stack.now stack.now) }
+    ensures { IfOk result
+        (spec.IsStep (spec.set_at_comma kind groups names operand) stack.now stack.now) }
 {
-    match set_read(groups, names, x)? {
+    match set_read(groups, names, operand)? {
         Some(groups) => Ok(Some(Mode::WantName(kind, groups, Items::new(alloc)))),
         None => Ok(None),
     }
@@ -56,12 +57,14 @@ fn list_at_comma(
     stack: &mut Vec<Frame>,
     list: ListKind,
     parts: Parts,
-    x: Operand,
+    operand: Operand,
 ) -> Result<Option<Mode>, NoMemory>
-    ensures { IfOk result (spec.IsStep (spec.want_with (f.Listed list (operands.parts_with parts x))) stack.old.items stack.new.items) }
+    ensures { IfOk result
+        (spec.IsStep (spec.want_with (frame_kind.InList list (operands.parts_with parts operand)))
+        stack.old.items stack.new.items) }
 {
-    match parts_with(parts, x) {
-        Ok(parts) => opened(stack, Frame::Listed(list, parts), Mode::Want),
+    match parts_with(parts, operand) {
+        Ok(parts) => opened(stack, Frame::InList(list, parts), Mode::Want),
         Err(refused) => {
             let_go(list);
             Err(refused)
@@ -74,24 +77,25 @@ pub(crate) fn at_comma(
     alloc: Global,
     stack: &mut Vec<Frame>,
     frame: Frame,
-    x: Operand,
+    operand: Operand,
 ) -> Result<Option<Mode>, NoMemory>
-    ensures { IfOk result (spec.IsStep (spec.at_comma frame x) stack.old.items stack.new.items) }
+    ensures { IfOk result
+        (spec.IsStep (spec.at_comma frame operand) stack.old.items stack.new.items) }
 {
     match frame {
-        Frame::Listed(list, parts) => list_at_comma(stack, list, parts, x),
-        Frame::IfExpr => opened(stack, Frame::IfFirst(x), Mode::Want),
-        Frame::IfFirst(first) => opened(stack, Frame::IfSecond(first, x), Mode::Want),
+        Frame::InList(list, parts) => list_at_comma(stack, list, parts, operand),
+        Frame::IfExpr => opened(stack, Frame::IfFirst(operand), Mode::Want),
+        Frame::IfFirst(first) => opened(stack, Frame::IfSecond(first, operand), Mode::Want),
         Frame::IndexSet(kind, groups, names) => set_at_comma(
             alloc,
             stack.as_slice(),
             kind,
             groups,
             names,
-            x,
+            operand,
         ),
         other => {
-            refuse(other, x);
+            let_both_go(other, operand);
             Ok(None)
         }
     }
@@ -103,11 +107,13 @@ fn set_at_round(
     kind: IndexKind,
     groups: Groups,
     names: Items<SourceText>,
-    x: Operand,
+    operand: Operand,
 ) -> Result<Option<Mode>, NoMemory>
-    ensures { IfOk result (spec.IsStep (spec.set_at_round kind groups names x) stack.old.items stack.new.items) }
+    ensures { IfOk result
+        (spec.IsStep (spec.set_at_round kind groups names operand) stack.old.items
+        stack.new.items) }
 {
-    match set_read(groups, names, x)? {
+    match set_read(groups, names, operand)? {
         Some(groups) => index_read(stack, kind, whole_index_of(groups)),
         None => Ok(None),
     }
@@ -156,11 +162,12 @@ fn list_at_bracket(
     kind: TokenKind,
     list: ListKind,
     parts: Parts,
-    x: Operand,
+    operand: Operand,
 ) -> Result<Option<Mode>, NoMemory>
-    ensures { IfOk result (λ next. next ≡ spec.list_closed kind list (operands.parts_with parts x)) }
+    ensures { IfOk result
+        (λ next. next ≡ spec.list_closed kind list (operands.parts_with parts operand)) }
 {
-    match parts_with(parts, x) {
+    match parts_with(parts, operand) {
         Ok(parts) => Ok(list_closed(kind, list, parts)),
         Err(refused) => {
             let_go(list);
@@ -173,14 +180,14 @@ fn list_at_bracket(
 pub(crate) fn at_bracket(
     kind: TokenKind,
     frame: Frame,
-    x: Operand,
+    operand: Operand,
 ) -> Result<Option<Mode>, NoMemory>
-    ensures { IfOk result (spec.IsStepAnywhere (spec.at_bracket kind frame x)) }
+    ensures { IfOk result (spec.IsStepAnywhere (spec.at_bracket kind frame operand)) }
 {
     match frame {
-        Frame::Listed(list, parts) => list_at_bracket(kind, list, parts, x),
+        Frame::InList(list, parts) => list_at_bracket(kind, list, parts, operand),
         other => {
-            refuse(other, x);
+            let_both_go(other, operand);
             Ok(None)
         }
     }
@@ -191,11 +198,13 @@ fn condition_at_round(
     stack: &mut Vec<Frame>,
     kind: IndexKind,
     groups: Groups,
-    x: Operand,
+    operand: Operand,
 ) -> Result<Option<Mode>, NoMemory>
-    ensures { IfOk result (spec.IsStep (spec.index_read kind (operands.conditioned_index_of groups x)) stack.old.items stack.new.items) }
+    ensures { IfOk result
+        (spec.IsStep (spec.index_read kind (operands.conditioned_index_of groups operand))
+        stack.old.items stack.new.items) }
 {
-    match conditioned_index_of(alloc, groups, x) {
+    match conditioned_index_of(alloc, groups, operand) {
         Ok(whole) => index_read(stack, kind, whole),
         Err(refused) => Err(refused),
     }
@@ -206,17 +215,20 @@ pub(crate) fn at_round(
     alloc: Global,
     stack: &mut Vec<Frame>,
     frame: Frame,
-    x: Operand,
+    operand: Operand,
 ) -> Result<Option<Mode>, NoMemory>
-    ensures { IfOk result (spec.IsStep (spec.at_round frame x) stack.old.items stack.new.items) }
+    ensures { IfOk result
+        (spec.IsStep (spec.at_round frame operand) stack.old.items stack.new.items) }
 {
     match frame {
-        Frame::Bracket => Ok(Some(Mode::After(bracketed(x)))),
-        Frame::IfSecond(a, b) => Ok(Some(Mode::After(if_expr_of(alloc, a, b, x)?))),
-        Frame::Convert(to) => Ok(Some(Mode::After(convert_of(alloc, to, x)?))),
-        Frame::IndexSet(kind, groups, names) => set_at_round(stack, kind, groups, names, x),
-        Frame::IndexCondition(kind, groups) => condition_at_round(alloc, stack, kind, groups, x),
-        other => at_bracket(TokenKind::CloseRound, other, x),
+        Frame::Bracket => Ok(Some(Mode::After(bracket_of(operand)))),
+        Frame::IfSecond(a, b) => Ok(Some(Mode::After(if_expr_of(alloc, a, b, operand)?))),
+        Frame::Convert(to) => Ok(Some(Mode::After(convert_of(alloc, to, operand)?))),
+        Frame::IndexSet(kind, groups, names) => set_at_round(stack, kind, groups, names, operand),
+        Frame::IndexCondition(kind, groups) => condition_at_round(
+            alloc, stack, kind, groups, operand,
+        ),
+        other => at_bracket(TokenKind::CloseRound, other, operand),
     }
 }
 
@@ -226,11 +238,12 @@ fn set_at_bar(
     kind: IndexKind,
     groups: Groups,
     names: Items<SourceText>,
-    x: Operand,
+    operand: Operand,
 ) -> Result<Option<Mode>, NoMemory>
-    ensures { IfOk result (spec.IsStep (spec.set_at_bar kind groups names x) stack.old.items stack.new.items) }
+    ensures { IfOk result
+        (spec.IsStep (spec.set_at_bar kind groups names operand) stack.old.items stack.new.items) }
 {
-    match set_read(groups, names, x)? {
+    match set_read(groups, names, operand)? {
         Some(groups) => opened(stack, Frame::IndexCondition(kind, groups), Mode::Want),
         None => Ok(None),
     }
@@ -240,14 +253,15 @@ fn set_at_bar(
 pub(crate) fn at_bar(
     stack: &mut Vec<Frame>,
     frame: Frame,
-    x: Operand,
+    operand: Operand,
 ) -> Result<Option<Mode>, NoMemory>
-    ensures { IfOk result (spec.IsStep (spec.at_bar frame x) stack.old.items stack.new.items) }
+    ensures { IfOk result
+        (spec.IsStep (spec.at_bar frame operand) stack.old.items stack.new.items) }
 {
     match frame {
-        Frame::IndexSet(kind, groups, names) => set_at_bar(stack, kind, groups, names, x),
+        Frame::IndexSet(kind, groups, names) => set_at_bar(stack, kind, groups, names, operand),
         other => {
-            refuse(other, x);
+            let_both_go(other, operand);
             Ok(None)
         }
     }

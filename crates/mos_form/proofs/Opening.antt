@@ -4,15 +4,15 @@ use Rattle.std.proofs.Common.{◌≡◌, ℕ, Bool, true, false, List, ◌∷◌
 use Rattle.mos_tree.specs.declared.statement.Assignment.{Assignment}
 use Rattle.mos_tree.specs.declared.statement.Assignment.TheVariants as assignment
 use Rattle.mos_scan.specs.declared.token.TokenKind.{TokenKind}
-use Rattle.mos_scan.specs.declared.reading.Word.{Word}
-use Rattle.mos_scan.specs.declared.reading.Word.TheVariants as w
+use Rattle.mos_scan.specs.declared.grammar_word.Word.{Word}
+use Rattle.mos_scan.specs.declared.grammar_word.Word.TheVariants as word_kind
 use Rattle.mos_expr.specs.Grammar.{one_name, and_name}
 use Rattle.mos_tree.specs.declared.form.ConditionKeyword.{ConditionKeyword}
 use Rattle.mos_tree.specs.declared.form.ConditionKeyword.TheVariants as condition
 use Rattle.mos_tree.specs.declared.form.Keyword.{Keyword}
 use Rattle.mos_tree.specs.declared.form.Keyword.TheVariants as keyword
 use Rattle.mos_form.specs.declared.head.Head.{Head}
-use Rattle.mos_form.specs.declared.head.Head.TheVariants as h
+use Rattle.mos_form.specs.declared.head.Head.TheVariants as head_kind
 use Rattle.mos_form.specs.declared.head.Next.{Next}
 use Rattle.mos_form.specs.declared.head.Next.TheVariants as next
 use Rattle.mos_form.specs.Heads.{head_of, next_of}
@@ -21,20 +21,20 @@ use Rattle.mos_form.specs.Telling.{IsAlternative}
 
 -- what the first word of a piece says, where it is a token
 abbrev pub head_is : Phrase → Option Head
-head_is (word x) = Some h.Single
-head_is break_word = Some h.Single
-head_is next_word = Some h.Single
-head_is (model n) = Some h.Model
-head_is (uses_modules ns) = Some h.Uses
-head_is (options_name n) = Some h.Options
-head_is (procedure n xs) = Some h.Procedure
-head_is (function n xs b) = Some h.Function
-head_is (forward_procedure n xs) = Some h.Forward
-head_is (forward_function n xs b) = Some h.Forward
-head_is (assign to_result op s) = Some h.Returned
-head_is (guarded g s) = Some (h.Guarded g)
-head_is (forall_in i) = Some h.Forall
-head_is (initializations d s) = Some h.Initializations
+head_is (word x) = Some head_kind.Single
+head_is break_word = Some head_kind.Single
+head_is next_word = Some head_kind.Single
+head_is (model n) = Some head_kind.Model
+head_is (uses_modules ns) = Some head_kind.Uses
+head_is (options_name n) = Some head_kind.Options
+head_is (procedure n xs) = Some head_kind.Procedure
+head_is (function n xs b) = Some head_kind.Function
+head_is (forward_procedure n xs) = Some head_kind.Forward
+head_is (forward_function n xs b) = Some head_kind.Forward
+head_is (assign to_result op s) = Some head_kind.Returned
+head_is (guarded g s) = Some (head_kind.Guarded g)
+head_is (forall_in i) = Some head_kind.Forall
+head_is (initializations d s) = Some head_kind.Initializations
 head_is _ = None
 
 -- the word behind the name that a piece begins with
@@ -51,11 +51,11 @@ next_is (fill n xs) = Some next.Fill
 next_is (call n xs) = Some next.OpenRound
 next_is _ = None
 
-pub single_head : (x : Keyword) → head_of (token_of x) ≡ h.Single
+pub single_head : (x : Keyword) → head_of (token_of x) ≡ head_kind.Single
 single_head keyword.EndModel = refl
 single_head _ = refl
 
-guard_head : (g : ConditionKeyword) → head_of (condition_word g) ≡ h.Guarded g
+guard_head : (g : ConditionKeyword) → head_of (condition_word g) ≡ head_kind.Guarded g
 guard_head condition.If = refl
 guard_head _ = refl
 
@@ -65,16 +65,16 @@ operator_next _ = refl
 
 -- what words say by the first of them, by the one behind a name, and whether they begin with a token or a name
 abbrev first_head : List Word → Option Head
-first_head (w.Key kind ∷ rest) = Some (head_of kind)
+first_head (word_kind.Key kind ∷ rest) = Some (head_of kind)
 first_head _ = None
 
 abbrev second_next : List Word → Option Next
-second_next (w.Name n ∷ x ∷ rest) = Some (next_of x)
+second_next (word_kind.Name n ∷ x ∷ rest) = Some (next_of x)
 second_next _ = None
 
 abbrev pub begins : List Word → Bool
-begins (w.Key kind ∷ rest) = true
-begins (w.Name n ∷ rest) = true
+begins (word_kind.Key kind ∷ rest) = true
+begins (word_kind.Name n ∷ rest) = true
 begins _ = false
 
 record Opens (p : Phrase) : Type 0 where
@@ -94,10 +94,10 @@ opens (labels (and_label n None xs)) a = record { first_says = refl; second_says
 opens (alternative xs) a = absurd (a tt)
 opens _ a = record { first_says = refl; second_says = λ x e. e; well_begun = refl }
 
-pub key_head : (kind : TokenKind) (rest : List Word) (p : Phrase) → (IsAlternative p → ⊥) → w.Key kind ∷ rest ≡ words_of p → head_is p ≡ Some (head_of kind)
+pub key_head : (kind : TokenKind) (rest : List Word) (p : Phrase) → (IsAlternative p → ⊥) → word_kind.Key kind ∷ rest ≡ words_of p → head_is p ≡ Some (head_of kind)
 key_head kind rest p a e = sym (ap first_head e ∙ (opens p a).first_says)
 
-pub name_next : (m : List ℕ) (x : Word) (rest : List Word) (p : Phrase) → (IsAlternative p → ⊥) → w.Name m ∷ x ∷ rest ≡ words_of p → next_is p ≡ Some (next_of x)
+pub name_next : (m : List ℕ) (x : Word) (rest : List Word) (p : Phrase) → (IsAlternative p → ⊥) → word_kind.Name m ∷ x ∷ rest ≡ words_of p → next_is p ≡ Some (next_of x)
 name_next m x rest p a e = (opens p a).second_says (next_of x) (sym (ap second_next e))
 
 -- the first word of a piece is a token or a name

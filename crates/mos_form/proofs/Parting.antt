@@ -7,11 +7,11 @@ use Rattle.std.proofs.lemmas.List.Folds.{list_all-append}
 use Rattle.std.proofs.lemmas.List.Sums.{prefix_len-le-length}
 use Rattle.mos_tree.specs.declared.statement.Assignment.{Assignment}
 use Rattle.mos_tree.specs.declared.statement.Assignment.TheVariants as assignment
-use Rattle.mos_scan.specs.declared.token.TokenKind.TheVariants as t
-use Rattle.mos_scan.specs.declared.reading.Word.{Word}
-use Rattle.mos_scan.specs.declared.reading.Word.TheVariants as w
+use Rattle.mos_scan.specs.declared.token.TokenKind.TheVariants as token_kind
+use Rattle.mos_scan.specs.declared.grammar_word.Word.{Word}
+use Rattle.mos_scan.specs.declared.grammar_word.Word.TheVariants as word_kind
 use Rattle.mos_expr.specs.Grammar.{before}
-use Rattle.mos_typing.specs.Words.{is_plain, ArePlain}
+use Rattle.mos_typing.specs.PhraseWords.{is_plain, ArePlain}
 use Rattle.mos_form.specs.Cuts.{operator_of}
 use Rattle.mos_form.specs.Phrases.{operator_word}
 use Rattle.mos_form.proofs.Telling.{on_bool}
@@ -105,9 +105,9 @@ one_cut (a ∷ xs) (b ∷ us) x u ys vs h k m n e =
 -- ---- what assigns
 
 pub operator_known : (x : Word) (op : Assignment) → Some op ≡ operator_of x → x ≡ operator_word op
-operator_known (w.Key t.Assign) op e = let q : op ≡ assignment.Set = cc in rw q refl
-operator_known (w.Key t.AddAssign) op e = let q : op ≡ assignment.Add = cc in rw q refl
-operator_known (w.Key t.TakeAssign) op e = let q : op ≡ assignment.Take = cc in rw q refl
+operator_known (word_kind.Key token_kind.Assign) op e = let q : op ≡ assignment.Set = cc in rw q refl
+operator_known (word_kind.Key token_kind.AddAssign) op e = let q : op ≡ assignment.Add = cc in rw q refl
+operator_known (word_kind.Key token_kind.TakeAssign) op e = let q : op ≡ assignment.Take = cc in rw q refl
 operator_known _ op e = absurd cc
 
 pub operator_read : (op : Assignment) → operator_of (operator_word op) ≡ Some op

@@ -6,7 +6,7 @@ use Rattle.mos_expr.specs.Laws.{answer_at}
 use Rattle.mos_expr.specs.declared.fault.ExprFault.{ExprFault}
 use Rattle.mos_expr.specs.declared.fault.ExprFault.TheVariants as fault
 use Rattle.mos_tree.specs.declared.form.Form.{Form}
-use Rattle.mos_tree.specs.declared.form.Form.TheVariants as f
+use Rattle.mos_tree.specs.declared.form.Form.TheVariants as form_kind
 use Rattle.mos_tree.specs.declared.form.PieceKind.{PieceKind}
 use Rattle.mos_tree.specs.Forms.{piece_kind_of}
 use Rattle.mos_form.specs.Telling.{by_height}
@@ -15,10 +15,10 @@ use Rattle.mos_form.proofs.Telling.{on_bool}
 -- the form of what is said of words
 abbrev form_from : {T : Type 0} → (T → Form) → PieceKind → Result T ExprFault → Form
 form_from make kind (Ok made) = make made
-form_from make kind (Err fault) = f.TooHigh kind
+form_from make kind (Err fault) = form_kind.TooHigh kind
 
 answered : {T : Type 0} (make : T → Form) (kind : PieceKind) → ((x : T) → piece_kind_of (make x) ≡ kind) → (a : T) (h : ℕ) → by_height h (make a) ≡ form_from make kind (answer_at a h)
-answered make kind alike a h = on_bool (nat_le h 500) (λ e. rw e refl) (λ e. rw e (ap f.TooHigh (alike a)))
+answered make kind alike a h = on_bool (nat_le h 500) (λ e. rw e refl) (λ e. rw e (ap form_kind.TooHigh (alike a)))
 
 pub same_form : {T : Type 0} (make : T → Form) (kind : PieceKind) → ((x : T) → piece_kind_of (make x) ≡ kind) → (a b : T) (h i : ℕ) → answer_at a h ≡ answer_at b i
     → by_height h (make a) ≡ by_height i (make b)

@@ -5,13 +5,13 @@ use Rattle.mos_tree.specs.declared.expr.Expr.{Expr}
 use Rattle.mos_tree.specs.declared.form.Form.{Form}
 use Rattle.mos_tree.specs.declared.form.PieceKind.{PieceKind}
 use Rattle.mos_tree.specs.Forms.{piece_kind_of}
-use Rattle.mos_scan.specs.declared.reading.Word.{Word}
+use Rattle.mos_scan.specs.declared.grammar_word.Word.{Word}
 use Rattle.mos_expr.specs.Grammar.{height, heights, tree, trees}
 use Rattle.mos_expr.specs.Said.{Spelled, Says}
 use Rattle.mos_expr.specs.declared.fault.ExprFault.{ExprFault}
 use Rattle.mos_typing.specs.Spellings.{AreIndexesAndValue}
 use Rattle.mos_form.specs.Cells.{AreParts, parts_height, parts_trees}
-use Rattle.mos_form.specs.Telling.{Writes, TellsOf, refused}
+use Rattle.mos_form.specs.Telling.{Writes, TellsOf, refusal}
 use Rattle.mos_form.proofs.Telling.{Reads, tell_ok, tell_err}
 
 module _ {S T : Type 0} (Grouped : S → Type 0) (words_of : S → List Word) (tree_of : S → T) (height_of : S → ℕ) (words : List Word) where
@@ -25,7 +25,7 @@ module _ {S T : Type 0} (Grouped : S → Type 0) (words_of : S → List Word) (t
   spelled_ok make = tell_ok (Writes Grouped words_of words) tree_of height_of (Spelled Grouped words_of tree_of height_of words) reads make
 
   pub spelled_err : {E : Type 0} (make : T → Form) (kind : PieceKind) → ((t : T) → piece_kind_of (make t) ≡ kind) → (fault : ExprFault) → Says (Spelled Grouped words_of tree_of height_of words) (Err fault)
-      → (r : Result Form E) → IfOk r (λ form. Some form ≡ refused kind fault) → IfOk r (TellsOf Grouped words_of tree_of height_of make words)
+      → (r : Result Form E) → IfOk r (λ form. Some form ≡ refusal kind fault) → IfOk r (TellsOf Grouped words_of tree_of height_of make words)
   spelled_err make = tell_err (Writes Grouped words_of words) tree_of height_of (Spelled Grouped words_of tree_of height_of words) reads make
 
 -- two trees side by side

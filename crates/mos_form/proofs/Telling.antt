@@ -5,12 +5,12 @@ use Rattle.std.proofs.lemmas.Bool.{leb-true, leb-false}
 use Rattle.mos_expr.specs.Grammar.{limit}
 use Rattle.mos_expr.specs.Said.{Made, TooHigh, Says}
 use Rattle.mos_expr.specs.declared.fault.ExprFault.{ExprFault}
-use Rattle.mos_expr.specs.declared.fault.ExprFault.TheVariants as x
+use Rattle.mos_expr.specs.declared.fault.ExprFault.TheVariants as expr_fault
 use Rattle.mos_tree.specs.declared.form.Form.{Form}
-use Rattle.mos_tree.specs.declared.form.Form.TheVariants as f
+use Rattle.mos_tree.specs.declared.form.Form.TheVariants as form_kind
 use Rattle.mos_tree.specs.declared.form.PieceKind.{PieceKind}
 use Rattle.mos_tree.specs.Forms.{piece_kind_of}
-use Rattle.mos_form.specs.Telling.{Tells, told, untold, by_height, refused}
+use Rattle.mos_form.specs.Telling.{Tells, told, untold, by_height, refusal}
 
 -- either answer of a test
 pub on_bool : {P : Type 0} (b : Bool) → (b ≡ true → P) → (b ≡ false → P) → P
@@ -20,7 +20,7 @@ on_bool false yes_case no_case = no_case refl
 pub low : (h : ℕ) (form : Form) → h ≤ limit → by_height h form ≡ form
 low h form less = on_bool (nat_le h 500) (λ e. rw e refl) (λ e. absurd (omega (arith, leb-false h 500 e)))
 
-pub high : (h : ℕ) (form : Form) → limit < h → by_height h form ≡ f.TooHigh (piece_kind_of form)
+pub high : (h : ℕ) (form : Form) → limit < h → by_height h form ≡ form_kind.TooHigh (piece_kind_of form)
 high h form more = on_bool (nat_le h 500) (λ e. absurd (omega (arith, leb-true h 500 e))) (λ e. rw e refl)
 
 -- it is this form
@@ -48,22 +48,22 @@ module _ {S T : Type 0} (Is : S → Type 0) (tree_of : S → T) (height_of : S �
       let b : (s : S) × Is s × (t ≡ tree_of s) × (k.high ≡ height_of s) = reads.back t k.high k.is in
       tell_as Is told_of (make t) b.0 b.1 (made_is t k b.0 b.1) (made_is t k)
 
-  high_is : (kind : PieceKind) → ((t : T) → piece_kind_of (make t) ≡ kind) → TooHigh Spells → (s : S) → Is s → told_of s ≡ f.TooHigh kind
-  high_is kind same k s h = high (height_of s) (make (tree_of s)) (k.only (tree_of s) (height_of s) (reads.into s h)) ∙ ap f.TooHigh (same (tree_of s))
+  high_is : (kind : PieceKind) → ((t : T) → piece_kind_of (make t) ≡ kind) → TooHigh Spells → (s : S) → Is s → told_of s ≡ form_kind.TooHigh kind
+  high_is kind same k s h = high (height_of s) (make (tree_of s)) (k.only (tree_of s) (height_of s) (reads.into s h)) ∙ ap form_kind.TooHigh (same (tree_of s))
 
   -- they have none
-  tell_fault : (kind : PieceKind) → ((t : T) → piece_kind_of (make t) ≡ kind) → (fault : ExprFault) → Says Spells (Err fault) → (form : Form) → Some form ≡ refused kind fault → Tells S Is told_of form
+  tell_fault : (kind : PieceKind) → ((t : T) → piece_kind_of (make t) ≡ kind) → (fault : ExprFault) → Says Spells (Err fault) → (form : Form) → Some form ≡ refusal kind fault → Tells S Is told_of form
   unfolding Says
-  tell_fault kind same x.NoMemory k form e = cc
-  tell_fault kind same x.NoExpr k form e =
-      let p : form ≡ f.Unknown = cc in
+  tell_fault kind same expr_fault.NoMemory k form e = cc
+  tell_fault kind same expr_fault.NoExpr k form e =
+      let p : form ≡ form_kind.Unknown = cc in
       subst (Tells S Is told_of) (sym p) (untold (λ s h. k.none (tree_of s) (height_of s) (reads.into s h)))
-  tell_fault kind same x.Deep k form e =
-      let p : form ≡ f.TooHigh kind = cc in
+  tell_fault kind same expr_fault.Deep k form e =
+      let p : form ≡ form_kind.TooHigh kind = cc in
       let b : (s : S) × Is s × (k.made ≡ tree_of s) × (k.high ≡ height_of s) = reads.back k.made k.high k.is in
-      subst (Tells S Is told_of) (sym p) (tell_as Is told_of (f.TooHigh kind) b.0 b.1 (high_is kind same k b.0 b.1) (high_is kind same k))
+      subst (Tells S Is told_of) (sym p) (tell_as Is told_of (form_kind.TooHigh kind) b.0 b.1 (high_is kind same k b.0 b.1) (high_is kind same k))
 
-  pub tell_err : {E : Type 0} (kind : PieceKind) → ((t : T) → piece_kind_of (make t) ≡ kind) → (fault : ExprFault) → Says Spells (Err fault) → (r : Result Form E) → IfOk r (λ form. Some form ≡ refused kind fault) → IfOk r (Tells S Is told_of)
+  pub tell_err : {E : Type 0} (kind : PieceKind) → ((t : T) → piece_kind_of (make t) ≡ kind) → (fault : ExprFault) → Says Spells (Err fault) → (r : Result Form E) → IfOk r (λ form. Some form ≡ refusal kind fault) → IfOk r (Tells S Is told_of)
   tell_err kind same fault k (Err e) is = tt
   tell_err kind same fault k (Ok form) is = tell_fault kind same fault k form is
 

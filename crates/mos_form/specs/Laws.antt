@@ -1,7 +1,7 @@
 -- Laws of the forms of pieces: words have a form, and only one.
 
 use Rattle.std.specs.Prelude.{◌≡◌, List}
-use Rattle.mos_scan.specs.declared.reading.Word.{Word}
+use Rattle.mos_scan.specs.declared.grammar_word.Word.{Word}
 use Rattle.mos_tree.specs.declared.form.Form.{Form}
 use Rattle.mos_form.specs.Phrases.{IsFormOf}
 

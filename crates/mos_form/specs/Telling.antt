@@ -8,35 +8,35 @@ use Rattle.mos_tree.specs.declared.declaration.TypeForm.{TypeForm}
 use Rattle.mos_tree.specs.declared.declaration.FormalGroup.{FormalGroup}
 use Rattle.mos_tree.specs.declared.statement.Assignment.{Assignment}
 use Rattle.mos_tree.specs.declared.statement.Reference.{Reference}
-use Rattle.mos_scan.specs.declared.reading.Word.{Word}
-use Rattle.mos_expr.specs.Grammar.{Names, spell_names, list_of_names, height, heights, height_over, limit, tree, trees, index_of, IsGrouped, AreGrouped, IsGroupedOver, spell, spell_list, spell_over}
+use Rattle.mos_scan.specs.declared.grammar_word.Word.{Word}
+use Rattle.mos_expr.specs.Grammar.{Names, spell_names, list_of_names, height, heights, height_index, limit, tree, trees, index_of, IsGrouped, AreGrouped, IsGroupedIndex, spell, spell_list, spell_index}
 use Rattle.mos_expr.specs.declared.fault.ExprFault.{ExprFault}
 use Rattle.mos_expr.specs.declared.fault.ExprFault.TheVariants as fault
 use Rattle.mos_typing.specs.Typing.{Typing, tallest_type, tallest_formals, type_of, formals_of, TypeIsGrouped, FormalsAreGrouped, typing_words, formal_words}
 use Rattle.mos_tree.specs.declared.form.Form.{Form}
-use Rattle.mos_tree.specs.declared.form.Form.TheVariants as f
+use Rattle.mos_tree.specs.declared.form.Form.TheVariants as form_kind
 use Rattle.mos_tree.specs.declared.form.PieceKind.{PieceKind}
 use Rattle.mos_tree.specs.declared.form.Simple.TheVariants as simple
 use Rattle.mos_tree.specs.Forms.{piece_kind_of}
 use Rattle.mos_form.specs.Phrases.{Phrase, alternative, call, typed, labels, assign, operator_word, target_words, IsPhrase, answer}
-use Rattle.mos_scan.specs.declared.token.TokenKind.TheVariants as t
+use Rattle.mos_scan.specs.declared.token.TokenKind.TheVariants as token_kind
 use Rattle.mos_expr.specs.Said.{AreSomeGrouped}
-use Rattle.mos_scan.specs.declared.reading.Word.TheVariants as w
+use Rattle.mos_scan.specs.declared.grammar_word.Word.TheVariants as word_kind
 
 -- the form of the one thing that fits, or that none fits
 pub data Tells (A : Type 0) (Is : A → Type 0) (answer : A → Form) : Form → Type 0 where
   told : (x : A) → Is x → ((y : A) → Is y → answer y ≡ answer x) → Tells A Is answer (answer x)
-  untold : ((x : A) → Is x → ⊥) → Tells A Is answer f.Unknown
+  untold : ((x : A) → Is x → ⊥) → Tells A Is answer form_kind.Unknown
 
 -- a form with expressions of this height
 abbrev pub by_height : ℕ → Form → Form
-by_height h form = if nat_le h limit then form else f.TooHigh (piece_kind_of form)
+by_height h form = if nat_le h limit then form else form_kind.TooHigh (piece_kind_of form)
 
 -- what a piece of a kind is whose expressions have no trees
-abbrev pub refused : PieceKind → ExprFault → Option Form
-refused kind fault.NoExpr = Some f.Unknown
-refused kind fault.Deep = Some (f.TooHigh kind)
-refused kind fault.NoMemory = None
+abbrev pub refusal : PieceKind → ExprFault → Option Form
+refusal kind fault.NoExpr = Some form_kind.Unknown
+refusal kind fault.Deep = Some (form_kind.TooHigh kind)
+refusal kind fault.NoMemory = None
 
 -- what is written is grouped rightly and has these words
 pub record Writes {S : Type 0} (Grouped : S → Type 0) (words_of : S → List Word) (words : List Word) (written : S) : Type 0 where
@@ -61,7 +61,7 @@ TellsSome = TellsOf AreSomeGrouped spell_list trees heights
 
 -- a form with an index
 abbrev pub TellsIndex : (Index Expr → Form) → List Word → Form → Type 0
-TellsIndex = TellsOf IsGroupedOver spell_over index_of height_over
+TellsIndex = TellsOf IsGroupedIndex spell_index index_of height_index
 
 -- a form with a type
 abbrev pub TellsType : (TypeForm → Form) → List Word → Form → Type 0
@@ -72,16 +72,16 @@ abbrev pub TellsFormals : (List FormalGroup → Form) → List Word → Form →
 TellsFormals = TellsOf FormalsAreGrouped formal_words formals_of tallest_formals
 
 -- an assignment
-abbrev pub assigned : Reference → Assignment → Expr → Form
-assigned target operator value = f.Simple (simple.Assign target operator value)
+abbrev pub assign_form : Reference → Assignment → Expr → Form
+assign_form target operator value = form_kind.Simple (simple.Assign target operator value)
 
 -- a call
-abbrev pub called : List ℕ → List Expr → Form
-called name arguments = f.Simple (simple.Call name arguments)
+abbrev pub call_form : List ℕ → List Expr → Form
+call_form name arguments = form_kind.Simple (simple.Call name arguments)
 
 -- cells that are filled
-abbrev pub filled : List ℕ → List Expr → Form
-filled name values = f.Simple (simple.Fill name values)
+abbrev pub fill_form : List ℕ → List Expr → Form
+fill_form name values = form_kind.Simple (simple.Fill name values)
 
 -- the labels of `case`, which alone end in a colon
 abbrev pub IsAlternative : Phrase → Type 0
@@ -103,7 +103,7 @@ IsCall _ = ⊥
 
 -- what a call is
 abbrev pub TellsCall : List ℕ → List Word → Form → Type 0
-TellsCall name behind = Tells Phrase (λ p. IsPhrase (w.Name name ∷ w.Key t.OpenRound ∷ behind) p × IsCall p) answer
+TellsCall name behind = Tells Phrase (λ p. IsPhrase (word_kind.Name name ∷ word_kind.Key token_kind.OpenRound ∷ behind) p × IsCall p) answer
 
 -- an assignment whose target has these words behind its bracket
 abbrev pub TargetIs : List Word → Phrase → Type 0
@@ -113,7 +113,7 @@ TargetIs words _ = ⊥
 -- what an assignment to a cell is
 abbrev pub TellsCellSet : List ℕ → List Word → Assignment → List Word → Form → Type 0
 TellsCellSet name target operator value =
-    Tells Phrase (λ p. IsPhrase (w.Name name ∷ w.Key t.OpenRound ∷ (target ++ operator_word operator ∷ value)) p × TargetIs (w.Name name ∷ w.Key t.OpenRound ∷ target) p) answer
+    Tells Phrase (λ p. IsPhrase (word_kind.Name name ∷ word_kind.Key token_kind.OpenRound ∷ (target ++ operator_word operator ∷ value)) p × TargetIs (word_kind.Name name ∷ word_kind.Key token_kind.OpenRound ∷ target) p) answer
 
 -- names with a type, or labels
 abbrev pub IsListed : Phrase → Type 0
@@ -131,7 +131,7 @@ AreTyped before behind p = (before ≡ spell_names p.0) × Writes TypeIsGrouped 
 
 -- what names with a type are
 abbrev pub TellsTyped : List Word → List Word → Form → Type 0
-TellsTyped before behind = Tells (Names × Typing) (AreTyped before behind) (λ p. by_height (tallest_type p.1) (f.Typed (list_of_names p.0) (type_of p.1)))
+TellsTyped before behind = Tells (Names × Typing) (AreTyped before behind) (λ p. by_height (tallest_type p.1) (form_kind.Typed (list_of_names p.0) (type_of p.1)))
 
 -- more than one word
 abbrev pub HasMore : List Word → Type 0

@@ -1,8 +1,8 @@
 //! Where the words of a piece part.
 ghost use Rattle.std.specs.Prelude.{◌≡◌, ◌++◌, ◌∷◌, [], List, ℕ, MatchOption, true, false};
 ghost use Rattle.std.specs.List.{prefix_len};
-ghost use Rattle.mos_scan.specs.declared.reading.Word.TheVariants as w;
-ghost use Rattle.mos_typing.specs.Words as plain;
+ghost use Rattle.mos_scan.specs.declared.grammar_word.Word.TheVariants as word_kind;
+ghost use Rattle.mos_typing.specs.PhraseWords as plain;
 ghost use Rattle.mos_typing.specs.Shapes.{AreNo, AreNoPair};
 ghost use Rattle.mos_form.specs.Cuts as spec;
 
@@ -26,8 +26,8 @@ pub(crate) fn last(words: &[Word]) -> Option<(&Word, &[Word])>
 
 /// Whether the word is this token.
 pub(crate) fn is_key(word: &Word, kind: TokenKind) -> bool
-    ensures yes { result ≡ true → word.now ≡ w.Key kind }
-    ensures no { result ≡ false → word.now ≡ w.Key kind → ⊥ }
+    ensures yes { result ≡ true → word.now ≡ word_kind.Key kind }
+    ensures no { result ≡ false → word.now ≡ word_kind.Key kind → ⊥ }
 {
     match word {
         Word::Key(found) => *found == kind,
@@ -59,8 +59,8 @@ pub(crate) fn enclosed(words: &[Word], opens: TokenKind, closes: TokenKind) -> O
 
 /// The name that the word is.
 fn name_of(word: &Word) -> Option<&SourceText>
-    ensures { MatchOption result ((name : List ℕ) → word.now ≡ w.Name name → ⊥)
-        (λ name. word.now ≡ w.Name name.now) }
+    ensures { MatchOption result ((name : List ℕ) → word.now ≡ word_kind.Name name → ⊥)
+        (λ name. word.now ≡ word_kind.Name name.now) }
 {
     match word {
         Word::Name(name) => Some(name),

@@ -1,7 +1,7 @@
 //! Pieces that are known up to their expressions.
 ghost use Rattle.std.specs.Prelude.{◌≡◌, IfOk, Some};
 ghost use Rattle.mos_form.specs.Telling as spec;
-ghost use Rattle.mos_tree.specs.declared.form.Form.TheVariants as f;
+ghost use Rattle.mos_tree.specs.declared.form.Form.TheVariants as form_kind;
 
 use crate::head::condition_kind;
 use mos_expr::{
@@ -16,7 +16,7 @@ use std::alloc::Global;
 
 /// What a piece of this kind is where its expressions have no trees.
 pub(crate) fn refused(fault: ExprFault, kind: PieceKind) -> Result<Form, NoMemory>
-    ensures { IfOk result (λ form. Some form ≡ spec.refused kind fault) }
+    ensures { IfOk result (λ form. Some form ≡ spec.refusal kind fault) }
 {
     match fault {
         ExprFault::NoExpr => Ok(Form::Unknown),
@@ -31,7 +31,7 @@ pub(crate) fn guarded(
     keyword: ConditionKeyword,
     words: &[Word],
 ) -> Result<Form, NoMemory>
-    ensures { IfOk result (spec.TellsOne (λ x. f.Guarded keyword x) words.now) }
+    ensures { IfOk result (spec.TellsOne (λ x. form_kind.Guarded keyword x) words.now) }
 {
     match expression_of_words(alloc, words) {
         Ok(condition) => Ok(Form::Guarded(keyword, condition)),
@@ -41,7 +41,7 @@ pub(crate) fn guarded(
 
 /// The constant with this value.
 pub(crate) fn definition(alloc: Global, name: &SourceText, words: &[Word]) -> Result<Form, NoMemory>
-    ensures { IfOk result (spec.TellsOne (λ x. f.Definition name.now x) words.now) }
+    ensures { IfOk result (spec.TellsOne (λ x. form_kind.Definition name.now x) words.now) }
 {
     let name = name.copy(alloc)?;
     match expression_of_words(alloc, words) {
@@ -59,7 +59,7 @@ pub(crate) fn initializations(
     direction: Direction,
     words: &[Word],
 ) -> Result<Form, NoMemory>
-    ensures { IfOk result (spec.TellsOne (λ x. f.Initializations direction x) words.now) }
+    ensures { IfOk result (spec.TellsOne (λ x. form_kind.Initializations direction x) words.now) }
 {
     match expression_of_words(alloc, words) {
         Ok(name) => Ok(Form::Initializations { direction, name }),
@@ -74,7 +74,7 @@ pub(crate) fn assignment(
     operator: Assignment,
     words: &[Word],
 ) -> Result<Form, NoMemory>
-    ensures { IfOk result (spec.TellsOne (spec.assigned target operator) words.now) }
+    ensures { IfOk result (spec.TellsOne (spec.assign_form target operator) words.now) }
 {
     match expression_of_words(alloc, words) {
         Ok(value) => Ok(assigned(target, operator, value)),
@@ -86,7 +86,7 @@ pub(crate) fn assignment(
 }
 
 pub(crate) fn assigned(target: Reference, operator: Assignment, value: Expr) -> Form
-    ensures { result ≡ spec.assigned target operator value }
+    ensures { result ≡ spec.assign_form target operator value }
 {
     Form::Simple(Simple::Assign {
         target,
@@ -97,7 +97,7 @@ pub(crate) fn assigned(target: Reference, operator: Assignment, value: Expr) -> 
 
 /// The call with these arguments.
 pub(crate) fn call(alloc: Global, name: &SourceText, words: &[Word]) -> Result<Form, NoMemory>
-    ensures { IfOk result (spec.TellsAll (spec.called name.now) words.now) }
+    ensures { IfOk result (spec.TellsAll (spec.call_form name.now) words.now) }
 {
     let name = name.copy(alloc)?;
     match expressions_of_words(alloc, words) {
@@ -111,7 +111,7 @@ pub(crate) fn call(alloc: Global, name: &SourceText, words: &[Word]) -> Result<F
 
 /// The cells that are filled with these values.
 pub(crate) fn filling(alloc: Global, name: &SourceText, words: &[Word]) -> Result<Form, NoMemory>
-    ensures { IfOk result (spec.TellsAll (spec.filled name.now) words.now) }
+    ensures { IfOk result (spec.TellsAll (spec.fill_form name.now) words.now) }
 {
     let name = name.copy(alloc)?;
     match expressions_of_words(alloc, words) {
@@ -125,7 +125,7 @@ pub(crate) fn filling(alloc: Global, name: &SourceText, words: &[Word]) -> Resul
 
 /// The alternative with these labels.
 pub(crate) fn alternative(alloc: Global, words: &[Word]) -> Result<Form, NoMemory>
-    ensures { IfOk result (spec.TellsSome (λ xs. f.Alternative xs) words.now) }
+    ensures { IfOk result (spec.TellsSome (λ xs. form_kind.Alternative xs) words.now) }
 {
     match some_expressions_of_words(alloc, words) {
         Ok(labels) => Ok(Form::Alternative(labels)),
@@ -135,7 +135,7 @@ pub(crate) fn alternative(alloc: Global, words: &[Word]) -> Result<Form, NoMemor
 
 /// The loop over this index.
 pub(crate) fn forall(alloc: Global, words: &[Word]) -> Result<Form, NoMemory>
-    ensures { IfOk result (spec.TellsIndex (λ x. f.Forall x) words.now) }
+    ensures { IfOk result (spec.TellsIndex (λ x. form_kind.Forall x) words.now) }
 {
     match index_of_words(alloc, words) {
         Ok(index) => Ok(Form::Forall(index)),
@@ -149,7 +149,7 @@ pub(crate) fn typed_as(
     names: Items<SourceText>,
     words: &[Word],
 ) -> Result<Form, NoMemory>
-    ensures { IfOk result (spec.TellsType (λ x. f.Typed names x) words.now) }
+    ensures { IfOk result (spec.TellsType (λ x. form_kind.Typed names x) words.now) }
 {
     match type_form(alloc, words) {
         Ok(typ) => Ok(Form::Typed { names, typ }),

@@ -1,7 +1,7 @@
 //! Pieces with names, texts and formals behind their first word.
 ghost use Rattle.std.specs.Prelude.{◌≡◌, ◌∷◌, Some, None, IfOk};
-ghost use Rattle.mos_scan.specs.declared.reading.Word.TheVariants as w;
-ghost use Rattle.mos_scan.specs.declared.token.TokenKind.TheVariants as t;
+ghost use Rattle.mos_scan.specs.declared.grammar_word.Word.TheVariants as word_kind;
+ghost use Rattle.mos_scan.specs.declared.token.TokenKind.TheVariants as token_kind;
 ghost use Rattle.mos_form.specs.Fixed as fixed;
 ghost use Rattle.mos_form.specs.Telling as spec;
 
@@ -97,7 +97,7 @@ fn routine(
 
 /// What stands behind `procedure`, which may itself stand behind `forward`.
 pub(crate) fn procedure(alloc: Global, forward: bool, words: &[Word]) -> Result<Form, NoMemory>
-    ensures { IfOk result (spec.TellsPiece (fixed.lead forward t.Procedure words.now)) }
+    ensures { IfOk result (spec.TellsPiece (fixed.lead forward token_kind.Procedure words.now)) }
 {
     match first_name(words) {
         Some((name, formals)) => routine(alloc, forward, name, formals, None),
@@ -112,7 +112,8 @@ fn after_name(
     name: &SourceText,
     words: &[Word],
 ) -> Result<Form, NoMemory>
-    ensures { IfOk result (spec.TellsPiece (fixed.lead forward t.Function (w.Name name.now
+    ensures { IfOk result
+        (spec.TellsPiece (fixed.lead forward token_kind.Function (word_kind.Name name.now
         ∷ words.now))) }
 {
     match before_result(words) {
@@ -129,7 +130,7 @@ fn after_name(
 
 /// What stands behind `function`, which may itself stand behind `forward`.
 pub(crate) fn function(alloc: Global, forward: bool, words: &[Word]) -> Result<Form, NoMemory>
-    ensures { IfOk result (spec.TellsPiece (fixed.lead forward t.Function words.now)) }
+    ensures { IfOk result (spec.TellsPiece (fixed.lead forward token_kind.Function words.now)) }
 {
     match first_name(words) {
         Some((name, rest)) => after_name(alloc, forward, name, rest),
@@ -139,7 +140,7 @@ pub(crate) fn function(alloc: Global, forward: bool, words: &[Word]) -> Result<F
 
 /// What stands behind `forward`.
 pub(crate) fn forward(alloc: Global, words: &[Word]) -> Result<Form, NoMemory>
-    ensures { IfOk result (spec.TellsPiece (w.Key t.Forward ∷ words.now)) }
+    ensures { IfOk result (spec.TellsPiece (word_kind.Key token_kind.Forward ∷ words.now)) }
 {
     match first(words) {
         Some((word, rest)) => {

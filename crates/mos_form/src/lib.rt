@@ -4,11 +4,11 @@
 mod cells;
 mod cut;
 mod expressions;
+mod form_reader;
 mod head;
 mod headings;
 mod laws;
 mod lists;
-mod reading;
 
+pub use form_reader::form_of;
 pub use laws::words_have_one_form;
-pub use reading::form_of;

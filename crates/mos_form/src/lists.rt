@@ -1,6 +1,6 @@
 //! Lists with commas between their parts.
 ghost use Rattle.std.specs.Prelude.{◌≡◌, ◌≤◌, ◌∷◌, [], length, IfOk, MatchOption};
-ghost use Rattle.mos_scan.specs.declared.reading.Word.TheVariants as w;
+ghost use Rattle.mos_scan.specs.declared.grammar_word.Word.TheVariants as word_kind;
 ghost use Rattle.mos_typing.specs.Shapes.{AreNoPair};
 ghost use Rattle.mos_form.specs.Lists as spec;
 
@@ -85,7 +85,7 @@ fn next_label<'a>(
     name: &SourceText,
     after: &'a [Word],
 ) -> Result<(Items<Label>, &'a [Word]), NoMemory>
-    ensures reads { IfOk result (λ p. spec.read_labels found (w.Name name.now ∷ after.now)
+    ensures reads { IfOk result (λ p. spec.read_labels found (word_kind.Name name.now ∷ after.now)
         ≡ spec.behind_label p.0 p.1.now) }
     ensures shorter { IfOk result (λ p. length p.1.now ≤ length after.now) }
 {

@@ -9,7 +9,7 @@ use Rattle.mos_text.specs.declared.fault_kind.FaultKind.TheVariants.{OutFull}
 use Rattle.mos_names.specs.NameLists.{Name}
 use Rattle.mos_value.specs.Values.{Value, One, SetOf, ListOf, Range, Fields}
 use Rattle.run_state.specs.Stops.{Stop, Exited, Failed, Spent, Stopped, Asking, Stuck, Lost}
-use Rattle.run_state.specs.State.{World, State, Out, Gave, Halts, bind, on_line, counting, had, tick_if, write}
+use Rattle.run_state.specs.State.{World, State, Evaluation, Yields, StopsWith, bind, on_line, with_counts, on_drawn, tick_if, write}
 use Rattle.mos_meaning.specs.Values.{ticking}
 
 -- a stop that a model without calls can come to
@@ -44,18 +44,18 @@ pub record Sound (w : World) (names : List Name) (least : ℕ) (s : State) : Typ
   pub within : s.counts.ticks ≤ w.budget
   pub silent : s.counts.calls ≡ []
 
-abbrev pub FineIs : World → List Name → ℕ → {A : Type 0} → (A → Type 0) → Out A → Type 0
-FineIs w names least P (Gave x s) = Sound w names least s × P x
-FineIs w names least P (Halts stop line s) = HasReason stop × (s.counts.calls ≡ [])
+abbrev pub FineIs : World → List Name → ℕ → {A : Type 0} → (A → Type 0) → Evaluation A → Type 0
+FineIs w names least P (Yields x s) = Sound w names least s × P x
+FineIs w names least P (StopsWith stop line s) = HasReason stop × (s.counts.calls ≡ [])
 
-pub record Fine (w : World) (names : List Name) (least : ℕ) {A : Type 0} (P : A → Type 0) (o : Out A) : Type 0 where
+pub record Fine (w : World) (names : List Name) (least : ℕ) {A : Type 0} (P : A → Type 0) (o : Evaluation A) : Type 0 where
   pub by : FineIs w names least P o
 
-pub gave : {w : World} {names : List Name} {least : ℕ} {A : Type 0} {P : A → Type 0} {x : A} {s : State} → Sound w names least s → P x → Fine w names least P (Gave x s)
+pub gave : {w : World} {names : List Name} {least : ℕ} {A : Type 0} {P : A → Type 0} {x : A} {s : State} → Sound w names least s → P x → Fine w names least P (Yields x s)
 gave sound h = record { by = (sound, h) }
 
 pub halts : {w : World} {names : List Name} {inner least : ℕ} {A : Type 0} {P : A → Type 0} {stop : Stop} {line : Option ℕ} {s : State}
-    → Sound w names inner s → HasReason stop → Fine w names least P (Halts stop line s)
+    → Sound w names inner s → HasReason stop → Fine w names least P (StopsWith stop line s)
 halts sound h = record { by = (h, sound.silent) }
 
 -- a later bound is one
@@ -82,22 +82,22 @@ renewed sound = record {
   silent = sound.silent;
 }
 
-pub then_fine : {w : World} {names : List Name} {inner least : ℕ} {A B : Type 0} {P : A → Type 0} {Q : B → Type 0} (o : Out A) (go : A → State → Out B)
+pub then_fine : {w : World} {names : List Name} {inner least : ℕ} {A B : Type 0} {P : A → Type 0} {Q : B → Type 0} (o : Evaluation A) (go : A → State → Evaluation B)
     → Fine w names inner P o → ((x : A) (s : State) → Sound w names inner s → P x → Fine w names least Q (go x s)) → Fine w names least Q (bind o go)
-then_fine (Gave x s) go f h = h x s f.by.0 f.by.1
-then_fine (Halts stop line s) go f h = record { by = f.by }
+then_fine (Yields x s) go f h = h x s f.by.0 f.by.1
+then_fine (StopsWith stop line s) go f h = record { by = f.by }
 
-pub on_line_fine : {w : World} {names : List Name} {least : ℕ} {A : Type 0} {P : A → Type 0} (line : ℕ) (o : Out A) → Fine w names least P o → Fine w names least P (on_line line o)
-on_line_fine line (Gave x s) f = f
-on_line_fine line (Halts stop inner s) f = record { by = f.by }
+pub on_line_fine : {w : World} {names : List Name} {least : ℕ} {A : Type 0} {P : A → Type 0} (line : ℕ) (o : Evaluation A) → Fine w names least P o → Fine w names least P (on_line line o)
+on_line_fine line (Yields x s) f = f
+on_line_fine line (StopsWith stop inner s) f = record { by = f.by }
 
 -- a tick makes the bound greater
-pub tick_fine : {w : World} {names : List Name} {least inner : ℕ} {A : Type 0} {P : A → Type 0} (s : State) (go : State → Out A) → Sound w names inner s
+pub tick_fine : {w : World} {names : List Name} {least inner : ℕ} {A : Type 0} {P : A → Type 0} (s : State) (go : State → Evaluation A) → Sound w names inner s
     → ((s1 : State) → Sound w names (s.counts.ticks + 1) s1 → Fine w names least P (go s1)) → Fine w names least P (ticking w s go)
 tick_fine {w = w} {names = names} {least = least} {A = A} {P = P} s go sound h = tested (nat_lt s.counts.ticks w.budget) refl
   where
-    tested : (b : Bool) → nat_lt s.counts.ticks w.budget ≡ b → Fine w names least P (bind (had (tick_if b s.counts) s) (λ done s1. go s1))
-    tested true e = h (counting (record s.counts { ticks = s.counts.ticks + 1 }) s) (record {
+    tested : (b : Bool) → nat_lt s.counts.ticks w.budget ≡ b → Fine w names least P (bind (on_drawn (tick_if b s.counts) s) (λ done s1. go s1))
+    tested true e = h (with_counts (record s.counts { ticks = s.counts.ticks + 1 }) s) (record {
       frame = sound.frame;
       store = sound.store;
       wide = sound.wide;
@@ -109,11 +109,11 @@ tick_fine {w = w} {names = names} {least = least} {A = A} {P = P} s go sound h =
     tested false e = record { by = (tt, sound.silent) }
 
 -- what is written leaves the variables
-pub write_fine : {w : World} {names : List Name} {least inner : ℕ} {A : Type 0} {P : A → Type 0} (text : List ℕ) (s : State) (go : Unit {0} → State → Out A) → Sound w names inner s
+pub write_fine : {w : World} {names : List Name} {least inner : ℕ} {A : Type 0} {P : A → Type 0} (text : List ℕ) (s : State) (go : Unit {0} → State → Evaluation A) → Sound w names inner s
     → ((s1 : State) → Sound w names inner s1 → Fine w names least P (go tt s1)) → Fine w names least P (bind (write text s) go)
 write_fine {w = w} {names = names} {least = least} {A = A} {P = P} text s go sound h = tested (nat_le (length s.memory.output + length text) 1048576)
   where
-    tested : (b : Bool) → Fine w names least P (bind (if b then Gave tt (record s { memory = record s.memory { output = s.memory.output ++ text } }) else Halts (Failed OutFull) None s) go)
+    tested : (b : Bool) → Fine w names least P (bind (if b then Yields tt (record s { memory = record s.memory { output = s.memory.output ++ text } }) else StopsWith (Failed OutFull) None s) go)
     tested true = h (record s { memory = record s.memory { output = s.memory.output ++ text } }) (record {
       frame = sound.frame;
       store = sound.store;

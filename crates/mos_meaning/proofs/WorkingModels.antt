@@ -14,20 +14,20 @@ use Rattle.mos_text.specs.declared.scalar.Scalar.TheVariants.{Int, Bool as Truth
 use Rattle.job_calls.specs.declared.reply.Reply.{Reply}
 use Rattle.mos_names.specs.NameLists.{Name, has_name, place_of}
 use Rattle.mos_value.specs.Values.{Value, One, SetOf, ListOf, Range, Fields}
-use Rattle.mos_value.specs.Answers.{Comparison, equal, not_equal, less, at_most, greater, at_least, Operator, between, sum, difference, compare, show, answer, found}
+use Rattle.mos_value.specs.Answers.{Comparison, equal, not_equal, less, at_most, greater, at_least, Operator, between, sum, difference, compare, show, answer, result_of_found}
 use Rattle.mos_value.specs.Numbers.{sum_of, difference_of}
 use Rattle.mos_value.specs.Texts.{text_of, show_one}
 use Rattle.mos_value.specs.Answers as how
 use Rattle.run_state.specs.Stops.{Lost, Outcome}
-use Rattle.run_state.specs.State.{World, State, Out, Gave, Halts, on_line, or_stop, answered, line_end}
+use Rattle.run_state.specs.State.{World, State, Evaluation, Yields, StopsWith, on_line, or_stop, evaluation_of, line_end}
 use Rattle.run_state.specs.Places.{load_in, put_in, put_slot}
 use Rattle.run_state.specs.Parameters.{given_values}
-use Rattle.mos_meaning.specs.Syntax.{Scope, Own, Model, Expression, number, text, truth, variable, index, apply, range_of, sum_over, invoke, ask_hub, unbuilt, Shown, nothing, one_more, Effect, assign, change, write, perform, tell_hub, if_, while_, do_, break_, next_, unbuilt_effect, Branches, else_, elif, Block, no_more, first}
+use Rattle.mos_meaning.specs.Syntax.{Scope, Own, Model, Expression, number, text, truth, variable, index, apply, range_of, sum_over, invoke, ask_hub, unbuilt, Shown, nothing_shown, shown_then, CoreStatement, assign, change, write, perform, tell_hub, if_, while_, do_, break_, next_, unbuilt_statement, Arms, else_, elif, Block, no_statement, statement_then}
 use Rattle.mos_meaning.specs.Sources.{variables_of, program_of}
-use Rattle.mos_meaning.specs.Values.{Names, Env, Routine, place_in, loaded, on_truth, ticking, value_of}
-use Rattle.mos_meaning.specs.Effects.{Flow, Goes, Breaks, Continues, stored, assigned, changed, on_text, written, after_pass, passes, after_statement, effect_of, branch_of, effects_of}
-use Rattle.mos_meaning.specs.Meaning.{ended, with_given, meaning_of}
-use Rattle.mos_meaning.specs.Working.{IsVariable, IsSum, IsNumeric, IsShown, IsCondition, AreShown, Works, BranchesWork, AllWork, NeverStuck, NeverLost, CallsNothing}
+use Rattle.mos_meaning.specs.Values.{Names, Env, Routine, place_in, load_result, on_truth, ticking, value_of}
+use Rattle.mos_meaning.specs.Effects.{Completion, Normal, ByBreak, ByNext, store_result, assign_result, change_result, on_text, write_result, after_pass, passes, after_statement, effect_of, effect_of_arms, effects_of}
+use Rattle.mos_meaning.specs.Meaning.{outcome_of_run, with_given, meaning_of}
+use Rattle.mos_meaning.specs.Working.{IsVariable, IsSum, IsNumeric, IsShown, IsCondition, AreShown, Works, ArmsWork, AllWork, NeverStuck, NeverLost, CallsNothing}
 use Rattle.mos_meaning.proofs.Fine.{HasReason, IsInt, Sound, Fine, gave, halts, sooner, renewed, then_fine, on_line_fine, tick_fine, write_fine}
 
 abbrev outside_names : List Name → Names
@@ -46,7 +46,7 @@ abbrev IsPrinted : Value → Type 0
 IsPrinted (One v) = Unit {0}
 IsPrinted _ = ⊥
 
-abbrev Any : Flow → Type 0
+abbrev Any : Completion → Type 0
 Any flow = Unit {0}
 
 -- the place of a variable is among them
@@ -61,12 +61,12 @@ place_within n (m ∷ names) h = by_test (bytes_eq n m) refl (place_within n nam
 -- what an operator has found is a value of its kind
 found_fine : {A : Type 0} {w : World} {names : List Name} {least : ℕ} {Is : Value → Type 0} (kind : A → Scalar) (given : Result A FaultKind) (s : State)
     → ((x : A) → Is (One (kind x))) → Sound w names least s
-    → Fine w names least Is (answered (found kind given) s)
+    → Fine w names least Is (evaluation_of (result_of_found kind given) s)
 found_fine kind (Ok x) s is sound = gave sound (is x)
 found_fine kind (Err fault) s is sound = halts sound tt
 
 sum_fine : {w : World} {names : List Name} {least : ℕ} (operator : Operator) (x y : Value) (s : State) → IsSum operator → IsInt x → IsInt y → Sound w names least s
-    → Fine w names least IsInt (answered (answer (between operator) (x ∷ y ∷ [])) s)
+    → Fine w names least IsInt (evaluation_of (answer (between operator) (x ∷ y ∷ [])) s)
 sum_fine sum (One (Int a)) (One (Int b)) s o h k sound = found_fine Int (sum_of a b) s (λ n. tt) sound
 sum_fine difference (One (Int a)) (One (Int b)) s o h k sound = found_fine Int (difference_of a b) s (λ n. tt) sound
 sum_fine sum (One (Int a)) y s o h k sound = absurd k
@@ -77,7 +77,7 @@ sum_fine (compare how) x y s o h k sound = absurd o
 
 -- the frame of the model is the only one
 loaded_fine : {w : World} {names : List Name} {least : ℕ} (slot : ℕ) (s : State) → slot < length names → Sound w names least s
-    → Fine w names least IsInt (loaded (Some (record { frame = 0; slot = slot })) s)
+    → Fine w names least IsInt (load_result (Some (record { frame = 0; slot = slot })) s)
 loaded_fine {w = w} {names = names} {least = least} slot s inside sound =
     let wide = sound.wide in
     let within : slot < length sound.frame = omega (arith, wide, inside) in
@@ -86,7 +86,7 @@ loaded_fine {w = w} {names = names} {least = least} slot s inside sound =
     subst (λ (o : Option Value). Fine w names least IsInt (or_stop Lost o s)) (sym there) (gave sound (sound.ints slot (One (Int (pos 0))) within))
 
 assigned_fine : {w : World} {names : List Name} {least : ℕ} (slot : ℕ) (v : Value) (s : State) → slot < length names → IsInt v → Sound w names least s
-    → Fine w names least Any (assigned (Some (record { frame = 0; slot = slot })) v s)
+    → Fine w names least Any (assign_result (Some (record { frame = 0; slot = slot })) v s)
 assigned_fine {w = w} {names = names} {least = least} slot v s inside int sound =
     let wide = sound.wide in
     let within : slot < length sound.frame = omega (arith, wide, inside) in
@@ -94,7 +94,7 @@ assigned_fine {w = w} {names = names} {least = least} slot v s inside int sound 
     let one : put_slot sound.frame slot v ≡ Some (slice_set sound.frame slot v) = ap (λ b. if b then Some (slice_set sound.frame slot v) else None) test in
     let there : put_in s.memory.store 0 slot v ≡ Some (slice_set sound.frame slot v ∷ []) =
     ap (λ store. put_in store 0 slot v) sound.store ∙ ap (λ (o : Option (List Value)). option_map (λ (g : List Value). g ∷ []) o) one in
-    subst (λ (o : Option (List (List Value))). Fine w names least Any (stored o s)) (sym there) (gave (record {
+    subst (λ (o : Option (List (List Value))). Fine w names least Any (store_result o s)) (sym there) (gave (record {
       frame = slice_set sound.frame slot v;
       store = refl;
       wide = length-set sound.frame slot v ∙ wide;
@@ -122,7 +122,7 @@ value_fine call (ask_hub function all) env s h sound = absurd h
 value_fine call unbuilt env s h sound = absurd h
 
 compared_fine : {w : World} {names : List Name} {least : ℕ} (how : Comparison) (x y : Value) (s : State) → IsInt x → IsInt y → Sound w names least s
-    → Fine w names least IsTruth (answered (answer (between (compare how)) (x ∷ y ∷ [])) s)
+    → Fine w names least IsTruth (evaluation_of (answer (between (compare how)) (x ∷ y ∷ [])) s)
 compared_fine equal (One (Int a)) (One (Int b)) s h k sound = gave sound tt
 compared_fine not_equal (One (Int a)) (One (Int b)) s h k sound = gave sound tt
 compared_fine less (One (Int a)) (One (Int b)) s h k sound = gave sound tt
@@ -150,7 +150,7 @@ condition_fine call (invoke routine all) env s h sound = absurd h
 condition_fine call (ask_hub function all) env s h sound = absurd h
 condition_fine call unbuilt env s h sound = absurd h
 
-truth_fine : {w : World} {names : List Name} {least : ℕ} {A : Type 0} {P : A → Type 0} (c : Value) (s : State) (when_true when_false : Out A) → IsTruth c
+truth_fine : {w : World} {names : List Name} {least : ℕ} {A : Type 0} {P : A → Type 0} (c : Value) (s : State) (when_true when_false : Evaluation A) → IsTruth c
     → Fine w names least P when_true → Fine w names least P when_false → Fine w names least P (on_truth c s when_true when_false)
 truth_fine (One (Truth true)) s when_true when_false h holds otherwise = holds
 truth_fine (One (Truth false)) s when_true when_false h holds otherwise = otherwise
@@ -173,9 +173,9 @@ text_printed (Range a b) h = absurd h
 text_printed (Fields names values) h = absurd h
 
 -- one kind of value is of another
-weaker : {w : World} {names : List Name} {least : ℕ} {P Q : Value → Type 0} (o : Out Value) → ((v : Value) → P v → Q v) → Fine w names least P o → Fine w names least Q o
-weaker (Gave v s) f h = gave h.by.0 (f v h.by.1)
-weaker (Halts stop line s) f h = record { by = h.by }
+weaker : {w : World} {names : List Name} {least : ℕ} {P Q : Value → Type 0} (o : Evaluation Value) → ((v : Value) → P v → Q v) → Fine w names least P o → Fine w names least Q o
+weaker (Yields v s) f h = gave h.by.0 (f v h.by.1)
+weaker (StopsWith stop line s) f h = record { by = h.by }
 
 shown_fine : {w : World} {names : List Name} {least : ℕ} (call : Routine) (e : Expression) (env : Env) (s : State) → IsShown names e → Sound w names least s
     → Fine w names least IsPrinted (value_of w call (outside_names names) e env s)
@@ -191,22 +191,22 @@ shown_fine call (invoke routine all) env s h sound = absurd h
 shown_fine call (ask_hub function all) env s h sound = absurd h
 shown_fine call unbuilt env s h sound = absurd h
 
-form_fine : {w : World} {names : List Name} {least : ℕ} (v : Value) (s : State) → IsPrinted v → Sound w names least s → Fine w names least IsText (answered (answer show (v ∷ [])) s)
+form_fine : {w : World} {names : List Name} {least : ℕ} (v : Value) (s : State) → IsPrinted v → Sound w names least s → Fine w names least IsText (evaluation_of (answer show (v ∷ [])) s)
 form_fine (One v) s h sound = found_fine Str (show_one v) s (λ bytes. tt) sound
 form_fine (SetOf member members) s h sound = absurd h
 form_fine (ListOf member items) s h sound = absurd h
 form_fine (Range a b) s h sound = absurd h
 form_fine (Fields names values) s h sound = absurd h
 
-on_text_fine : {w : World} {names : List Name} {least : ℕ} {A : Type 0} {P : A → Type 0} (v : Value) (s : State) (go : List ℕ → Out A) → IsText v
+on_text_fine : {w : World} {names : List Name} {least : ℕ} {A : Type 0} {P : A → Type 0} (v : Value) (s : State) (go : List ℕ → Evaluation A) → IsText v
     → ((t : List ℕ) → Fine w names least P (go t)) → Fine w names least P (on_text v s go)
 on_text_fine (One (Str t)) s go h k = k t
 on_text_fine v s go h k = absurd h
 
 written_fine : {w : World} {names : List Name} {least : ℕ} (call : Routine) (newline : Bool) (all : Shown) (env : Env) (held : List ℕ) (s : State) → AreShown names all → Sound w names least s
-    → Fine w names least Any (written w call (outside_names names) newline all env held s)
-written_fine call newline nothing env held s h sound = write_fine (held ++ line_end newline) s _ sound (λ s1 sound1. gave sound1 tt)
-written_fine call newline (one_more e es) env held s h sound =
+    → Fine w names least Any (write_result w call (outside_names names) newline all env held s)
+written_fine call newline nothing_shown env held s h sound = write_fine (held ++ line_end newline) s _ sound (λ s1 sound1. gave sound1 tt)
+written_fine call newline (shown_then e es) env held s h sound =
     then_fine _ _ (shown_fine call e env s h.0 sound) (λ v s1 sound1 prints.
     then_fine _ _ (form_fine v s1 prints sound1) (λ form s2 sound2 is_text.
     on_text_fine form s2 _ is_text (λ t. written_fine call newline es env (held ++ t) s2 h.1 sound2)))
@@ -214,13 +214,13 @@ written_fine call newline (one_more e es) env held s h sound =
 -- Statements.
 
 variable_fine : {w : World} {names : List Name} {least : ℕ} (scope : Scope) (n : Name) (env : Env) (v : Value) (s : State) → IsVariable names scope n → IsInt v → Sound w names least s
-    → Fine w names least Any (assigned (place_in (outside_names names) env scope n) v s)
+    → Fine w names least Any (assign_result (place_in (outside_names names) env scope n) v s)
 variable_fine {names = names} Model n env v s h int sound = assigned_fine (place_of n names) v s (place_within n names h) int sound
 variable_fine Own n env v s h int sound = absurd h
 
 changed_fine : {w : World} {names : List Name} {least : ℕ} (operator : Operator) (scope : Scope) (n : Name) (env : Env) (v : Value) (s : State)
     → IsSum operator → IsVariable names scope n → IsInt v → Sound w names least s
-    → Fine w names least Any (changed operator (place_in (outside_names names) env scope n) v s)
+    → Fine w names least Any (change_result operator (place_in (outside_names names) env scope n) v s)
 changed_fine {names = names} operator Model n env v s o h int sound =
     then_fine _ _ (loaded_fine (place_of n names) s (place_within n names h) sound) (λ old s1 sound1 was.
     then_fine _ _ (sum_fine operator old v s1 o was int sound1) (λ new s2 sound2 is.
@@ -228,19 +228,19 @@ changed_fine {names = names} operator Model n env v s o h int sound =
 changed_fine operator Own n env v s o h int sound = absurd h
 
 -- fine wherever it begins
-abbrev IsFineEffect : World → List Name → (State → Out Flow) → Type 0
-IsFineEffect w names go = (least : ℕ) (s : State) → Sound w names least s → Fine w names least Any (go s)
+abbrev IsFineStatement : World → List Name → (State → Evaluation Completion) → Type 0
+IsFineStatement w names go = (least : ℕ) (s : State) → Sound w names least s → Fine w names least Any (go s)
 
-abbrev IsFineTest : World → List Name → (State → Out Value) → Type 0
+abbrev IsFineTest : World → List Name → (State → Evaluation Value) → Type 0
 IsFineTest w names go = (least : ℕ) (s : State) → Sound w names least s → Fine w names least IsTruth (go s)
 
-after_pass_fine : {w : World} {names : List Name} {least : ℕ} (flow : Flow) (s : State) (again : Out Flow) → Sound w names least s → Fine w names least Any again
+after_pass_fine : {w : World} {names : List Name} {least : ℕ} (flow : Completion) (s : State) (again : Evaluation Completion) → Sound w names least s → Fine w names least Any again
     → Fine w names least Any (after_pass flow s again)
-after_pass_fine Goes s again sound h = h
-after_pass_fine Breaks s again sound h = gave sound tt
-after_pass_fine Continues s again sound h = h
+after_pass_fine Normal s again sound h = h
+after_pass_fine ByBreak s again sound h = gave sound tt
+after_pass_fine ByNext s again sound h = h
 
-passes_fine : {w : World} {names : List Name} (condition : State → Out Value) (body : State → Out Flow) → IsFineTest w names condition → IsFineEffect w names body
+passes_fine : {w : World} {names : List Name} (condition : State → Evaluation Value) (body : State → Evaluation Completion) → IsFineTest w names condition → IsFineStatement w names body
     → (n least : ℕ) (s : State) → w.budget < n + s.counts.ticks → Sound w names least s → Fine w names least Any (passes w n condition body s)
 passes_fine condition body tests does zero least s more sound = let within = sound.within in absurd (omega (arith, more, within))
 passes_fine condition body tests does (suc n) least s more sound =
@@ -255,20 +255,20 @@ passes_fine condition body tests does (suc n) least s more sound =
     after_pass_fine flow s3 _ back (passes_fine condition body tests does n least s3 (omega (arith, more, later1, later3)) back))))
     (gave (sooner least early sound1) tt))
 
-after_statement_fine : {w : World} {names : List Name} {least : ℕ} (flow : Flow) (s : State) (go : State → Out Flow) → Sound w names least s → Fine w names least Any (go s)
+after_statement_fine : {w : World} {names : List Name} {least : ℕ} (flow : Completion) (s : State) (go : State → Evaluation Completion) → Sound w names least s → Fine w names least Any (go s)
     → Fine w names least Any (after_statement flow s go)
-after_statement_fine Goes s go sound h = h
-after_statement_fine Breaks s go sound h = gave sound tt
-after_statement_fine Continues s go sound h = gave sound tt
+after_statement_fine Normal s go sound h = h
+after_statement_fine ByBreak s go sound h = gave sound tt
+after_statement_fine ByNext s go sound h = gave sound tt
 
 -- a statement begins with a tick
-begins_fine : {w : World} {names : List Name} {least : ℕ} (line : ℕ) (s : State) (go : State → Out Flow) → Sound w names least s
+begins_fine : {w : World} {names : List Name} {least : ℕ} (line : ℕ) (s : State) (go : State → Evaluation Completion) → Sound w names least s
     → ((s1 : State) → Sound w names least s1 → Fine w names least Any (go s1)) → Fine w names least Any (on_line line (ticking w s go))
 begins_fine {least = least} line s go sound h =
     let early = sound.later in on_line_fine line _ (tick_fine s go sound (λ s1 sound1. h s1 (sooner least (omega (arith, early)) sound1)))
 
 mutual
-  effect_fine : {w : World} {names : List Name} (call : Routine) (e : Effect) (env : Env) → Works names e → IsFineEffect w names (effect_of w call (outside_names names) e env)
+  effect_fine : {w : World} {names : List Name} (call : Routine) (e : CoreStatement) (env : Env) → Works names e → IsFineStatement w names (effect_of w call (outside_names names) e env)
   effect_fine call (assign line scope n e) env h least s sound =
       begins_fine line s _ sound (λ s1 sound1.
       then_fine _ _ (value_fine call e env s1 h.1 sound1) (λ v s2 sound2 int. variable_fine scope n env v s2 h.0 int sound2))
@@ -279,7 +279,7 @@ mutual
       begins_fine line s _ sound (λ s1 sound1. written_fine call newline all env [] s1 h sound1)
   effect_fine call (perform line routine all) env h least s sound = absurd h
   effect_fine call (tell_hub line function all) env h least s sound = absurd h
-  effect_fine call (if_ line all) env h least s sound = begins_fine line s _ sound (λ s1 sound1. branches_fine call all env h least s1 sound1)
+  effect_fine call (if_ line all) env h least s sound = begins_fine line s _ sound (λ s1 sound1. arms_fine call all env h least s1 sound1)
   effect_fine {w = w} call (while_ line e body) env h least s sound =
       begins_fine line s _ sound (λ s1 sound1.
       let within = sound1.within in
@@ -287,17 +287,17 @@ mutual
   effect_fine call (do_ all) env h least s sound = block_fine call all env h least s sound
   effect_fine call (break_ line) env h least s sound = begins_fine line s _ sound (λ s1 sound1. gave sound1 tt)
   effect_fine call (next_ line) env h least s sound = begins_fine line s _ sound (λ s1 sound1. gave sound1 tt)
-  effect_fine call unbuilt_effect env h least s sound = absurd h
+  effect_fine call unbuilt_statement env h least s sound = absurd h
 
-  branches_fine : {w : World} {names : List Name} (call : Routine) (all : Branches) (env : Env) → BranchesWork names all → IsFineEffect w names (branch_of w call (outside_names names) all env)
-  branches_fine call (else_ all) env h least s sound = block_fine call all env h least s sound
-  branches_fine call (elif line e all rest) env h least s sound =
+  arms_fine : {w : World} {names : List Name} (call : Routine) (all : Arms) (env : Env) → ArmsWork names all → IsFineStatement w names (effect_of_arms w call (outside_names names) all env)
+  arms_fine call (else_ all) env h least s sound = block_fine call all env h least s sound
+  arms_fine call (elif line e all rest) env h least s sound =
       then_fine _ _ (on_line_fine line _ (condition_fine call e env s h.0 sound)) (λ c s1 sound1 is_truth.
-      truth_fine c s1 _ _ is_truth (block_fine call all env h.1 least s1 sound1) (branches_fine call rest env h.2 least s1 sound1))
+      truth_fine c s1 _ _ is_truth (block_fine call all env h.1 least s1 sound1) (arms_fine call rest env h.2 least s1 sound1))
 
-  block_fine : {w : World} {names : List Name} (call : Routine) (all : Block) (env : Env) → AllWork names all → IsFineEffect w names (effects_of w call (outside_names names) all env)
-  block_fine call no_more env h least s sound = gave sound tt
-  block_fine call (first e rest) env h least s sound =
+  block_fine : {w : World} {names : List Name} (call : Routine) (all : Block) (env : Env) → AllWork names all → IsFineStatement w names (effects_of w call (outside_names names) all env)
+  block_fine call no_statement env h least s sound = gave sound tt
+  block_fine call (statement_then e rest) env h least s sound =
       then_fine _ _ (effect_fine call e env h.0 least s sound) (λ flow s1 sound1 any.
       after_statement_fine flow s1 _ sound1 (block_fine call rest env h.1 least s1 sound1))
 
@@ -305,9 +305,9 @@ mutual
 abbrev EndsWell : Outcome → Type 0
 EndsWell o = HasReason o.stop × (o.calls ≡ [])
 
-ended_fine : {w : World} {names : List Name} {least : ℕ} (o : Out Flow) → Fine w names least Any o → EndsWell (ended o)
-ended_fine (Gave flow s) h = (tt, h.by.0.silent)
-ended_fine (Halts stop line s) h = h.by
+ended_fine : {w : World} {names : List Name} {least : ℕ} (o : Evaluation Completion) → Fine w names least Any o → EndsWell (outcome_of_run o)
+ended_fine (Yields flow s) h = (tt, h.by.0.silent)
+ended_fine (StopsWith stop line s) h = h.by
 
 ends_well : (statements : Block) → AllWork (variables_of statements) statements → (text : List ℕ) (replies : List Reply) (budget : ℕ)
     → EndsWell (meaning_of (program_of statements) text replies budget)

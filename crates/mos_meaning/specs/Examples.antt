@@ -13,7 +13,7 @@ use Rattle.mos_value.specs.Values.{One}
 use Rattle.mos_value.specs.Answers.{sum, difference, compare, greater, at_least}
 use Rattle.run_state.specs.Stops.{Outcome, Stop, Exited, Failed, Spent, Stuck}
 use Rattle.bim_machine.specs.Courses.{course_of}
-use Rattle.mos_meaning.specs.Syntax.{Model, Block, no_more, first, assign, change, write, if_, elif, else_, while_, do_, break_, next_, nothing, one_more, number, text, truth, variable, apply, Program}
+use Rattle.mos_meaning.specs.Syntax.{Model, Block, no_statement, statement_then, assign, change, write, if_, elif, else_, while_, do_, break_, next_, nothing_shown, shown_then, number, text, truth, variable, apply, Program}
 use Rattle.mos_meaning.specs.Sources.{program_of}
 use Rattle.mos_meaning.specs.Meaning.{meaning_of}
 use Rattle.mos_meaning.specs.Follows.{Behaviour, behaviour_of, FollowsSources}
@@ -24,46 +24,46 @@ outcome output ticks stop = record { output = output; calls = []; ticks = ticks;
 
 -- writeln("hello")
 abbrev pub hello : Block
-hello = first (write 2 true (one_more (text (codes "hello")) nothing)) no_more
+hello = statement_then (write 2 true (shown_then (text (codes "hello")) nothing_shown)) no_statement
 
 -- x:=2+3 and writeln(x)
 abbrev pub five : Block
 five =
-    first (assign 2 Model (codes "x") (apply sum (number (pos 2)) (number (pos 3))))
-    (first (write 3 true (one_more (variable Model (codes "x")) nothing)) no_more)
+    statement_then (assign 2 Model (codes "x") (apply sum (number (pos 2)) (number (pos 3))))
+    (statement_then (write 3 true (shown_then (variable Model (codes "x")) nothing_shown)) no_statement)
 
 -- x:=2147483647+1
 abbrev pub too_much : Block
-too_much = first (assign 2 Model (codes "x") (apply sum (number (pos 2147483647)) (number (pos 1)))) no_more
+too_much = statement_then (assign 2 Model (codes "x") (apply sum (number (pos 2147483647)) (number (pos 1)))) no_statement
 
 -- x:=3 and while(x>0) do x-=1 end-do
 abbrev pub down : Block
 down =
-    first (assign 2 Model (codes "x") (number (pos 3)))
-    (first (while_ 3 (apply (compare greater) (variable Model (codes "x")) (number (pos 0)))
-    (do_ (first (change 4 difference Model (codes "x") (number (pos 1))) no_more))) no_more)
+    statement_then (assign 2 Model (codes "x") (number (pos 3)))
+    (statement_then (while_ 3 (apply (compare greater) (variable Model (codes "x")) (number (pos 0)))
+    (do_ (statement_then (change 4 difference Model (codes "x") (number (pos 1))) no_statement))) no_statement)
 
 -- write("a") and while(true) next
 abbrev pub endless : Block
-endless = first (write 2 false (one_more (text (codes "a")) nothing)) (first (while_ 3 (truth true) (next_ 3)) no_more)
+endless = statement_then (write 2 false (shown_then (text (codes "a")) nothing_shown)) (statement_then (while_ 3 (truth true) (next_ 3)) no_statement)
 
 -- write of a text alone
 abbrev pub wrote : List ℕ → Block
-wrote t = first (write 3 false (one_more (text t) nothing)) no_more
+wrote t = statement_then (write 3 false (shown_then (text t) nothing_shown)) no_statement
 
 -- if(1>2) then write("a") elif(false) then write("b") else write("c") end-if
 abbrev pub last_way : Block
 last_way =
-    first (if_ 2 (elif 2 (apply (compare greater) (number (pos 1)) (number (pos 2))) (wrote (codes "a"))
-    (elif 4 (truth false) (wrote (codes "b")) (else_ (wrote (codes "c")))))) no_more
+    statement_then (if_ 2 (elif 2 (apply (compare greater) (number (pos 1)) (number (pos 2))) (wrote (codes "a"))
+    (elif 4 (truth false) (wrote (codes "b")) (else_ (wrote (codes "c")))))) no_statement
 
 -- x:=0, while(true) do x+=1 if(x>=2) then break end-if end-do, writeln(x)
 abbrev pub until_two : Block
 until_two =
-    first (assign 2 Model (codes "x") (number (pos 0)))
-    (first (while_ 3 (truth true) (do_ (first (change 4 sum Model (codes "x") (number (pos 1)))
-    (first (if_ 5 (elif 5 (apply (compare at_least) (variable Model (codes "x")) (number (pos 2))) (first (break_ 6) no_more) (else_ no_more))) no_more))))
-    (first (write 9 true (one_more (variable Model (codes "x")) nothing)) no_more))
+    statement_then (assign 2 Model (codes "x") (number (pos 0)))
+    (statement_then (while_ 3 (truth true) (do_ (statement_then (change 4 sum Model (codes "x") (number (pos 1)))
+    (statement_then (if_ 5 (elif 5 (apply (compare at_least) (variable Model (codes "x")) (number (pos 2))) (statement_then (break_ 6) no_statement) (else_ no_statement))) no_statement))))
+    (statement_then (write 9 true (shown_then (variable Model (codes "x")) nothing_shown)) no_statement))
 
 -- a model with a parameter N, 7 where nothing is given, that writes it
 abbrev pub with_parameter : Program
@@ -72,7 +72,7 @@ with_parameter = record {
   defaults = One (Int (pos 7)) ∷ [];
   params = record { name = codes "N"; default = Int (pos 7) } ∷ [];
   bodies = [];
-  block = first (write 5 true (one_more (variable Model (codes "N")) nothing)) no_more;
+  block = statement_then (write 5 true (shown_then (variable Model (codes "N")) nothing_shown)) no_statement;
 }
 
 -- an image that writes hello

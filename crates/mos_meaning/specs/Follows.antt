@@ -10,9 +10,9 @@ use Rattle.job_calls.specs.declared.end.End.{End}
 use Rattle.job_calls.specs.declared.end.End.TheVariants as end
 use Rattle.job_calls.specs.declared.run_line.RunEnd.TheVariants.{Ended, Waiting}
 use Rattle.job_calls.specs.declared.run_line.RunLine.{RunLine}
-use Rattle.job_calls.specs.Words.{run_count}
+use Rattle.job_calls.specs.Entries.{run_count}
 use Rattle.job_calls.specs.Runs.{Opening, opening, source_of, params_of, calls_of, replies_of, finish_of}
-use Rattle.job_calls.specs.Replies.{AllFit}
+use Rattle.job_calls.specs.Replies.{AllCanAnswer}
 use Rattle.bim_code.specs.declared.image.Image.{Image}
 use Rattle.run_state.specs.Stops.{Stop, Exited, Failed, Spent, Stopped, Asking, Stuck, Lost, Course}
 use Rattle.bim_machine.specs.Courses.{course_of}
@@ -63,7 +63,7 @@ pub data Says (line : RunLine) (course : Course) : Option End → Type 0 where
 -- a run of this file took this course, and its line says so
 pub record RunFollows (journal : List Entry) (run : ℕ) (line : RunLine) (file : Listed) (course : Course) : Type 0 where
   pub named : line.source ≡ file.name
-  pub replies_fit : AllFit (calls_of run journal) (replies_of run journal)
+  pub replies_fit : AllCanAnswer (calls_of run journal) (replies_of run journal)
   pub calls : calls_of run journal ≡ course.outcome.calls
   pub says : Says line course (finish_of run journal)
 

@@ -21,10 +21,10 @@ use Rattle.run_state.specs.State.{World, State}
 use Rattle.run_state.specs.Calls.{Once, Answer, Replied, Drained}
 use Rattle.run_state.specs.HubFunctions.{HubFunction, isqueueempty, Calling, Makes, Refuses, Unfit, call_of, HubResult, HasValue, NoValue, NoReply, result_of_reply}
 use Rattle.run_state.specs.Places.{load}
-use Rattle.bim_machine.specs.Machine.{Work, Here, Machine, At, Over, Fails, Sticks, Act, On, Jumps, Stops, Puts, Asks, Enters, Leaves, push, settle}
+use Rattle.bim_machine.specs.Machine.{Work, Here, Machine, At, Halted, Fails, Sticks, Act, On, Jumps, Stops, Puts, Asks, Enters, Leaves, push, settle}
 use Rattle.bim_machine.specs.Instructions.{on_some, on_value, with_stack, values_off, operate, global, act}
-use Rattle.bim_machine.specs.Courses.{start, told}
-use Rattle.mos_meaning.specs.Syntax.{Own, Model, number, variable, index, apply, range_of, sum_over, ask_hub, Arguments, no_argument, by_value, by_place, nothing, one_more, no_more, Effect, first, assign, change, write, perform, tell_hub, invoke, Formal, Body, Program}
+use Rattle.bim_machine.specs.Courses.{start, outcome_at}
+use Rattle.mos_meaning.specs.Syntax.{Own, Model, number, variable, index, apply, range_of, sum_over, ask_hub, Arguments, no_argument, by_value, by_place, nothing_shown, shown_then, no_statement, CoreStatement, statement_then, assign, change, write, perform, tell_hub, invoke, Formal, Body, Program}
 use Rattle.mos_meaning.specs.Meaning.{meaning_of}
 
 -- The model.
@@ -46,7 +46,7 @@ addto = record {
   formals = whole true ∷ whole false ∷ [];
   defaults = One (Int (pos 0)) ∷ [];
   result = None;
-  block = first (assign 3 Own (codes "y") (variable Own (codes "n"))) (first (change 4 sum Own (codes "r") (variable Own (codes "y"))) no_more);
+  block = statement_then (assign 3 Own (codes "y") (variable Own (codes "n"))) (statement_then (change 4 sum Own (codes "r") (variable Own (codes "y"))) no_statement);
 }
 
 -- x:=1, addto(x, sum(i in 1..3 | i<>2) i), writeln(x, isqueueempty)
@@ -57,9 +57,9 @@ example = record {
   params = [];
   bodies = addto ∷ [];
   block =
-      first (assign 6 Model (codes "x") (number (pos 1)))
-      (first (perform 7 0 (by_place Model (codes "x") one_and_three))
-      (first (write 8 true (one_more (variable Model (codes "x")) (one_more (ask_hub isqueueempty no_argument) nothing))) no_more));
+      statement_then (assign 6 Model (codes "x") (number (pos 1)))
+      (statement_then (perform 7 0 (by_place Model (codes "x") one_and_three))
+      (statement_then (write 8 true (shown_then (variable Model (codes "x")) (shown_then (ask_hub isqueueempty no_argument) nothing_shown))) no_statement));
 }
 
 -- a function that calls itself for good: function endless: endless:=endless
@@ -69,7 +69,7 @@ endless_body = record {
   formals = [];
   defaults = One (Int (pos 0)) ∷ [];
   result = Some (codes "returned");
-  block = first (assign 3 Own (codes "returned") (invoke 0 no_argument)) no_more;
+  block = statement_then (assign 3 Own (codes "returned") (invoke 0 no_argument)) no_statement;
 }
 
 -- x:=endless
@@ -79,7 +79,7 @@ too_deep = record {
   defaults = One (Int (pos 0)) ∷ [];
   params = [];
   bodies = endless_body ∷ [];
-  block = first (assign 6 Model (codes "x") (invoke 0 no_argument)) no_more;
+  block = statement_then (assign 6 Model (codes "x") (invoke 0 no_argument)) no_statement;
 }
 
 -- The instructions.
@@ -151,7 +151,7 @@ wider_named _ = None
 
 -- the instruction that was found is carried out
 abbrev pub wider_decoded : Image → World → Option Wider → ℕ → Work → Here → State → Machine
-wider_decoded image w None address work here s = Over Stuck address s
+wider_decoded image w None address work here s = Halted Stuck address s
 wider_decoded image w (Some i) address work here s =
     settle image w (wider_act image i here.slots work s.memory.store)
     (record { at = address; next = address + 1; named = unwrap_or (wider_named i) (address + 1) }) here s
@@ -159,7 +159,7 @@ wider_decoded image w (Some i) address work here s =
 -- at most so many steps
 abbrev pub wider_run : Image → List Wider → World → ℕ → Machine → Machine
 wider_run image code w zero m = m
-wider_run image code w (suc n) (Over stop address s) = Over stop address s
+wider_run image code w (suc n) (Halted stop address s) = Halted stop address s
 wider_run image code w (suc n) (At address work here s) = wider_run image code w n (wider_decoded image w (slice_get code address) address work here s)
 
 -- The code.
@@ -207,7 +207,7 @@ example_image = record {
 
 -- what the machine is told of
 abbrev pub example_course : World → Outcome
-example_course w = told (wider_run example_image example_code w 200 (start (One (Int (pos 0)) ∷ One (Int (pos 0)) ∷ [])))
+example_course w = outcome_at (wider_run example_image example_code w 200 (start (One (Int (pos 0)) ∷ One (Int (pos 0)) ∷ [])))
 
 -- Both sides.
 
@@ -258,7 +258,7 @@ too_deep_image = record example_image {
 -- the machine does the same
 abbrev pub TooDeepAgrees : Type 0
 TooDeepAgrees =
-    told (wider_run too_deep_image too_deep_code (record { replies = []; budget = 10000 }) 2100 (start (One (Int (pos 0)) ∷ [])))
+    outcome_at (wider_run too_deep_image too_deep_code (record { replies = []; budget = 10000 }) 2100 (start (One (Int (pos 0)) ∷ [])))
     ≡ record { output = []; calls = []; ticks = 2002; stop = Failed Depth }
 
 -- a function that leaves without a value
@@ -268,28 +268,28 @@ early_code = call_routine 0 ∷ plain End ∷ plain End ∷ plain End ∷ plain 
 -- it is stuck
 abbrev pub EarlyIsStuck : Type 0
 EarlyIsStuck =
-    told (wider_run too_deep_image early_code (record { replies = []; budget = 10 }) 10 (start (One (Int (pos 0)) ∷ [])))
+    outcome_at (wider_run too_deep_image early_code (record { replies = []; budget = 10 }) 10 (start (One (Int (pos 0)) ∷ [])))
     ≡ record { output = []; calls = []; ticks = 1; stop = Stuck }
 
 -- What no accepted model holds.
 
 -- procedure nothing
 abbrev pub idle_body : Body
-idle_body = record { own = []; formals = []; defaults = []; result = None; block = no_more }
+idle_body = record { own = []; formals = []; defaults = []; result = None; block = no_statement }
 
 -- function nought
 abbrev pub nought_body : Body
-nought_body = record endless_body { block = no_more }
+nought_body = record endless_body { block = no_statement }
 
 -- one statement over a variable x and three routines: addto, a procedure and a function
-abbrev pub only : Effect → Program
-only effect = record example { bodies = addto ∷ idle_body ∷ nought_body ∷ []; block = first effect no_more }
+abbrev pub only : CoreStatement → Program
+only effect = record example { bodies = addto ∷ idle_body ∷ nought_body ∷ []; block = statement_then effect no_statement }
 
 -- a procedure in the place of a function and a function in that of a procedure are lost, when the routine has
 -- ended; so are those of the hub, when they are answered
 abbrev pub OtherKindsAreLost : Type 0
 OtherKindsAreLost =
-    map (λ (effect : Effect). meaning_of (only effect) [] (reply.Flag true ∷ []) 9)
+    map (λ (effect : CoreStatement). meaning_of (only effect) [] (reply.Flag true ∷ []) 9)
     (assign 6 Model (codes "x") (invoke 1 no_argument)
     ∷ perform 6 2 no_argument
     ∷ tell_hub 6 isqueueempty no_argument

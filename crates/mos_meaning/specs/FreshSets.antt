@@ -14,16 +14,16 @@ use Rattle.mos_value.specs.Values.{Value, One, SetOf}
 use Rattle.run_state.specs.Stops.{Outcome, Exited, Spent, Asking, Stuck}
 use Rattle.run_state.specs.State.{World}
 use Rattle.run_state.specs.HubFunctions.{send}
-use Rattle.bim_machine.specs.Courses.{start, told}
-use Rattle.mos_meaning.specs.Syntax.{Own, Model, number, truth, variable, index, Expression, sum_over, Arguments, no_argument, by_value, by_place, by_fresh, nothing, one_more, Effect, no_more, first, assign, write, perform, tell_hub, Body, Program}
+use Rattle.bim_machine.specs.Courses.{start, outcome_at}
+use Rattle.mos_meaning.specs.Syntax.{Own, Model, number, truth, variable, index, Expression, sum_over, Arguments, no_argument, by_value, by_place, by_fresh, nothing_shown, shown_then, CoreStatement, no_statement, statement_then, assign, write, perform, tell_hub, Body, Program}
 use Rattle.mos_meaning.specs.Meaning.{meaning_of}
 use Rattle.mos_meaning.specs.FormsToCome.{Wider, plain, load_local, store_local, refer_global, walk, step_to, call_routine, return, hub, wider_run}
 
 -- The model.
 
 -- writeln(sum(i in e) i)
-abbrev pub write_total : (line : ℕ) → Expression → Effect
-write_total line e = write line true (one_more (sum_over (codes "i") e (truth true) (index (codes "i"))) nothing)
+abbrev pub write_total : (line : ℕ) → Expression → CoreStatement
+write_total line e = write line true (shown_then (sum_over (codes "i") e (truth true) (index (codes "i"))) nothing_shown)
 
 -- procedure replace(a): writeln(sum(i in a) i), a:=others, writeln(sum(i in a) i)
 abbrev pub replace : Body
@@ -33,9 +33,9 @@ replace = record {
   defaults = [];
   result = None;
   block =
-      first (write_total 3 (variable Own (codes "a")))
-      (first (assign 4 Own (codes "a") (variable Model (codes "others")))
-      (first (write_total 5 (variable Own (codes "a"))) no_more));
+      statement_then (write_total 3 (variable Own (codes "a")))
+      (statement_then (assign 4 Own (codes "a") (variable Model (codes "others")))
+      (statement_then (write_total 5 (variable Own (codes "a"))) no_statement));
 }
 
 -- {1,2}, {5}, and the empty set of the variable that holds the fresh value
@@ -53,9 +53,9 @@ replacing argument = record {
   params = [];
   bodies = replace ∷ [];
   block =
-      first (perform 7 0 argument)
-      (first (tell_hub 8 send (by_value (number (pos 5)) (by_value (number (pos 7)) no_argument)))
-      (first (write_total 9 (variable Model (codes "some"))) no_more));
+      statement_then (perform 7 0 argument)
+      (statement_then (tell_hub 8 send (by_value (number (pos 5)) (by_value (number (pos 7)) no_argument)))
+      (statement_then (write_total 9 (variable Model (codes "some"))) no_statement));
 }
 
 -- the first set as a fresh value
@@ -119,7 +119,7 @@ copy_image = record {
 
 -- what the machine is told of
 abbrev pub copy_course : World → Outcome
-copy_course w = told (wider_run copy_image (copy_main ++ copy_routine) w 200 (start (sets ++ One (Int (pos 0)) ∷ [])))
+copy_course w = outcome_at (wider_run copy_image (copy_main ++ copy_routine) w 200 (start (sets ++ One (Int (pos 0)) ∷ [])))
 
 -- Both sides.
 

@@ -23,7 +23,7 @@ use Rattle.mos_tree.specs.declared.source.Tree.{Tree}
 use Rattle.mos_names.specs.NameLists.{Name, with_name}
 use Rattle.mos_value.specs.Values.{Value, One}
 use Rattle.mos_value.specs.Answers.{Operator, sum, difference, compare, equal, not_equal, less, at_most, greater, at_least}
-use Rattle.mos_meaning.specs.Syntax.{Model, Expression, number, text, truth, variable, apply, unbuilt, Shown, nothing, one_more, Effect, assign, change, write, perform, tell_hub, if_, while_, do_, break_, next_, unbuilt_effect, Branches, else_, elif, Block, no_more, first, Program}
+use Rattle.mos_meaning.specs.Syntax.{Model, Expression, number, text, truth, variable, apply, unbuilt, Shown, nothing_shown, shown_then, CoreStatement, assign, change, write, perform, tell_hub, if_, while_, do_, break_, next_, unbuilt_statement, Arms, else_, elif, Block, no_statement, statement_then, Program}
 
 -- Expressions.
 
@@ -49,9 +49,9 @@ operator_of And = None
 operator_of Or = None
 
 -- an operator that can be run, on two expressions
-abbrev pub applied : Option Operator → Expression → Expression → Expression
-applied None a b = unbuilt
-applied (Some operator) a b = apply operator a b
+abbrev pub application : Option Operator → Expression → Expression → Expression
+application None a b = unbuilt
+application (Some operator) a b = apply operator a b
 
 -- each name is the model's: there are no routines
 abbrev pub expression_step : Expr-F Expression → Expression
@@ -68,7 +68,7 @@ expression_step (expr.List all) = unbuilt
 expression_step (expr.If a b c) = unbuilt
 expression_step (expr.Convert to a) = unbuilt
 expression_step (expr.Unary operator a) = unbuilt
-expression_step (expr.Binary operator a b) = applied (operator_of operator) a b
+expression_step (expr.Binary operator a b) = application (operator_of operator) a b
 expression_step (expr.Aggregate operator over a) = unbuilt
 expression_step (expr.Count over) = unbuilt
 
@@ -77,89 +77,89 @@ abbrev pub expression : Expr → Expression
 expression = fold-Expr Expression expression_step
 
 -- as what is printed
-abbrev pub shown : List Expression → Shown
-shown [] = nothing
-shown (e ∷ es) = one_more e (shown es)
+abbrev pub shown_of : List Expression → Shown
+shown_of [] = nothing_shown
+shown_of (e ∷ es) = shown_then e (shown_of es)
 
 -- Statements.
 
 -- the library procedures that can be called
-abbrev pub procedure : ℕ → Name → Shown → Effect
+abbrev pub procedure : ℕ → Name → Shown → CoreStatement
 procedure line called all =
     if bytes_eq (codes "writeln") called then write line true all
-    else (if bytes_eq (codes "write") called then write line false all else unbuilt_effect)
+    else (if bytes_eq (codes "write") called then write line false all else unbuilt_statement)
 
 -- `:=`, `+=` and `-=` to a variable
-abbrev pub assignment : ℕ → Reference → Assignment → Expression → Effect
+abbrev pub assignment : ℕ → Reference → Assignment → Expression → CoreStatement
 assignment line (target.Name n) how.Set e = assign line Model n e
 assignment line (target.Name n) how.Add e = change line sum Model n e
 assignment line (target.Name n) how.Take e = change line difference Model n e
-assignment line (target.Cell n all) by e = unbuilt_effect
-assignment line (target.Field n field) by e = unbuilt_effect
-assignment line (target.CellField n all field) by e = unbuilt_effect
-assignment line target.Returned by e = unbuilt_effect
+assignment line (target.Cell n all) by e = unbuilt_statement
+assignment line (target.Field n field) by e = unbuilt_statement
+assignment line (target.CellField n all field) by e = unbuilt_statement
+assignment line target.Returned by e = unbuilt_statement
 
 -- statements one after the other
-abbrev pub block : List Effect → Block
-block [] = no_more
-block (e ∷ es) = first e (block es)
+abbrev pub block : List CoreStatement → Block
+block [] = no_statement
+block (e ∷ es) = statement_then e (block es)
 
 -- `if` and each `elif`, then `else`
-abbrev pub branches : List (Arm Effect) → List Effect → Branches
-branches [] last = else_ (block last)
-branches (arm ∷ arms) last = elif arm.line (expression arm.condition) (block arm.body) (branches arms last)
+abbrev pub core_arms : List (Arm CoreStatement) → List CoreStatement → Arms
+core_arms [] last = else_ (block last)
+core_arms (arm ∷ arms) last = elif arm.line (expression arm.condition) (block arm.body) (core_arms arms last)
 
 -- of one statement, given what stands in it
-abbrev pub effect_step : Statement-F Effect → Effect
-effect_step (Assign line to op value) = assignment line to op (expression value)
-effect_step (Call line called all) = procedure line called (shown (map expression all))
-effect_step (If line arms last) = if_ line (branches arms last)
-effect_step (While line condition body) = while_ line (expression condition) body
-effect_step (Do line body) = do_ (block body)
-effect_step (Break line) = break_ line
-effect_step (Next line) = next_ line
-effect_step (Fill line name values) = unbuilt_effect
-effect_step (Case line value alternatives last) = unbuilt_effect
-effect_step (Forall line over body) = unbuilt_effect
-effect_step (Repeat line body until_line condition) = unbuilt_effect
-effect_step (Initializations line direction name labels) = unbuilt_effect
+abbrev pub core_step : Statement-F CoreStatement → CoreStatement
+core_step (Assign line to op value) = assignment line to op (expression value)
+core_step (Call line called all) = procedure line called (shown_of (map expression all))
+core_step (If line arms last) = if_ line (core_arms arms last)
+core_step (While line condition body) = while_ line (expression condition) body
+core_step (Do line body) = do_ (block body)
+core_step (Break line) = break_ line
+core_step (Next line) = next_ line
+core_step (Fill line name values) = unbuilt_statement
+core_step (Case line value alternatives last) = unbuilt_statement
+core_step (Forall line over body) = unbuilt_statement
+core_step (Repeat line body until_line condition) = unbuilt_statement
+core_step (Initializations line direction name labels) = unbuilt_statement
 
 -- of the tree of a statement
-abbrev pub effect : Statement → Effect
-effect = fold-Statement Effect effect_step
+abbrev pub core_of : Statement → CoreStatement
+core_of = fold-Statement CoreStatement core_step
 
 -- of the trees of statements
 abbrev pub block_of : List Statement → Block
-block_of all = block (map effect all)
+block_of all = block (map core_of all)
 
 -- a branch with what is said of its statements in their place
 abbrev pub in_arm : {A : Type 0} → (Statement → A) → Arm Statement → Arm A
 in_arm f arm = record { line = arm.line; condition = arm.condition; body = map f arm.body }
 
 -- of the trees of branches
-abbrev pub branches_of : List (Arm Statement) → List Statement → Branches
-branches_of arms last = branches (map (in_arm effect) arms) (map effect last)
+abbrev pub arms_of : List (Arm Statement) → List Statement → Arms
+arms_of arms last = core_arms (map (in_arm core_of) arms) (map core_of last)
 
 -- of a piece of a model
-abbrev pub top_effect : Top → Effect
-top_effect (top.Statement s) = effect s
-top_effect (top.Parameters line parameters) = unbuilt_effect
-top_effect (top.Declarations declared) = unbuilt_effect
-top_effect (top.Routine routine) = unbuilt_effect
-top_effect (top.Forward heading) = unbuilt_effect
+abbrev pub core_of_top : Top → CoreStatement
+core_of_top (top.Statement s) = core_of s
+core_of_top (top.Parameters line parameters) = unbuilt_statement
+core_of_top (top.Declarations declared) = unbuilt_statement
+core_of_top (top.Routine routine) = unbuilt_statement
+core_of_top (top.Forward heading) = unbuilt_statement
 
 -- the statements of a model
 abbrev pub statements_of : Tree → Block
-statements_of tree = block (map top_effect tree.tops)
+statements_of tree = block (map core_of_top tree.tops)
 
 -- Names.
 
 -- the names so far, and those that are assigned to in a form, in the order of the text
 abbrev mutual
   -- behind a statement
-  pub names_after : List Name → Effect → List Name
+  pub names_after : List Name → CoreStatement → List Name
   names_after names (assign line scope n e) = with_name names n
-  names_after names (if_ line all) = names_in_branches names all
+  names_after names (if_ line all) = names_in_arms names all
   names_after names (while_ line e body) = names_after names body
   names_after names (do_ all) = names_from names all
   names_after names (change line operator scope n e) = names
@@ -168,17 +168,17 @@ abbrev mutual
   names_after names (tell_hub line function all) = names
   names_after names (break_ line) = names
   names_after names (next_ line) = names
-  names_after names unbuilt_effect = names
+  names_after names unbuilt_statement = names
 
   -- behind branches
-  pub names_in_branches : List Name → Branches → List Name
-  names_in_branches names (else_ all) = names_from names all
-  names_in_branches names (elif line e all rest) = names_in_branches (names_from names all) rest
+  pub names_in_arms : List Name → Arms → List Name
+  names_in_arms names (else_ all) = names_from names all
+  names_in_arms names (elif line e all rest) = names_in_arms (names_from names all) rest
 
   -- behind the statements of a block
   pub names_from : List Name → Block → List Name
-  names_from names no_more = names
-  names_from names (first e rest) = names_from (names_after names e) rest
+  names_from names no_statement = names
+  names_from names (statement_then e rest) = names_from (names_after names e) rest
 
 -- the variables of a model, in the order of their first assignments in the text
 abbrev pub variables_of : Block → List Name

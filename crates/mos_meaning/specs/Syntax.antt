@@ -38,33 +38,33 @@ mutual
 
 -- expressions in their order, as `write` prints them
 pub data Shown : Type 0 where
-  nothing : Shown
-  one_more : Expression → Shown → Shown
+  nothing_shown : Shown
+  shown_then : Expression → Shown → Shown
 
 mutual
   -- a statement, with the line of its first piece
-  pub data Effect : Type 0 where
-    assign : (line : ℕ) → Scope → Name → Expression → Effect
-    change : (line : ℕ) → Operator → Scope → Name → Expression → Effect  -- `+=` and `-=`
-    write : (line : ℕ) (newline : Bool) → Shown → Effect
-    perform : (line routine : ℕ) → Arguments → Effect  -- a procedure
-    tell_hub : (line : ℕ) → HubFunction → Arguments → Effect  -- a procedure of the hub
-    if_ : (line : ℕ) → Branches → Effect
-    while_ : (line : ℕ) → Expression → Effect → Effect
-    do_ : Block → Effect
-    break_ : (line : ℕ) → Effect
-    next_ : (line : ℕ) → Effect
-    unbuilt_effect : Effect
+  pub data CoreStatement : Type 0 where
+    assign : (line : ℕ) → Scope → Name → Expression → CoreStatement
+    change : (line : ℕ) → Operator → Scope → Name → Expression → CoreStatement  -- `+=` and `-=`
+    write : (line : ℕ) (newline : Bool) → Shown → CoreStatement
+    perform : (line routine : ℕ) → Arguments → CoreStatement  -- a procedure
+    tell_hub : (line : ℕ) → HubFunction → Arguments → CoreStatement  -- a procedure of the hub
+    if_ : (line : ℕ) → Arms → CoreStatement
+    while_ : (line : ℕ) → Expression → CoreStatement → CoreStatement
+    do_ : Block → CoreStatement
+    break_ : (line : ℕ) → CoreStatement
+    next_ : (line : ℕ) → CoreStatement
+    unbuilt_statement : CoreStatement
 
   -- `if` and each `elif`, with its line and with what it guards, then what stands under `else`
-  pub data Branches : Type 0 where
-    else_ : Block → Branches
-    elif : (line : ℕ) → Expression → Block → Branches → Branches
+  pub data Arms : Type 0 where
+    else_ : Block → Arms
+    elif : (line : ℕ) → Expression → Block → Arms → Arms
 
   -- statements one after the other
   pub data Block : Type 0 where
-    no_more : Block
-    first : Effect → Block → Block
+    no_statement : Block
+    statement_then : CoreStatement → Block → Block
 
 -- a formal of a routine: whether it is shared with the caller, and the default of its type, which says its
 -- type as that of a variable does

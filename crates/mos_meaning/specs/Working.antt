@@ -5,11 +5,11 @@
 use Rattle.std.specs.Prelude.{◌≡◌, ◌≢◌, true, List, [], ℕ, take, length}
 use Rattle.job_calls.specs.declared.call.Call.{Call}
 use Rattle.job_calls.specs.declared.reply.Reply.{Reply}
-use Rattle.job_calls.specs.Replies.{AllFit}
+use Rattle.job_calls.specs.Replies.{AllCanAnswer}
 use Rattle.mos_names.specs.NameLists.{Name, has_name}
 use Rattle.mos_value.specs.Answers.{Operator, sum, difference, compare}
 use Rattle.run_state.specs.Stops.{Asking, Stuck, Lost, Outcome}
-use Rattle.mos_meaning.specs.Syntax.{Scope, Own, Model, Expression, number, text, truth, variable, index, apply, range_of, sum_over, invoke, ask_hub, unbuilt, Shown, nothing, one_more, Effect, assign, change, write, perform, tell_hub, if_, while_, do_, break_, next_, unbuilt_effect, Branches, else_, elif, Block, no_more, first, Program}
+use Rattle.mos_meaning.specs.Syntax.{Scope, Own, Model, Expression, number, text, truth, variable, index, apply, range_of, sum_over, invoke, ask_hub, unbuilt, Shown, nothing_shown, shown_then, CoreStatement, assign, change, write, perform, tell_hub, if_, while_, do_, break_, next_, unbuilt_statement, Arms, else_, elif, Block, no_statement, statement_then, Program}
 use Rattle.mos_meaning.specs.Sources.{variables_of, program_of}
 use Rattle.mos_meaning.specs.Meaning.{meaning_of}
 
@@ -65,37 +65,37 @@ IsCondition names unbuilt = ⊥
 
 -- each of what is printed
 abbrev pub AreShown : List Name → Shown → Type 0
-AreShown names nothing = Unit {0}
-AreShown names (one_more e es) = IsShown names e × AreShown names es
+AreShown names nothing_shown = Unit {0}
+AreShown names (shown_then e es) = IsShown names e × AreShown names es
 
 abbrev mutual
   -- a statement
-  pub Works : List Name → Effect → Type 0
+  pub Works : List Name → CoreStatement → Type 0
   Works names (assign line scope n e) = IsVariable names scope n × IsNumeric names e
   Works names (change line operator scope n e) = IsSum operator × IsVariable names scope n × IsNumeric names e
   Works names (write line newline all) = AreShown names all
-  Works names (if_ line all) = BranchesWork names all
+  Works names (if_ line all) = ArmsWork names all
   Works names (while_ line e body) = IsCondition names e × Works names body
   Works names (do_ all) = AllWork names all
   Works names (break_ line) = Unit {0}
   Works names (next_ line) = Unit {0}
   Works names (perform line routine all) = ⊥
   Works names (tell_hub line function all) = ⊥
-  Works names unbuilt_effect = ⊥
+  Works names unbuilt_statement = ⊥
 
   -- branches
-  pub BranchesWork : List Name → Branches → Type 0
-  BranchesWork names (else_ all) = AllWork names all
-  BranchesWork names (elif line e all rest) = IsCondition names e × AllWork names all × BranchesWork names rest
+  pub ArmsWork : List Name → Arms → Type 0
+  ArmsWork names (else_ all) = AllWork names all
+  ArmsWork names (elif line e all rest) = IsCondition names e × AllWork names all × ArmsWork names rest
 
   -- the statements of a block
   pub AllWork : List Name → Block → Type 0
-  AllWork names no_more = Unit {0}
-  AllWork names (first e rest) = Works names e × AllWork names rest
+  AllWork names no_statement = Unit {0}
+  AllWork names (statement_then e rest) = Works names e × AllWork names rest
 
 -- the replies that were taken fit the calls of this outcome; of one without calls they do
 abbrev pub TookFitting : List Reply → Outcome → Type 0
-TookFitting replies outcome = AllFit outcome.calls (take (length outcome.calls) replies)
+TookFitting replies outcome = AllCanAnswer outcome.calls (take (length outcome.calls) replies)
 
 -- no run of the model is stuck that is answered what fits its calls
 abbrev pub NeverStuck : Program → Type 0

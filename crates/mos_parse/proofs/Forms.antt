@@ -9,7 +9,7 @@ use Rattle.mos_tree.specs.Forms.{piece}
 use Rattle.mos_tree.specs.Sizes.{size_of_form, size_of_pieces}
 use Rattle.mos_scan.specs.declared.token.Token.{Token}
 use Rattle.mos_scan.specs.declared.piece.Piece.{Piece}
-use Rattle.mos_scan.specs.declared.reading.Word.{Word}
+use Rattle.mos_scan.specs.declared.grammar_word.Word.{Word}
 use Rattle.mos_scan.specs.Reading.{piece_words, count_of_words}
 use Rattle.mos_form.specs.Phrases.{IsFormOf}
 use Rattle.mos_parse.specs.Parsed.{AreForms, no_piece, one_piece}

@@ -3,7 +3,7 @@
 use Rattle.std.proofs.Common.{◌≡◌, ℕ, List, [], ◌∷◌, refl, sym, ◌∙◌, ap, subst, inl, inr}
 use Rattle.std.specs.Prelude.{◌⊎◌}
 use Rattle.mos_text.specs.declared.kind.Kind.{Kind}
-use Rattle.mos_text.specs.declared.kind.Kind.TheVariants as k
+use Rattle.mos_text.specs.declared.kind.Kind.TheVariants as error_kind
 use Rattle.mos_tree.specs.declared.source.Tree.{Tree}
 use Rattle.mos_tree.specs.declared.form.PieceForm.{PieceForm}
 use Rattle.mos_tree.specs.Forms.{piece}
@@ -15,7 +15,7 @@ use Rattle.mos_scan.specs.Pieces.{ArePieces}
 use Rattle.mos_scan.specs.Reading.{piece_words}
 use Rattle.mos_form.specs.Laws.{NoWordsLackAForm, HaveOneForm}
 use Rattle.mos_source.specs.Sources.{Source, IsSource, tree_of}
-use Rattle.mos_source.specs.Limits.{broken}
+use Rattle.mos_source.specs.Limits.{broken_kind}
 use Rattle.mos_source.specs.Faults.{IsKind, too_early, beyond, misplaced as out_of_place, line_of_first}
 use Rattle.mos_source.specs.Laws.{HaveOneTree, HaveOneFault, HaveNotBoth, HaveOneOfBoth, HasFault}
 use Rattle.mos_parse.specs.Parsed.{AreForms, no_piece, one_piece, HasForms, IsParsed, IsFaultyLine, IsSyntaxFault, lexical, misplaced}
@@ -66,8 +66,8 @@ some_forms law source tokens [] none = none [] no_piece
 some_forms law source tokens (p ∷ ps) none = some_forms law source tokens ps (λ xs more. law (piece_words source tokens p) (λ form h. none (piece p.line form ∷ xs) (one_piece p ps form xs h more)))
 
 some_kind : (before after : List PieceForm) → ((kind : Kind) → IsKind before after kind → ⊥) → ⊥
-some_kind before [] none = none k.Syntax too_early
-some_kind before (x ∷ after) none = none k.Syntax (out_of_place x after (λ could. none (broken x.form) (beyond x after could)))
+some_kind before [] none = none error_kind.Syntax too_early
+some_kind before (x ∷ after) none = none error_kind.Syntax (out_of_place x after (λ could. none (broken_kind x.form) (beyond x after could)))
 
 neither : SomeListOrFault → SomeListOfPieces → NoWordsLackAForm → HaveOneOfBoth → (source : List ℕ) → ((tree : Tree) → IsParsed source tree → ⊥) → ((line : ℕ) (kind : Kind) → IsSyntaxFault source line kind → ⊥) → ⊥
 neither scanned cut law both source no_tree no_fault =

@@ -9,7 +9,7 @@ use Rattle.std.specs.Char.{to_ascii_lowercase}
 use Rattle.mos_scan.specs.declared.token.TokenKind.{TokenKind}
 use Rattle.mos_scan.specs.Characters.{is_word}
 use Rattle.mos_scan.specs.Vocabulary.{Table, ends}
-use Rattle.mos_scan.specs.Words.{same_word, in_one_case, look_up, end_word}
+use Rattle.mos_scan.specs.ReservedWords.{same_word, in_one_case, look_up, end_word}
 use Rattle.mos_scan.specs.Lexemes.{front_end, is_front, end_at}
 use Rattle.mos_scan.proofs.Lists.{on_bool, not_both, all_head, all_tail}
 

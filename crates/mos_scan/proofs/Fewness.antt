@@ -4,7 +4,7 @@ use Rattle.std.proofs.Common.{ℕ, ◌+◌, ◌-◌, ◌≤◌, Bool, true, fals
 use Rattle.std.proofs.lemmas.List.{length-take}
 use Rattle.mos_scan.specs.declared.token.Token.{Token}
 use Rattle.mos_scan.specs.declared.piece.Piece.{Piece}
-use Rattle.mos_scan.specs.declared.reading.Word.{Word}
+use Rattle.mos_scan.specs.declared.grammar_word.Word.{Word}
 use Rattle.mos_scan.specs.Reading.{is_newline, word_of, words_of, tokens_in, piece_words, count_of_words}
 use Rattle.mos_scan.specs.Pieces.{piece_of, ArePieces, ArePiecesBehind, no_token, separator, whole_piece}
 

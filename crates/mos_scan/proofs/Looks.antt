@@ -5,10 +5,10 @@ use Rattle.std.proofs.Math.Seq.{take-append_seam, drop-append_seam}
 use Rattle.std.specs.List.{list_all, prefix_len}
 use Rattle.std.specs.Char.{is_ascii_digit}
 use Rattle.mos_scan.specs.declared.token.TokenKind.{TokenKind}
-use Rattle.mos_scan.specs.declared.token.TokenKind.TheVariants as t
-use Rattle.mos_text.specs.declared.kind.Kind.TheVariants as k
+use Rattle.mos_scan.specs.declared.token.TokenKind.TheVariants as token_kind
+use Rattle.mos_text.specs.declared.kind.Kind.TheVariants as error_kind
 use Rattle.mos_scan.specs.Characters.{begins_name, is_word, is_quote}
-use Rattle.mos_scan.specs.Words.{end_word, plain_word, is_refused}
+use Rattle.mos_scan.specs.ReservedWords.{end_word, plain_word, is_refused}
 use Rattle.mos_scan.specs.Tokens.{begins_with, closing_quote, one_byte, two_bytes, symbol, kind_of, fault_at, word_fault, text_fault, symbol_fault}
 use Rattle.mos_scan.specs.Lexemes.{end_at, Longest, token_at, word_at, end_or_word, two_or_one, symbol_at, quoted_at}
 use Rattle.mos_scan.proofs.Lists.{on_bool, Run, run_of, run_over}
@@ -60,7 +60,7 @@ closed quote escaped at (b ∷ bs) n e =
 not_same : (n m : ℕ) → n ≢ m → nat_eq n m ≡ false
 not_same n m h = ne_eqb n m h
 
-text_longest : (a : ℕ) (bs : List ℕ) → begins_name a ≡ false → is_ascii_digit a ≡ false → is_quote a ≡ true → (n : ℕ) → closing_quote a false 0 bs ≡ Some n → Longest (a ∷ bs) t.Text (n + 1)
+text_longest : (a : ℕ) (bs : List ℕ) → begins_name a ≡ false → is_ascii_digit a ≡ false → is_quote a ≡ true → (n : ℕ) → closing_quote a false 0 bs ≡ Some n → Longest (a ∷ bs) token_kind.Text (n + 1)
 unfolding kind_of
 text_longest a bs w d q n e =
     let r : Closed a false 0 bs n = closed a false 0 bs n e in
@@ -86,7 +86,7 @@ text_longest a bs w d q n e =
 
 -- ---- digits
 
-number_longest : (a : ℕ) (bs : List ℕ) → begins_name a ≡ false → is_ascii_digit a ≡ true → Longest (a ∷ bs) t.Number (1 + prefix_len is_ascii_digit bs)
+number_longest : (a : ℕ) (bs : List ℕ) → begins_name a ≡ false → is_ascii_digit a ≡ true → Longest (a ∷ bs) token_kind.Number (1 + prefix_len is_ascii_digit bs)
 unfolding kind_of
 number_longest a bs w d =
     let r : Run is_ascii_digit bs = run_of is_ascii_digit bs in
@@ -230,7 +230,7 @@ abbrev IsLongest : List ℕ → TokenKind × ℕ → Type 0
 IsLongest bytes found = Longest bytes found.0 found.1
 
 none_is_one : (a : ℕ) (bs : List ℕ) (kind : TokenKind) → one_byte a ≡ Some kind → Longest (a ∷ bs) kind 1 → IsLongest (a ∷ bs) (two_or_one None a)
-none_is_one a bs kind e l = subst (λ o. Longest (a ∷ bs) (unwrap_or o t.Newline) 1) (sym e) l
+none_is_one a bs kind e l = subst (λ o. Longest (a ∷ bs) (unwrap_or o token_kind.Newline) 1) (sym e) l
 
 symbol_longest : (a : ℕ) (bs : List ℕ) → NoWord a → (kind : TokenKind) → one_byte a ≡ Some kind → IsLongest (a ∷ bs) (symbol_at a bs)
 symbol_longest a [] plain kind e = none_is_one a [] kind e (one_longest a [] plain kind e (λ b rest h. cc))
@@ -246,7 +246,7 @@ symbol_longest a (b ∷ bs) plain kind e =
 
 not_refused : (bs : List ℕ) → word_fault bs ≡ None → is_refused (take (prefix_len is_word bs) bs) ≡ false
 unfolding word_fault
-not_refused bs e = on_bool (is_refused (take (prefix_len is_word bs) bs)) (λ r. let x : Some (k.Out (take (prefix_len is_word bs) bs), 0) ≡ None = rw r at e in cc) (λ r. r)
+not_refused bs e = on_bool (is_refused (take (prefix_len is_word bs) bs)) (λ r. let x : Some (error_kind.Out (take (prefix_len is_word bs) bs), 0) ≡ None = rw r at e in cc) (λ r. r)
 
 word_case : (a : ℕ) (bs : List ℕ) → begins_name a ≡ true → word_fault (a ∷ bs) ≡ None → IsLongest (a ∷ bs) (word_at (a ∷ bs))
 unfolding word_at
@@ -259,16 +259,16 @@ text_case : (a : ℕ) (bs : List ℕ) → begins_name a ≡ false → is_ascii_d
 unfolding text_fault
 text_case a bs n d q f =
     on_option (closing_quote a false 0 bs)
-    (λ none. let x : Some (k.Str, 0) ≡ None = rw none at f in cc)
-    (λ x some. subst (λ o. Longest (a ∷ bs) t.Text (unwrap_or o 0 + 1)) (sym some) (text_longest a bs n d q x some))
+    (λ none. let x : Some (error_kind.Str, 0) ≡ None = rw none at f in cc)
+    (λ x some. subst (λ o. Longest (a ∷ bs) token_kind.Text (unwrap_or o 0 + 1)) (sym some) (text_longest a bs n d q x some))
 
 symbol_case : (a : ℕ) (bs : List ℕ) → NoWord a → symbol_fault a bs ≡ None → IsLongest (a ∷ bs) (symbol_at a bs)
 symbol_case a bs plain f =
     on_bool (nat_eq a 40 && begins_with 33 bs)
-    (λ c. let x : Some (k.Comment, 0) ≡ None = rw c at f in cc)
+    (λ c. let x : Some (error_kind.Comment, 0) ≡ None = rw c at f in cc)
     (λ c.
     on_option (one_byte a)
-    (λ none. let x : Some (k.Char, 0) ≡ None = rw (c, none) at f in cc)
+    (λ none. let x : Some (error_kind.Char, 0) ≡ None = rw (c, none) at f in cc)
     (λ kind some. symbol_longest a bs plain kind some))
 
 pub longest_at : (bytes : List ℕ) → bytes ≢ [] → fault_at bytes ≡ None → IsLongest bytes (token_at bytes)

@@ -6,7 +6,7 @@ use Rattle.mos_scan.specs.declared.token.TokenKind.{TokenKind}
 use Rattle.mos_scan.specs.declared.token.TokenKind.TheVariants.{EndModel}
 use Rattle.mos_scan.specs.declared.token.Token.{Token}
 use Rattle.mos_scan.specs.declared.fault.LexFault.{LexFault}
-use Rattle.mos_scan.specs.declared.fault.LexFault.TheVariants as l
+use Rattle.mos_scan.specs.declared.fault.LexFault.TheVariants as lex_fault
 use Rattle.mos_scan.specs.Scans.{IsFaultOf, IsNoMemory, Names, GivesFault}
 use Rattle.mos_scan.specs.Tokens.{gap_at, fault_at, kind_of}
 use Rattle.mos_scan.specs.Cuts.{Part, gap, token, text_of, is_end, IsPart, IsToken, Cuts, Whole, up_to_the_end, up_to_end_model, tokens_from, Stops, read_whole, read_to_fault, IsTokenList, IsLexicalFault, no_utf8, no_token, IsRead, line_of, column_of, newlines}
@@ -177,8 +177,8 @@ only_list items bytes (Ok v) found tokens h = one_list bytes (items v) tokens fo
 only_list items bytes (Err e) found tokens h = tt
 
 no_fault_of : (bytes : List ℕ) (tokens : List Token) → IsTokenList bytes tokens → (fault : LexFault) → IsFaultOf bytes fault → IsNoMemory fault
-no_fault_of bytes tokens h (l.At line column kind) f = list_or_fault bytes tokens f.place kind h f.fault
-no_fault_of bytes tokens h l.NoMemory f = tt
+no_fault_of bytes tokens h (lex_fault.At line column kind) f = list_or_fault bytes tokens f.place kind h f.fault
+no_fault_of bytes tokens h lex_fault.NoMemory f = tt
 
 pub taken_list : {V : Type 0} (bytes : List ℕ) (r : Result V LexFault) → IfErr r (IsFaultOf bytes) → (tokens : List Token) → IsTokenList bytes tokens → IfErr r IsNoMemory
 taken_list bytes (Ok v) fault tokens h = tt
@@ -210,10 +210,10 @@ one_fault bytes p q k l (no_token p' k' s less) (no_utf8 reach r h) = absurd (no
 one_fault bytes p q k l (no_token p' k' s less) (no_token q' l' t more) = stop_once bytes p' q' k' l' s t
 
 fault_given : (bytes : List ℕ) (fault : LexFault) (place : ℕ) (kind : Kind) → IsFaultOf bytes fault → IsLexicalFault bytes place kind → Names fault bytes place kind
-fault_given bytes (l.At line column k) place kind f h =
+fault_given bytes (lex_fault.At line column k) place kind f h =
     let same = one_fault bytes f.place place k kind f.fault h in
     (f.line_is ∙ ap (λ z. line_of bytes z) same.0, f.column_is ∙ ap (λ z. column_of bytes z) same.0, same.1)
-fault_given bytes l.NoMemory place kind f h = tt
+fault_given bytes lex_fault.NoMemory place kind f h = tt
 
 pub only_fault : {V : Type 0} (items : V → List Token) (bytes : List ℕ) (r : Result V LexFault) → IfOk r (λ v. IsTokenList bytes (items v)) → IfErr r (IsFaultOf bytes)
     → (place : ℕ) (kind : Kind) → IsLexicalFault bytes place kind → GivesFault r bytes place kind

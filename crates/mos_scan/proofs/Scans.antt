@@ -6,7 +6,7 @@ use Rattle.mos_scan.specs.declared.token.Token.{Token}
 use Rattle.mos_scan.specs.declared.token.TokenKind.TheVariants.{EndModel}
 use Rattle.mos_text.specs.declared.kind.Kind.{Kind}
 use Rattle.mos_scan.specs.declared.lexeme.LexicalError.{LexicalError}
-use Rattle.mos_scan.specs.declared.lexeme.Lexeme.TheVariants as f
+use Rattle.mos_scan.specs.declared.lexeme.Lexeme.TheVariants as lexeme_kind
 use Rattle.mos_scan.specs.Lexemes.{kind_of_error, Longest, Stands}
 use Rattle.mos_scan.specs.Scanning.{IsWholeCut}
 use Rattle.mos_scan.proofs.Looks.{take_front, drop_front}
@@ -72,7 +72,7 @@ few_lines : (text : List ℕ) → newlines text ≤ length text
 few_lines text = count_by-le-length is_newline text
 
 -- a gap more
-pub scanned_gap : (bytes rest : List ℕ) (at line : ℕ) (tokens : List Token) → Scanned bytes rest at line tokens → (n : ℕ) → Stands rest (f.Gap n) → (text after : List ℕ) → text ≡ take n rest → after ≡ drop n rest → (k : ℕ) → k ≡ newlines text → Scanned bytes after (at + n) (line + k) tokens
+pub scanned_gap : (bytes rest : List ℕ) (at line : ℕ) (tokens : List Token) → Scanned bytes rest at line tokens → (n : ℕ) → Stands rest (lexeme_kind.Gap n) → (text after : List ℕ) → text ≡ take n rest → after ≡ drop n rest → (k : ℕ) → k ≡ newlines text → Scanned bytes after (at + n) (line + k) tokens
 scanned_gap bytes rest at line tokens s n stands text after te ae k ke =
     let parts : rest ≡ text ++ after = rw (te, ae) (sym (take-append-drop n rest)) in
     let long : length text ≡ n = rw te (length-take-le n rest stands.2) in
@@ -89,7 +89,7 @@ scanned_gap bytes rest at line tokens s n stands text after te ae k ke =
     }
 
 -- a fault
-pub scanned_fault : (bytes rest : List ℕ) (at line : ℕ) (tokens : List Token) → Scanned bytes rest at line tokens → (error : LexicalError) (offset : ℕ) → Stands rest (f.Fault error offset) → (kind : Kind) → kind ≡ kind_of_error rest error → Stops bytes (at + offset) kind
+pub scanned_fault : (bytes rest : List ℕ) (at line : ℕ) (tokens : List Token) → Scanned bytes rest at line tokens → (error : LexicalError) (offset : ℕ) → Stands rest (lexeme_kind.Fault error offset) → (kind : Kind) → kind ≡ kind_of_error rest error → Stops bytes (at + offset) kind
 scanned_fault bytes rest at line tokens s error offset stands kind e = record {
   parts = s.parts;
   left = rest;
@@ -106,7 +106,7 @@ record Fronted (rest : List ℕ) (kind : TokenKind) (n : ℕ) (text after : List
   long : length text ≡ n
   is : IsToken kind text after
 
-fronted : (rest : List ℕ) (kind : TokenKind) (n : ℕ) (text after : List ℕ) → Stands rest (f.Token kind n) → text ≡ take n rest → after ≡ drop n rest → Fronted rest kind n text after
+fronted : (rest : List ℕ) (kind : TokenKind) (n : ℕ) (text after : List ℕ) → Stands rest (lexeme_kind.Token kind n) → text ≡ take n rest → after ≡ drop n rest → Fronted rest kind n text after
 fronted rest kind n text after stands te ae =
     let l : Longest rest kind n = stands.2 in
     let it : text ≡ l.text = te ∙ take_front rest l.text l.rest n l.parts (sym l.long) in
@@ -130,7 +130,7 @@ pushed at line n tokens xs kind text te ae le long =
     subst (λ m. tokens ++ record { kind = kind; line = line; from = at; to = at + m } ∷ [] ≡ tokens_from 0 1 (xs ++ token kind text ∷ [])) long more
 
 -- a token more
-pub scanned_token : (bytes rest : List ℕ) (at line : ℕ) (tokens : List Token) → Scanned bytes rest at line tokens → (kind : TokenKind) (n : ℕ) → Stands rest (f.Token kind n) → is_end_model kind ≡ false → (text after : List ℕ) → text ≡ take n rest → after ≡ drop n rest → (k : ℕ) → k ≡ newlines text → Scanned bytes after (at + n) (line + k) (tokens ++ record { kind = kind; line = line; from = at; to = at + n } ∷ [])
+pub scanned_token : (bytes rest : List ℕ) (at line : ℕ) (tokens : List Token) → Scanned bytes rest at line tokens → (kind : TokenKind) (n : ℕ) → Stands rest (lexeme_kind.Token kind n) → is_end_model kind ≡ false → (text after : List ℕ) → text ≡ take n rest → after ≡ drop n rest → (k : ℕ) → k ≡ newlines text → Scanned bytes after (at + n) (line + k) (tokens ++ record { kind = kind; line = line; from = at; to = at + n } ∷ [])
 scanned_token bytes rest at line tokens s kind n stands more text after te ae k ke =
     let t : Fronted rest kind n text after = fronted rest kind n text after stands te ae in
     let left : length rest ≡ length text + length after = ap length t.parts ∙ length-append text after in
@@ -145,7 +145,7 @@ scanned_token bytes rest at line tokens s kind n stands more text after te ae k 
     }
 
 -- `end-model` ends all
-pub scanned_end : (bytes rest : List ℕ) (at line : ℕ) (tokens : List Token) → Scanned bytes rest at line tokens → (kind : TokenKind) (n : ℕ) → Stands rest (f.Token kind n) → is_end_model kind ≡ true → IsWholeCut bytes (tokens ++ record { kind = kind; line = line; from = at; to = at + n } ∷ []) (at + n)
+pub scanned_end : (bytes rest : List ℕ) (at line : ℕ) (tokens : List Token) → Scanned bytes rest at line tokens → (kind : TokenKind) (n : ℕ) → Stands rest (lexeme_kind.Token kind n) → is_end_model kind ≡ true → IsWholeCut bytes (tokens ++ record { kind = kind; line = line; from = at; to = at + n } ∷ []) (at + n)
 scanned_end bytes rest at line tokens s kind n stands end =
     let text : List ℕ = take n rest in
     let after : List ℕ = drop n rest in

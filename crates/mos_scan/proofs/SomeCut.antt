@@ -8,7 +8,7 @@ use Rattle.std.proofs.lemmas.Bool.{and_parts, leb-true, leb-false}
 use Rattle.std.proofs.lemmas.List.{length-drop, length-take-le, take-append-drop}
 use Rattle.std.proofs.lemmas.List.Sums.{prefix_len-le-length}
 use Rattle.mos_text.specs.declared.kind.Kind.{Kind}
-use Rattle.mos_text.specs.declared.kind.Kind.TheVariants as k
+use Rattle.mos_text.specs.declared.kind.Kind.TheVariants as error_kind
 use Rattle.mos_scan.specs.declared.token.Token.{Token}
 use Rattle.mos_scan.specs.declared.token.TokenKind.{TokenKind}
 use Rattle.mos_scan.specs.declared.token.TokenKind.TheVariants.{EndModel}
@@ -130,11 +130,11 @@ of_whole : (bytes left : List ℕ) (parts : List Part) → Whole bytes left part
 of_whole bytes left parts w = on_bool (nat_le (length bytes) (utf8_valid_len bytes + length left))
     (λ e. inl (tokens_from 0 1 parts, record { parts = parts; left = left; whole = w; utf8 = omega (arith, leb-true (length bytes) (utf8_valid_len bytes + length left) e); are = refl }))
     (λ e. let more : utf8_valid_len bytes + length left < length bytes = omega (arith, leb-false (length bytes) (utf8_valid_len bytes + length left) e) in
-    inr (utf8_valid_len bytes, k.Utf8, no_utf8 (length bytes - length left) (read_whole (length bytes - length left) parts left w (omega (arith, more))) (omega (arith, more))))
+    inr (utf8_valid_len bytes, error_kind.Utf8, no_utf8 (length bytes - length left) (read_whole (length bytes - length left) parts left w (omega (arith, more))) (omega (arith, more))))
 
 of_stop : (bytes : List ℕ) (place : ℕ) (kind : Kind) → Stops bytes place kind → HasOne bytes
 of_stop bytes place kind s = on_bool (nat_le (utf8_valid_len bytes) place)
-    (λ e. inr (utf8_valid_len bytes, k.Utf8, no_utf8 (place + 1) (read_to_fault place kind s) (omega (arith, leb-true (utf8_valid_len bytes) place e))))
+    (λ e. inr (utf8_valid_len bytes, error_kind.Utf8, no_utf8 (place + 1) (read_to_fault place kind s) (omega (arith, leb-true (utf8_valid_len bytes) place e))))
     (λ e. inr (place, kind, no_token place kind s (omega (arith, leb-false (utf8_valid_len bytes) place e))))
 
 of_ends : (bytes : List ℕ) → Ends bytes → HasOne bytes

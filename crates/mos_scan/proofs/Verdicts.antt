@@ -8,9 +8,9 @@ use Rattle.std.specs.Str.Lossy.{utf8_valid_len}
 use Rattle.std.specs.List.{list_all, prefix_len}
 use Rattle.std.specs.Char.{is_ascii_alphabetic, is_ascii_digit}
 use Rattle.mos_text.specs.declared.kind.Kind.{Kind}
-use Rattle.mos_text.specs.declared.kind.Kind.TheVariants as k
+use Rattle.mos_text.specs.declared.kind.Kind.TheVariants as error_kind
 use Rattle.mos_scan.specs.declared.fault.LexFault.{LexFault}
-use Rattle.mos_scan.specs.declared.fault.LexFault.TheVariants as l
+use Rattle.mos_scan.specs.declared.fault.LexFault.TheVariants as lex_fault
 use Rattle.mos_scan.specs.Characters.{is_word, begins_name}
 use Rattle.mos_scan.specs.Cuts.{IsRead, IsLexicalFault, no_utf8}
 use Rattle.mos_scan.specs.Scans.{IsFaultOf, Names}
@@ -47,14 +47,14 @@ word_is_text xs =
 -- ---- what is said of a source
 
 -- what is read is no UTF-8
-pub not_text : (bytes : List ℕ) (reach valid : ℕ) → IsRead bytes reach → valid ≡ utf8_valid_len bytes → valid < reach → IsLexicalFault bytes valid k.Utf8
-not_text bytes reach valid r e h = subst (λ x. IsLexicalFault bytes x k.Utf8) (sym e) (no_utf8 reach r (omega (arith, e, h)))
+pub not_text : (bytes : List ℕ) (reach valid : ℕ) → IsRead bytes reach → valid ≡ utf8_valid_len bytes → valid < reach → IsLexicalFault bytes valid error_kind.Utf8
+not_text bytes reach valid r e h = subst (λ x. IsLexicalFault bytes x error_kind.Utf8) (sym e) (no_utf8 reach r (omega (arith, e, h)))
 
 pub fault_is : (fault : LexFault) (bytes : List ℕ) (place : ℕ) (kind : Kind) → Names fault bytes place kind → IsLexicalFault bytes place kind → IsFaultOf bytes fault
-fault_is (l.At line column kind') bytes place kind is f = record {
+fault_is (lex_fault.At line column kind') bytes place kind is f = record {
   place = place;
   fault = subst (λ x. IsLexicalFault bytes place x) (sym is.2) f;
   line_is = is.0;
   column_is = is.1;
 }
-fault_is l.NoMemory bytes place kind is f = tt
+fault_is lex_fault.NoMemory bytes place kind is f = tt

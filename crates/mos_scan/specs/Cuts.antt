@@ -7,7 +7,7 @@ use Rattle.mos_scan.specs.declared.token.TokenKind.{TokenKind}
 use Rattle.mos_scan.specs.declared.token.TokenKind.TheVariants.{EndModel}
 use Rattle.mos_scan.specs.declared.token.Token.{Token}
 use Rattle.mos_text.specs.declared.kind.Kind.{Kind}
-use Rattle.mos_text.specs.declared.kind.Kind.TheVariants as k
+use Rattle.mos_text.specs.declared.kind.Kind.TheVariants as error_kind
 
 -- what a text is cut into
 pub data Part : Type 0 where
@@ -94,7 +94,7 @@ pub data IsRead (bytes : List ℕ) : ℕ → Type 0 where
 
 -- the lexical fault of a source: bytes that are no UTF-8 among those read, or else the first other fault
 pub data IsLexicalFault (bytes : List ℕ) : ℕ → Kind → Type 0 where
-  no_utf8 : (reach : ℕ) → IsRead bytes reach → utf8_valid_len bytes < reach → IsLexicalFault bytes (utf8_valid_len bytes) k.Utf8
+  no_utf8 : (reach : ℕ) → IsRead bytes reach → utf8_valid_len bytes < reach → IsLexicalFault bytes (utf8_valid_len bytes) error_kind.Utf8
   no_token : (place : ℕ) (kind : Kind) → Stops bytes place kind → place < utf8_valid_len bytes → IsLexicalFault bytes place kind
 
 -- the line that comes behind these bytes, from 1

@@ -9,4 +9,4 @@ pub mod Scanning
 pub mod Scans
 pub mod Tokens
 pub mod Vocabulary
-pub mod Words
+pub mod ReservedWords

@@ -4,11 +4,11 @@ use Rattle.std.specs.Prelude.{ℕ, ℤ, pos, ◌+◌, ◌-◌, min, Bool, true, 
 use Rattle.std.specs.Str.Lossy.{utf8_valid_len}
 use Rattle.mos_scan.specs.Tokens.{number_from}
 use Rattle.mos_scan.specs.declared.token.TokenKind.{TokenKind}
-use Rattle.mos_scan.specs.declared.token.TokenKind.TheVariants as t
+use Rattle.mos_scan.specs.declared.token.TokenKind.TheVariants as token_kind
 use Rattle.mos_scan.specs.declared.token.Token.{Token}
 use Rattle.mos_scan.specs.declared.piece.Piece.{Piece}
-use Rattle.mos_scan.specs.declared.reading.Word.{Word}
-use Rattle.mos_scan.specs.declared.reading.Word.TheVariants as w
+use Rattle.mos_scan.specs.declared.grammar_word.Word.{Word}
+use Rattle.mos_scan.specs.declared.grammar_word.Word.TheVariants as word_kind
 
 -- the value of a literal; one that `scan` gives is at most 2147483647
 abbrev pub literal : List ℕ → ℤ
@@ -31,11 +31,11 @@ is_text bytes = utf8_valid_len bytes == length bytes
 
 -- the name of these bytes
 unfoldable pub name_word : List ℕ → Word
-name_word bytes = if is_text bytes then w.Name bytes else w.Key t.Name
+name_word bytes = if is_text bytes then word_kind.Name bytes else word_kind.Key token_kind.Name
 
 -- the text of these bytes
 unfoldable pub text_word : List ℕ → Word
-text_word bytes = if is_text bytes then w.Text bytes else w.Key t.Text
+text_word bytes = if is_text bytes then word_kind.Text bytes else word_kind.Key token_kind.Text
 
 -- all but the last byte
 abbrev pub without_last : List ℕ → List ℕ
@@ -53,10 +53,10 @@ bytes_of source token = take (token.to - token.from) (drop token.from source)
 
 -- what the grammar sees of these bytes as a token of this kind
 abbrev pub word_as : TokenKind → List ℕ → Word
-word_as t.Name bytes = name_word bytes
-word_as t.Number bytes = w.Number (literal bytes)
-word_as t.Text bytes = quoted_word bytes
-word_as kind bytes = w.Key kind
+word_as token_kind.Name bytes = name_word bytes
+word_as token_kind.Number bytes = word_kind.Number (literal bytes)
+word_as token_kind.Text bytes = quoted_word bytes
+word_as kind bytes = word_kind.Key kind
 
 -- what the grammar sees of a token
 unfoldable pub word_of : List ℕ → Token → Word
@@ -64,7 +64,7 @@ word_of source token = word_as token.kind (bytes_of source token)
 
 -- a newline ends nothing within a piece, nor among tokens that are read as a whole
 abbrev pub is_newline : TokenKind → Bool
-is_newline t.Newline = true
+is_newline token_kind.Newline = true
 is_newline _ = false
 
 -- what the grammar sees of tokens: their words, the newlines passed over

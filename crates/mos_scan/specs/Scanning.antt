@@ -4,7 +4,7 @@ use Rattle.std.specs.Prelude.{◌≡◌, ℕ, ◌+◌, List, length}
 use Rattle.mos_scan.specs.Cuts.{Part, Whole, Stops, tokens_from}
 use Rattle.mos_scan.specs.declared.token.Token.{Token}
 use Rattle.mos_scan.specs.declared.scanner.Cut.{Cut}
-use Rattle.mos_scan.specs.declared.scanner.Cut.TheVariants as c
+use Rattle.mos_scan.specs.declared.scanner.Cut.TheVariants as cut_kind
 
 -- all that is read, cut into parts
 pub record IsWholeCut (bytes : List ℕ) (tokens : List Token) (read : ℕ) : Type 0 where
@@ -16,5 +16,5 @@ pub record IsWholeCut (bytes : List ℕ) (tokens : List Token) (read : ℕ) : Ty
 
 -- how a source is cut
 abbrev pub IsCut : List ℕ → Cut → Type 0
-IsCut bytes (c.Whole tokens read) = IsWholeCut bytes tokens.items read
-IsCut bytes (c.Stopped place kind) = Stops bytes place kind
+IsCut bytes (cut_kind.Whole tokens read) = IsWholeCut bytes tokens.items read
+IsCut bytes (cut_kind.Stopped place kind) = Stops bytes place kind

@@ -4,12 +4,12 @@ use Rattle.std.specs.Prelude.{ℕ, ◌+◌, ◌*◌, ◌-◌, Bool, true, false,
 use Rattle.std.specs.List.{list_all, prefix_len}
 use Rattle.std.specs.Char.{is_ascii_digit}
 use Rattle.mos_scan.specs.Characters.{is_blank, begins_name, is_word, is_quote, is_inside, is_escape}
-use Rattle.mos_scan.specs.Words.{look_up, end_word, plain_word, is_refused}
+use Rattle.mos_scan.specs.ReservedWords.{look_up, end_word, plain_word, is_refused}
 use Rattle.mos_scan.specs.declared.token.TokenKind.{TokenKind}
-use Rattle.mos_scan.specs.declared.token.TokenKind.TheVariants as t
+use Rattle.mos_scan.specs.declared.token.TokenKind.TheVariants as token_kind
 use Rattle.mos_scan.specs.Vocabulary.{symbols}
 use Rattle.mos_text.specs.declared.kind.Kind.{Kind}
-use Rattle.mos_text.specs.declared.kind.Kind.TheVariants as k
+use Rattle.mos_text.specs.declared.kind.Kind.TheVariants as error_kind
 
 -- a value, where the test passes
 abbrev pub when : {A : Type 0} → Bool → A → Option A
@@ -83,8 +83,8 @@ unfoldable pub kind_of : List ℕ → Option TokenKind
 kind_of [] = None
 kind_of (a ∷ bs) =
     if begins_name a then end_or_plain (end_word (a ∷ bs)) (a ∷ bs)
-    else (if is_ascii_digit a then when (list_all is_ascii_digit bs) t.Number
-    else (if is_quote a then when (is_length (closing_quote a false 0 bs) (length bs)) t.Text
+    else (if is_ascii_digit a then when (list_all is_ascii_digit bs) token_kind.Number
+    else (if is_quote a then when (is_length (closing_quote a false 0 bs) (length bs)) token_kind.Text
     else symbol a bs))
 
 -- ---- faults
@@ -98,14 +98,14 @@ number_from n (d ∷ ds) = number_from (n * 10 + (d - 48)) ds
 abbrev pub spoils : List ℕ → Option Kind
 spoils [] = None
 spoils (b ∷ bs) =
-    if b == 101 || b == 69 then Some k.Real
-    else (if begins_name b then Some k.Char
-    else (if b == 46 && not (begins_with 46 bs) then Some k.Real else None))
+    if b == 101 || b == 69 then Some error_kind.Real
+    else (if begins_name b then Some error_kind.Char
+    else (if b == 46 && not (begins_with 46 bs) then Some error_kind.Real else None))
 
 -- digits that are spoilt, or that are above the largest literal
 abbrev pub spoilt_or_large : Option Kind → List ℕ → Option (Kind × ℕ)
 spoilt_or_large (Some kind) digits = Some (kind, 0)
-spoilt_or_large None digits = when (nat_lt 2147483647 (number_from 0 digits)) (k.Number, 0)
+spoilt_or_large None digits = when (nat_lt 2147483647 (number_from 0 digits)) (error_kind.Number, 0)
 
 -- the fault of digits
 unfoldable pub number_fault : List ℕ → Option (Kind × ℕ)
@@ -114,11 +114,11 @@ number_fault text = spoilt_or_large (spoils (drop (prefix_len is_ascii_digit tex
 -- a backslash that makes no escape is a wrong character
 abbrev pub escape_fault : Option ℕ → Option (Kind × ℕ)
 escape_fault None = None
-escape_fault (Some offset) = Some (k.Char, offset)
+escape_fault (Some offset) = Some (error_kind.Char, offset)
 
 -- a text that is not closed is wrong at its quote, and else at the first backslash that makes no escape
 abbrev pub closed_or_wrong : ℕ → Option ℕ → List ℕ → Option (Kind × ℕ)
-closed_or_wrong quote None bs = Some (k.Str, 0)
+closed_or_wrong quote None bs = Some (error_kind.Str, 0)
 closed_or_wrong quote (Some n) bs = if quote == 34 then escape_fault (bad_escape false 0 (take n bs)) else None
 
 -- the fault of a text in quotes, behind its first quote
@@ -127,11 +127,11 @@ text_fault quote bs = closed_or_wrong quote (closing_quote quote false 0 bs) bs
 
 -- a word that is left out is named
 unfoldable pub word_fault : List ℕ → Option (Kind × ℕ)
-word_fault bs = when (is_refused (take (prefix_len is_word bs) bs)) (k.Out (take (prefix_len is_word bs) bs), 0)
+word_fault bs = when (is_refused (take (prefix_len is_word bs) bs)) (error_kind.Out (take (prefix_len is_word bs) bs), 0)
 
 -- a comment that is not closed, or a byte that is no symbol
 abbrev pub symbol_fault : ℕ → List ℕ → Option (Kind × ℕ)
-symbol_fault a bs = if a == 40 && begins_with 33 bs then Some (k.Comment, 0) else when (is_none (one_byte a)) (k.Char, 0)
+symbol_fault a bs = if a == 40 && begins_with 33 bs then Some (error_kind.Comment, 0) else when (is_none (one_byte a)) (error_kind.Char, 0)
 
 -- the fault of a place where no gap begins: its kind, and how far behind the place its first byte is
 unfoldable pub fault_at : List ℕ → Option (Kind × ℕ)

@@ -9,8 +9,8 @@ use crate::character::{
     word_length,
 };
 use crate::number::number;
+use crate::reserved_word::{end_at, is_refused, plain_word};
 use crate::symbol::{one_byte, two_bytes};
-use crate::word::{end_at, is_refused, plain_word};
 
 /// What is wrong at a place, apart from the word that a kind names.
 #[derive(Clone, Copy, Debug, PartialEq, Eq)]

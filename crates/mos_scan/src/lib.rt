@@ -7,21 +7,21 @@
 mod character;
 mod context;
 mod fault;
+mod grammar_word;
 mod laws;
 mod lexeme;
 mod number;
 mod piece;
-mod reading;
+mod reserved_word;
 mod scanner;
 mod symbol;
 mod token;
 mod token_class;
 mod vocabulary;
-mod word;
 
 pub use fault::LexFault;
+pub use grammar_word::{Word, piece_words, words};
 pub use laws::{source_is_scanned_once, tokens_are_cut_once};
 pub use piece::{Piece, pieces};
-pub use reading::{Word, piece_words, words};
 pub use scanner::{line_behind, scan};
 pub use token::{Token, TokenKind};

@@ -3,8 +3,8 @@ ghost use Rattle.std.specs.Prelude.{◌≡◌};
 ghost use Rattle.mos_scan.specs.Tokens as spec;
 
 use crate::TokenKind;
+use crate::reserved_word::look_up;
 use crate::vocabulary::SYMBOLS;
-use crate::word::look_up;
 
 /// The symbol that the byte is.
 #[tactic(auto, unfolding(crate::specs::Tokens::one_byte))]

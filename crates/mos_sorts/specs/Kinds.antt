@@ -3,22 +3,22 @@
 
 use Rattle.std.specs.Prelude.{ℕ, Bool, true, false, List, [], ◌∷◌, Option, Some, None, if◌then◌else◌, nat_lt}
 use Rattle.mos_text.specs.declared.kind.Kind.{Kind}
-use Rattle.mos_text.specs.declared.kind.Kind.TheVariants as k
+use Rattle.mos_text.specs.declared.kind.Kind.TheVariants as error_kind
 
 -- the place of a kind in the table of rules; kinds that no rule has come behind it
 abbrev pub rank : Kind → ℕ
-rank (k.Out name) = 1
-rank k.Jobs = 2
-rank (k.Unknown name) = 3
-rank (k.Twice name) = 4
-rank k.Forward = 5
-rank k.Loop = 6
-rank k.Return = 7
-rank k.Const = 8
-rank k.Flat = 9
-rank (k.Prefix word) = 10
-rank k.Args = 11
-rank k.NoType = 12
+rank (error_kind.Out name) = 1
+rank error_kind.Jobs = 2
+rank (error_kind.Unknown name) = 3
+rank (error_kind.Twice name) = 4
+rank error_kind.Forward = 5
+rank error_kind.Loop = 6
+rank error_kind.Return = 7
+rank error_kind.Const = 8
+rank error_kind.Flat = 9
+rank (error_kind.Prefix word) = 10
+rank error_kind.Args = 11
+rank error_kind.NoType = 12
 rank _ = 13
 
 -- a rule that is broken later in the text counts only if its kind stands before that of the rule that was broken before

@@ -2,7 +2,7 @@
 
 use Rattle.std.proofs.Common.{◌≡◌, ℕ, suc, Bool, true, false, ◌||◌, ◌&&◌, List, ◌∷◌, refl, sym, ◌∙◌, subst}
 use Rattle.mos_tree.specs.declared.form.PieceKind.{PieceKind}
-use Rattle.mos_tree.specs.declared.form.PieceKind.TheVariants as m
+use Rattle.mos_tree.specs.declared.form.PieceKind.TheVariants as piece_kind
 use Rattle.mos_tree.specs.declared.form.PieceForm.{PieceForm}
 use Rattle.mos_source.specs.Productions.{Rule, one, block, ◌~◌, ◌or◌, optional, many, statement, statement_is, same, form_at, front, begins, Reading, took, broke, Reads, takes, breaks, opens, opens_not, breaks_first, goes_on, as_first, as_second, as_none, entered, missing, again, no_more, by_name}
 
@@ -183,7 +183,7 @@ neither false true h = let no : ⊥ = cc in absurd no
 neither true b h = let no : ⊥ = cc in absurd no
 
 statement-begins : (x : PieceKind) → begins statement x ≡ begins statement_is x
-statement-begins m.Unknown = refl
+statement-begins piece_kind.Unknown = refl
 statement-begins _ = refl
 
 breaks-case : (a b : Rule) (depth : ℕ) (pieces : List PieceForm) → begins (a or b) (front depth pieces) ≡ false → Reads (a or b) depth pieces (broke pieces)

@@ -6,12 +6,12 @@ use Rattle.mos_text.specs.declared.kind.Kind.{Kind}
 use Rattle.mos_text.specs.declared.kind.Kind.TheVariants as kind
 use Rattle.mos_tree.specs.declared.source.Tree.{Tree}
 use Rattle.mos_tree.specs.declared.form.PieceKind.{PieceKind}
-use Rattle.mos_tree.specs.declared.form.PieceKind.TheVariants as m
+use Rattle.mos_tree.specs.declared.form.PieceKind.TheVariants as piece_kind
 use Rattle.mos_tree.specs.declared.form.PieceForm.{PieceForm}
-use Rattle.mos_source.specs.declared.frame.Frame.TheVariants as g
+use Rattle.mos_source.specs.declared.frame.Frame.TheVariants as frame_kind
 use Rattle.mos_source.specs.declared.frame.Part.{Part}
 use Rattle.mos_source.specs.declared.frame.Part.TheVariants as part
-use Rattle.mos_source.specs.declared.place.Place.TheVariants as p
+use Rattle.mos_source.specs.declared.place.Place.TheVariants as place_kind
 use Rattle.mos_source.specs.declared.place.Role.{Role}
 use Rattle.mos_source.specs.declared.place.Role.TheVariants.{Opens}
 use Rattle.mos_tree.specs.Forms.{piece_kind_of}
@@ -47,69 +47,69 @@ start-form : (open_ : Bool) (x : PieceForm) → own_limit x.form ≡ None → op
 start-form true x o b = counts-fits 0 x o b refl
 start-form false x o b = counts-other 0 x o b
 
-start-fails : (own : Option Kind) (x : PieceForm) → own_limit x.form ≡ own → role_at p.Start (form_at 0 x) ≡ None → Fails [] x
+start-fails : (own : Option Kind) (x : PieceForm) → own_limit x.form ≡ own → role_at place_kind.Start (form_at 0 x) ≡ None → Fails [] x
 start-fails (Some found) x o r = fails-own [] x found o
-start-fails None x o r = fails-none [] x (as-kind p.Start 0 x None (start-form (opens_block (piece_kind_of x.form)) x o refl) r)
+start-fails None x o r = fails-none [] x (as-kind place_kind.Start 0 x None (start-form (opens_block (piece_kind_of x.form)) x o refl) r)
 
-start-own : (own : Option Kind) (x : PieceForm) (role : Role) → own_limit x.form ≡ own → role_at p.Start (form_at 0 x) ≡ Some role → own_limit x.form ≡ None
-start-own (Some found) x role o r = absurd (not-known p.Start (form_at 0 x) role (counts-own 0 x found o) r)
+start-own : (own : Option Kind) (x : PieceForm) (role : Role) → own_limit x.form ≡ own → role_at place_kind.Start (form_at 0 x) ≡ Some role → own_limit x.form ≡ None
+start-own (Some found) x role o r = absurd (not-known place_kind.Start (form_at 0 x) role (counts-own 0 x found o) r)
 start-own None x role o r = o
 
-start-model : (x : PieceKind) (role : Role) → role_at p.Start x ≡ Some role → (x ≡ m.Model) × (role ≡ Opens)
+start-model : (x : PieceKind) (role : Role) → role_at place_kind.Start x ≡ Some role → (x ≡ piece_kind.Model) × (role ≡ Opens)
 unfolding role_at
-start-model m.Model role r = (refl, cc)
+start-model piece_kind.Model role r = (refl, cc)
 start-model _ role r = let no : ⊥ = cc in absurd no
 
 -- ---- behind a whole source
 
-ended : (x : Part) (next : Stack) → is_source x ≡ true → add_part x [] ≡ next → (tree : Tree) × (next ≡ g.End tree ∷ [])
+ended : (x : Part) (next : Stack) → is_source x ≡ true → add_part x [] ≡ next → (tree : Tree) × (next ≡ frame_kind.End tree ∷ [])
 ended (part.Source tree) next k e = (tree, sym e)
 ended _ next k e = let no : ⊥ = cc in absurd no
 
-end-nowhere : (x : PieceKind) → role_at p.End x ≡ None
+end-nowhere : (x : PieceKind) → role_at place_kind.End x ≡ None
 unfolding role_at
-end-nowhere m.Unknown = refl
+end-nowhere piece_kind.Unknown = refl
 end-nowhere _ = refl
 
-behind-source : (pieces : List PieceForm) (tree : Tree) (left : List PieceForm) → Reads source 0 pieces (took left) → run limit [] pieces ≡ run limit (g.End tree ∷ []) left → ReadSource pieces
+behind-source : (pieces : List PieceForm) (tree : Tree) (left : List PieceForm) → Reads source 0 pieces (took left) → run limit [] pieces ≡ run limit (frame_kind.End tree ∷ []) left → ReadSource pieces
 unfolding Fails
 behind-source pieces tree [] reads runs = ends tree reads runs
 behind-source pieces tree (x ∷ xs) reads runs =
-    let failed : Fails (g.End tree ∷ []) x = fails-none (g.End tree ∷ []) x (end-nowhere (piece_kind_of x.form)) in
+    let failed : Fails (frame_kind.End tree ∷ []) x = fails-none (frame_kind.End tree ∷ []) x (end-nowhere (piece_kind_of x.form)) in
     goes_on x xs failed.0 reads (runs ∙ rw failed.1 refl)
 
 -- ---- the whole source
 
-from-heads : (x : PieceForm) (xs : List PieceForm) (next : Stack) → form_at 0 x ≡ m.Model → role_at p.Start (form_at 0 x) ≡ Some Opens → run limit [] (x ∷ xs) ≡ run limit next xs → ReadAt (opened_place (form_at 0 x)) [] next xs → ReadSource (x ∷ xs)
-from-heads x xs next h r ran (broken left wrong reads stops) = breaks left wrong (on Opens p.Start 0 x xs (broke left) refl r reads) (ran ∙ stops)
+from-heads : (x : PieceForm) (xs : List PieceForm) (next : Stack) → form_at 0 x ≡ piece_kind.Model → role_at place_kind.Start (form_at 0 x) ≡ Some Opens → run limit [] (x ∷ xs) ≡ run limit next xs → ReadAt (opened_place (form_at 0 x)) [] next xs → ReadSource (x ∷ xs)
+from-heads x xs next h r ran (broken left wrong reads stops) = breaks left wrong (on Opens place_kind.Start 0 x xs (broke left) refl r reads) (ran ∙ stops)
 from-heads x xs next h r ran (taken left there reads runs adds live less) =
     let model : is_model (opened_place (form_at 0 x)) ≡ true = ap (λ z. is_model (opened_place z)) h in
-    let end : (tree : Tree) × (there ≡ g.End tree ∷ []) = ended adds.part there (adds.kind ∙ model) adds.is in
-    behind-source (x ∷ xs) end.0 left (on Opens p.Start 0 x xs (took left) refl r reads) (ran ∙ runs ∙ ap (λ z. run limit z left) end.1)
+    let end : (tree : Tree) × (there ≡ frame_kind.End tree ∷ []) = ended adds.part there (adds.kind ∙ model) adds.is in
+    behind-source (x ∷ xs) end.0 left (on Opens place_kind.Start 0 x xs (took left) refl r reads) (ran ∙ runs ∙ ap (λ z. run limit z left) end.1)
 
-from-model : (x : PieceForm) (xs : List PieceForm) → form_at 0 x ≡ m.Model → role_at p.Start (form_at 0 x) ≡ Some Opens → ReadSource (x ∷ xs)
+from-model : (x : PieceForm) (xs : List PieceForm) → form_at 0 x ≡ piece_kind.Model → role_at place_kind.Start (form_at 0 x) ≡ Some Opens → ReadSource (x ∷ xs)
 unfolding Reader Live
 from-model x xs h r =
     let own : own_limit x.form ≡ None = start-own (own_limit x.form) x Opens refl r in
     let is : form_at 0 x ≡ piece_kind_of x.form = start-form (opens_block (piece_kind_of x.form)) x own refl in
-    let here : role_at p.Start (piece_kind_of x.form) ≡ Some Opens = as-kind p.Start 0 x (Some Opens) is r in
+    let here : role_at place_kind.Start (piece_kind_of x.form) ≡ Some Opens = as-kind place_kind.Start 0 x (Some Opens) is r in
     let next : Stack = enter Opens x.line x.form [] in
-    let at : At [] (opened_place (form_at 0 x)) next = subst (λ z. At [] (opened_place z) next) (sym is) (opened-at x.line x.form [] (opens-there p.Start (piece_kind_of x.form) here) own) in
+    let at : At [] (opened_place (form_at 0 x)) next = subst (λ z. At [] (opened_place z) next) (sym is) (opened-at x.line x.form [] (opens-there place_kind.Start (piece_kind_of x.form) here) own) in
     let inner : ReadAt (opened_place (form_at 0 x)) [] next xs = led (length xs) (opened_place (form_at 0 x)) [] next xs (read-block (length xs)) (omega arith) (ap (λ z. is_end (opened_place z)) h) (x ∷ [], sound-enter limit Opens [] x.line x.form [] refl here own refl) at in
     from-heads x xs next h r (run-step limit [] next x xs (step-role limit [] x Opens here own refl)) inner
 
-from-role : (role : Option Role) (x : PieceForm) (xs : List PieceForm) → role_at p.Start (form_at 0 x) ≡ role → ReadSource (x ∷ xs)
+from-role : (role : Option Role) (x : PieceForm) (xs : List PieceForm) → role_at place_kind.Start (form_at 0 x) ≡ role → ReadSource (x ∷ xs)
 unfolding Fails
 from-role None x xs r =
     let failed : Fails [] x = start-fails (own_limit x.form) x refl r in
-    breaks (x ∷ xs) failed.0 (read-none source 0 (x ∷ xs) refl (none-begins p.Start (form_at 0 x) refl r)) (rw failed.1 refl)
+    breaks (x ∷ xs) failed.0 (read-none source 0 (x ∷ xs) refl (none-begins place_kind.Start (form_at 0 x) refl r)) (rw failed.1 refl)
 from-role (Some role) x xs r =
-    let both : (form_at 0 x ≡ m.Model) × (role ≡ Opens) = start-model (form_at 0 x) role r in
-    from-model x xs both.0 (subst (λ z. role_at p.Start (form_at 0 x) ≡ Some z) both.1 r)
+    let both : (form_at 0 x ≡ piece_kind.Model) × (role ≡ Opens) = start-model (form_at 0 x) role r in
+    from-model x xs both.0 (subst (λ z. role_at place_kind.Start (form_at 0 x) ≡ Some z) both.1 r)
 
 read-source : (pieces : List PieceForm) → ReadSource pieces
-read-source [] = breaks [] kind.Syntax (read-none source 0 [] refl (none-begins p.Start m.Unknown refl (unknown-nowhere p.Start))) refl
-read-source (x ∷ xs) = from-role (role_at p.Start (form_at 0 x)) x xs refl
+read-source [] = breaks [] kind.Syntax (read-none source 0 [] refl (none-begins place_kind.Start piece_kind.Unknown refl (unknown-nowhere place_kind.Start))) refl
+read-source (x ∷ xs) = from-role (role_at place_kind.Start (form_at 0 x)) x xs refl
 
 -- ---- sources
 

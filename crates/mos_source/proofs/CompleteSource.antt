@@ -10,20 +10,20 @@ use Rattle.mos_tree.specs.declared.declaration.Heading.{Heading}
 use Rattle.mos_tree.specs.declared.declaration.BaseType.{BaseType}
 use Rattle.mos_tree.specs.declared.source.ModelName.{ModelName}
 use Rattle.mos_tree.specs.declared.source.Head.{Head}
-use Rattle.mos_tree.specs.declared.source.Head.TheVariants as h
+use Rattle.mos_tree.specs.declared.source.Head.TheVariants as head_kind
 use Rattle.mos_tree.specs.declared.source.Routine.{Routine}
 use Rattle.mos_tree.specs.declared.source.Top.{Top}
-use Rattle.mos_tree.specs.declared.source.Top.TheVariants as t
+use Rattle.mos_tree.specs.declared.source.Top.TheVariants as top
 use Rattle.mos_tree.specs.declared.statement.Statement.{Statement}
-use Rattle.mos_tree.specs.declared.form.Form.TheVariants as f
+use Rattle.mos_tree.specs.declared.form.Form.TheVariants as form_kind
 use Rattle.mos_tree.specs.declared.form.Keyword.TheVariants as keyword
 use Rattle.mos_tree.specs.declared.form.PieceKind.{PieceKind}
-use Rattle.mos_tree.specs.declared.form.PieceKind.TheVariants as m
+use Rattle.mos_tree.specs.declared.form.PieceKind.TheVariants as piece_kind
 use Rattle.mos_tree.specs.declared.form.PieceForm.{PieceForm}
 use Rattle.mos_source.specs.declared.frame.Frame.{Frame}
-use Rattle.mos_source.specs.declared.frame.Frame.TheVariants as g
+use Rattle.mos_source.specs.declared.frame.Frame.TheVariants as frame_kind
 use Rattle.mos_source.specs.declared.frame.Part.TheVariants as part
-use Rattle.mos_source.specs.declared.place.Place.TheVariants as p
+use Rattle.mos_source.specs.declared.place.Place.TheVariants as place_kind
 use Rattle.mos_source.specs.declared.place.Role.{Role}
 use Rattle.mos_source.specs.declared.place.Role.TheVariants.{Opens, Continues, StandsAlone, Closes}
 use Rattle.mos_tree.specs.Forms.{piece, routine_kind}
@@ -38,19 +38,19 @@ use Rattle.mos_source.proofs.Complete.{reads}
 
 -- ---- rows of one piece each
 
-fields-read : (deep : ℕ) (k : Stack) (l : ℕ) (name : List ℕ) (before : List FieldGroup) (xs : List FieldGroup) (rest : List PieceForm) → run deep (g.Record l name before ∷ k) (map spell_field xs ++ rest) ≡ run deep (g.Record l name (before ++ xs) ∷ k) rest
+fields-read : (deep : ℕ) (k : Stack) (l : ℕ) (name : List ℕ) (before : List FieldGroup) (xs : List FieldGroup) (rest : List PieceForm) → run deep (frame_kind.Record l name before ∷ k) (map spell_field xs ++ rest) ≡ run deep (frame_kind.Record l name (before ++ xs) ∷ k) rest
 unfolding step step_as role_at
-fields-read deep k l name before [] rest = ap (λ ys. run deep (g.Record l name ys ∷ k) rest) (sym (append-nil before))
+fields-read deep k l name before [] rest = ap (λ ys. run deep (frame_kind.Record l name ys ∷ k) rest) (sym (append-nil before))
 fields-read deep k l name before (x ∷ xs) rest =
     fields-read deep k l name (before ++ x ∷ []) xs rest
-    ∙ ap (λ ys. run deep (g.Record l name ys ∷ k) rest) (append_assoc before (x ∷ []) xs)
+    ∙ ap (λ ys. run deep (frame_kind.Record l name ys ∷ k) rest) (append_assoc before (x ∷ []) xs)
 
-parameters-read : (deep : ℕ) (k : Stack) (l : ℕ) (before : List Parameter) (xs : List Parameter) (rest : List PieceForm) → run deep (g.Parameters l before ∷ k) (map spell_parameter xs ++ rest) ≡ run deep (g.Parameters l (before ++ xs) ∷ k) rest
+parameters-read : (deep : ℕ) (k : Stack) (l : ℕ) (before : List Parameter) (xs : List Parameter) (rest : List PieceForm) → run deep (frame_kind.Parameters l before ∷ k) (map spell_parameter xs ++ rest) ≡ run deep (frame_kind.Parameters l (before ++ xs) ∷ k) rest
 unfolding step step_as role_at
-parameters-read deep k l before [] rest = ap (λ ys. run deep (g.Parameters l ys ∷ k) rest) (sym (append-nil before))
+parameters-read deep k l before [] rest = ap (λ ys. run deep (frame_kind.Parameters l ys ∷ k) rest) (sym (append-nil before))
 parameters-read deep k l before (x ∷ xs) rest =
     parameters-read deep k l (before ++ x ∷ []) xs rest
-    ∙ ap (λ ys. run deep (g.Parameters l ys ∷ k) rest) (append_assoc before (x ∷ []) xs)
+    ∙ ap (λ ys. run deep (frame_kind.Parameters l ys ∷ k) rest) (append_assoc before (x ∷ []) xs)
 
 -- ---- heads
 
@@ -60,42 +60,42 @@ modules-allowed (x ∷ xs) a =
     let same : is_jobs x ≡ true = (bytes_eq-Decides x jobs_module).1 a.0 in
     rw same (modules-allowed xs a.1)
 
-head-step : (deep : ℕ) (k : Stack) (l : ℕ) (name : ModelName) (before : List Head) (x : Head) → IsAllowed x → step deep (g.Heads l name before ∷ k) (spell_head x) ≡ Ok (g.Heads l name (before ++ x ∷ []) ∷ k)
+head-step : (deep : ℕ) (k : Stack) (l : ℕ) (name : ModelName) (before : List Head) (x : Head) → IsAllowed x → step deep (frame_kind.Heads l name before ∷ k) (spell_head x) ≡ Ok (frame_kind.Heads l name (before ++ x ∷ []) ∷ k)
 unfolding role_at
-head-step deep k l name before (h.Uses line modules) a = step-role deep (g.Heads l name before ∷ k) (piece line (f.Uses modules)) Continues refl (modules-allowed modules a) refl
-head-step deep k l name before (h.NoImplicit line) a = step-role deep (g.Heads l name before ∷ k) (piece line (f.Options no_implicit)) Continues refl refl refl
+head-step deep k l name before (head_kind.Uses line modules) a = step-role deep (frame_kind.Heads l name before ∷ k) (piece line (form_kind.Uses modules)) Continues refl (modules-allowed modules a) refl
+head-step deep k l name before (head_kind.NoImplicit line) a = step-role deep (frame_kind.Heads l name before ∷ k) (piece line (form_kind.Options no_implicit)) Continues refl refl refl
 
-heads-read : (deep : ℕ) (k : Stack) (l : ℕ) (name : ModelName) (before : List Head) (xs : List Head) (rest : List PieceForm) → AreAllowed xs → run deep (g.Heads l name before ∷ k) (map spell_head xs ++ rest) ≡ run deep (g.Heads l name (before ++ xs) ∷ k) rest
-heads-read deep k l name before [] rest a = ap (λ ys. run deep (g.Heads l name ys ∷ k) rest) (sym (append-nil before))
+heads-read : (deep : ℕ) (k : Stack) (l : ℕ) (name : ModelName) (before : List Head) (xs : List Head) (rest : List PieceForm) → AreAllowed xs → run deep (frame_kind.Heads l name before ∷ k) (map spell_head xs ++ rest) ≡ run deep (frame_kind.Heads l name (before ++ xs) ∷ k) rest
+heads-read deep k l name before [] rest a = ap (λ ys. run deep (frame_kind.Heads l name ys ∷ k) rest) (sym (append-nil before))
 heads-read deep k l name before (x ∷ xs) rest a =
-    run-step deep (g.Heads l name before ∷ k) (g.Heads l name (before ++ x ∷ []) ∷ k) (spell_head x) (map spell_head xs ++ rest) (head-step deep k l name before x a.0)
+    run-step deep (frame_kind.Heads l name before ∷ k) (frame_kind.Heads l name (before ++ x ∷ []) ∷ k) (spell_head x) (map spell_head xs ++ rest) (head-step deep k l name before x a.0)
     ∙ heads-read deep k l name (before ++ x ∷ []) xs rest a.1
-    ∙ ap (λ ys. run deep (g.Heads l name ys ∷ k) rest) (append_assoc before (x ∷ []) xs)
+    ∙ ap (λ ys. run deep (frame_kind.Heads l name ys ∷ k) rest) (append_assoc before (x ∷ []) xs)
 
 -- ---- declarations
 
-items-read : (deep : ℕ) (xs : Items) (k : Stack) (l : ℕ) (rest : List PieceForm) → depth_items xs + length k ≤ deep → run deep (g.Declarations l [] ∷ k) (spell_items xs ++ rest) ≡ run deep (g.Declarations l (items_of xs) ∷ k) rest
+items-read : (deep : ℕ) (xs : Items) (k : Stack) (l : ℕ) (rest : List PieceForm) → depth_items xs + length k ≤ deep → run deep (frame_kind.Declarations l [] ∷ k) (spell_items xs ++ rest) ≡ run deep (frame_kind.Declarations l (items_of xs) ∷ k) rest
 unfolding step step_as role_at
 items-read deep no_item k l rest h = refl
 items-read deep (constant xs line name value) k l rest h =
-    ap (run deep (g.Declarations l [] ∷ k)) (one-end (spell_items xs) (piece line (f.Definition name value)) rest)
-    ∙ items-read deep xs k l (piece line (f.Definition name value) ∷ rest) h
+    ap (run deep (frame_kind.Declarations l [] ∷ k)) (one-end (spell_items xs) (piece line (form_kind.Definition name value)) rest)
+    ∙ items-read deep xs k l (piece line (form_kind.Definition name value) ∷ rest) h
 items-read deep (variables xs line names typ) k l rest h =
-    ap (run deep (g.Declarations l [] ∷ k)) (one-end (spell_items xs) (piece line (f.Typed names typ)) rest)
-    ∙ items-read deep xs k l (piece line (f.Typed names typ) ∷ rest) h
+    ap (run deep (frame_kind.Declarations l [] ∷ k)) (one-end (spell_items xs) (piece line (form_kind.Typed names typ)) rest)
+    ∙ items-read deep xs k l (piece line (form_kind.Typed names typ) ∷ rest) h
 items-read deep (record_type xs line name fields end) k l rest h =
-    ap (run deep (g.Declarations l [] ∷ k)) (append_assoc (spell_items xs) (piece line (f.RecordOf name) ∷ (map spell_field fields ++ piece end (f.Keyword keyword.EndRecord) ∷ [])) rest ∙ ap (λ zs. spell_items xs ++ piece line (f.RecordOf name) ∷ zs) (one-end (map spell_field fields) (piece end (f.Keyword keyword.EndRecord)) rest))
-    ∙ items-read deep xs k l (piece line (f.RecordOf name) ∷ (map spell_field fields ++ piece end (f.Keyword keyword.EndRecord) ∷ rest)) (omega (arith, h))
-    ∙ run-open deep (g.Declarations l (items_of xs) ∷ k) line (f.RecordOf name) (g.Record line name []) (map spell_field fields ++ piece end (f.Keyword keyword.EndRecord) ∷ rest) refl refl refl (omega (arith, h))
-    ∙ fields-read deep (g.Declarations l (items_of xs) ∷ k) line name [] fields (piece end (f.Keyword keyword.EndRecord) ∷ rest)
+    ap (run deep (frame_kind.Declarations l [] ∷ k)) (append_assoc (spell_items xs) (piece line (form_kind.RecordOf name) ∷ (map spell_field fields ++ piece end (form_kind.Keyword keyword.EndRecord) ∷ [])) rest ∙ ap (λ zs. spell_items xs ++ piece line (form_kind.RecordOf name) ∷ zs) (one-end (map spell_field fields) (piece end (form_kind.Keyword keyword.EndRecord)) rest))
+    ∙ items-read deep xs k l (piece line (form_kind.RecordOf name) ∷ (map spell_field fields ++ piece end (form_kind.Keyword keyword.EndRecord) ∷ rest)) (omega (arith, h))
+    ∙ run-open deep (frame_kind.Declarations l (items_of xs) ∷ k) line (form_kind.RecordOf name) (frame_kind.Record line name []) (map spell_field fields ++ piece end (form_kind.Keyword keyword.EndRecord) ∷ rest) refl refl refl (omega (arith, h))
+    ∙ fields-read deep (frame_kind.Declarations l (items_of xs) ∷ k) line name [] fields (piece end (form_kind.Keyword keyword.EndRecord) ∷ rest)
 
 -- a block of `declarations`, where one may stand
-declarations-read : (deep : ℕ) (line : ℕ) (xs : Items) (end : ℕ) (k : Stack) (rest : List PieceForm) → role_at (place_of k) m.Declarations ≡ Some Opens → 1 + depth_items xs + length k ≤ deep + 1 → run deep k (spell_declarations line xs end ++ rest) ≡ run deep (add_other (part.Declared (declaration_block line xs)) k) rest
+declarations-read : (deep : ℕ) (line : ℕ) (xs : Items) (end : ℕ) (k : Stack) (rest : List PieceForm) → role_at (place_of k) piece_kind.Declarations ≡ Some Opens → 1 + depth_items xs + length k ≤ deep + 1 → run deep k (spell_declarations line xs end ++ rest) ≡ run deep (add_other (part.Declared (declaration_block line xs)) k) rest
 declarations-read deep line xs end k rest role h =
-    run-open deep k line (f.Keyword keyword.Declarations) (g.Declarations line []) ((spell_items xs ++ piece end (f.Keyword keyword.EndDeclarations) ∷ []) ++ rest) role refl refl (omega (arith, h))
-    ∙ ap (run deep (g.Declarations line [] ∷ k)) (one-end (spell_items xs) (piece end (f.Keyword keyword.EndDeclarations)) rest)
-    ∙ items-read deep xs k line (piece end (f.Keyword keyword.EndDeclarations) ∷ rest) (omega (arith, h))
-    ∙ run-role deep (g.Declarations line (items_of xs) ∷ k) (piece end (f.Keyword keyword.EndDeclarations)) Closes rest (ends p.Declarations refl) refl refl
+    run-open deep k line (form_kind.Keyword keyword.Declarations) (frame_kind.Declarations line []) ((spell_items xs ++ piece end (form_kind.Keyword keyword.EndDeclarations) ∷ []) ++ rest) role refl refl (omega (arith, h))
+    ∙ ap (run deep (frame_kind.Declarations line [] ∷ k)) (one-end (spell_items xs) (piece end (form_kind.Keyword keyword.EndDeclarations)) rest)
+    ∙ items-read deep xs k line (piece end (form_kind.Keyword keyword.EndDeclarations) ∷ rest) (omega (arith, h))
+    ∙ run-role deep (frame_kind.Declarations line (items_of xs) ∷ k) (piece end (form_kind.Keyword keyword.EndDeclarations)) Closes rest (ends place_kind.Declarations refl) refl refl
 
 -- ---- routines
 
@@ -103,38 +103,38 @@ routine-takes : (typ : Option BaseType) → takes_statements (routine_place typ)
 routine-takes None = refl
 routine-takes (Some t) = refl
 
-routine-declares : (typ : Option BaseType) → role_at (routine_place typ) m.Declarations ≡ Some Opens
+routine-declares : (typ : Option BaseType) → role_at (routine_place typ) piece_kind.Declarations ≡ Some Opens
 unfolding role_at
 routine-declares None = refl
 routine-declares (Some t) = refl
 
-parts-read : (deep : ℕ) (xs : Parts) (k : Stack) (heading : Heading) (rest : List PieceForm) → depth_parts xs + length k ≤ deep → run deep (g.Routine heading [] ∷ k) (spell_parts xs ++ rest) ≡ run deep (g.Routine heading (parts_of xs) ∷ k) rest
+parts-read : (deep : ℕ) (xs : Parts) (k : Stack) (heading : Heading) (rest : List PieceForm) → depth_parts xs + length k ≤ deep → run deep (frame_kind.Routine heading [] ∷ k) (spell_parts xs ++ rest) ≡ run deep (frame_kind.Routine heading (parts_of xs) ∷ k) rest
 parts-read deep no_part k heading rest h = refl
 parts-read deep (declares xs line items end) k heading rest h =
-    ap (run deep (g.Routine heading [] ∷ k)) (append_assoc (spell_parts xs) (spell_declarations line items end) rest)
+    ap (run deep (frame_kind.Routine heading [] ∷ k)) (append_assoc (spell_parts xs) (spell_declarations line items end) rest)
     ∙ parts-read deep xs k heading (spell_declarations line items end ++ rest) (omega (arith, h))
-    ∙ declarations-read deep line items end (g.Routine heading (parts_of xs) ∷ k) rest (routine-declares heading.result) (omega (arith, h))
+    ∙ declarations-read deep line items end (frame_kind.Routine heading (parts_of xs) ∷ k) rest (routine-declares heading.result) (omega (arith, h))
 parts-read deep (states xs w) k heading rest h =
-    ap (run deep (g.Routine heading [] ∷ k)) (append_assoc (spell_parts xs) (spell w) rest)
+    ap (run deep (frame_kind.Routine heading [] ∷ k)) (append_assoc (spell_parts xs) (spell w) rest)
     ∙ parts-read deep xs k heading (spell w ++ rest) (omega (arith, h))
-    ∙ reads deep w (g.Routine heading (parts_of xs) ∷ k) rest (routine-takes heading.result) (omega (arith, h))
+    ∙ reads deep w (frame_kind.Routine heading (parts_of xs) ∷ k) rest (routine-takes heading.result) (omega (arith, h))
 
 -- ---- what stands in a model
 
 -- the model that is open, with this behind its heads
 abbrev pub model : ℕ → ModelName → List Head → List Top → Frame
-model l name heads [] = g.Heads l name heads
-model l name heads (x ∷ xs) = g.Tops l name heads (x ∷ xs)
+model l name heads [] = frame_kind.Heads l name heads
+model l name heads (x ∷ xs) = frame_kind.Tops l name heads (x ∷ xs)
 
 pub model-takes : (l : ℕ) (name : ModelName) (heads : List Head) (xs : List Top) → takes_statements (frame_place (model l name heads xs)) ≡ true
 model-takes l name heads [] = refl
 model-takes l name heads (x ∷ xs) = refl
 
-pub model-states : (l : ℕ) (name : ModelName) (heads : List Head) (xs : List Top) (x : Statement) (k : Stack) → add_statement x (model l name heads xs ∷ k) ≡ model l name heads (xs ++ t.Statement x ∷ []) ∷ k
+pub model-states : (l : ℕ) (name : ModelName) (heads : List Head) (xs : List Top) (x : Statement) (k : Stack) → add_statement x (model l name heads xs ∷ k) ≡ model l name heads (xs ++ top.Statement x ∷ []) ∷ k
 model-states l name heads [] x k = refl
 model-states l name heads (y ∷ ys) x k = refl
 
-pub model-declares : (l : ℕ) (name : ModelName) (heads : List Head) (xs : List Top) (x : Declared) (k : Stack) → add_other (part.Declared x) (model l name heads xs ∷ k) ≡ model l name heads (xs ++ t.Declarations x ∷ []) ∷ k
+pub model-declares : (l : ℕ) (name : ModelName) (heads : List Head) (xs : List Top) (x : Declared) (k : Stack) → add_other (part.Declared x) (model l name heads xs ∷ k) ≡ model l name heads (xs ++ top.Declarations x ∷ []) ∷ k
 model-declares l name heads [] x k = refl
 model-declares l name heads (y ∷ ys) x k = refl
 
@@ -142,55 +142,55 @@ pub model-others : (l : ℕ) (name : ModelName) (heads : List Head) (xs : List T
 model-others l name heads [] x k = refl
 model-others l name heads (y ∷ ys) x k = refl
 
-model-role : (l : ℕ) (name : ModelName) (heads : List Head) (xs : List Top) (x : PieceKind) (role : Role) → role_at p.Heads x ≡ Some role → role_at p.Tops x ≡ Some role → role_at (frame_place (model l name heads xs)) x ≡ Some role
+model-role : (l : ℕ) (name : ModelName) (heads : List Head) (xs : List Top) (x : PieceKind) (role : Role) → role_at place_kind.Heads x ≡ Some role → role_at place_kind.Tops x ≡ Some role → role_at (frame_place (model l name heads xs)) x ≡ Some role
 model-role l name heads [] x role a b = a
 model-role l name heads (y ∷ ys) x role a b = b
 
 model-routine : (l : ℕ) (name : ModelName) (heads : List Head) (xs : List Top) (typ : Option BaseType) → role_at (frame_place (model l name heads xs)) (routine_kind typ) ≡ Some Opens
 unfolding role_at
-model-routine l name heads xs None = model-role l name heads xs m.Procedure Opens refl refl
-model-routine l name heads xs (Some typ) = model-role l name heads xs m.Function Opens refl refl
+model-routine l name heads xs None = model-role l name heads xs piece_kind.Procedure Opens refl refl
+model-routine l name heads xs (Some typ) = model-role l name heads xs piece_kind.Function Opens refl refl
 
-tops-read : (deep : ℕ) (xs : Tops) (l : ℕ) (name : ModelName) (heads : List Head) (rest : List PieceForm) → depth_tops xs ≤ deep → run deep (g.Heads l name heads ∷ []) (spell_tops xs ++ rest) ≡ run deep (model l name heads (tops_of xs) ∷ []) rest
+tops-read : (deep : ℕ) (xs : Tops) (l : ℕ) (name : ModelName) (heads : List Head) (rest : List PieceForm) → depth_tops xs ≤ deep → run deep (frame_kind.Heads l name heads ∷ []) (spell_tops xs ++ rest) ≡ run deep (model l name heads (tops_of xs) ∷ []) rest
 unfolding role_at
 tops-read deep no_top l name heads rest h = refl
 tops-read deep (sets xs line ps end) l name heads rest h =
     let k : Stack = model l name heads (tops_of xs) ∷ [] in
-    ap (run deep (g.Heads l name heads ∷ [])) (append_assoc (spell_tops xs) (piece line (f.Keyword keyword.Parameters) ∷ (map spell_parameter ps ++ piece end (f.Keyword keyword.EndParameters) ∷ [])) rest ∙ ap (λ zs. spell_tops xs ++ piece line (f.Keyword keyword.Parameters) ∷ zs) (one-end (map spell_parameter ps) (piece end (f.Keyword keyword.EndParameters)) rest))
-    ∙ tops-read deep xs l name heads (piece line (f.Keyword keyword.Parameters) ∷ (map spell_parameter ps ++ piece end (f.Keyword keyword.EndParameters) ∷ rest)) (omega (arith, h))
-    ∙ run-open deep k line (f.Keyword keyword.Parameters) (g.Parameters line []) (map spell_parameter ps ++ piece end (f.Keyword keyword.EndParameters) ∷ rest) (model-role l name heads (tops_of xs) m.Parameters Opens refl refl) refl refl (omega (arith, h))
-    ∙ parameters-read deep k line [] ps (piece end (f.Keyword keyword.EndParameters) ∷ rest)
-    ∙ run-role deep (g.Parameters line ps ∷ k) (piece end (f.Keyword keyword.EndParameters)) Closes rest (ends p.Parameters refl) refl refl
-    ∙ ap (λ z. run deep z rest) (model-others l name heads (tops_of xs) (t.Parameters line ps) [])
+    ap (run deep (frame_kind.Heads l name heads ∷ [])) (append_assoc (spell_tops xs) (piece line (form_kind.Keyword keyword.Parameters) ∷ (map spell_parameter ps ++ piece end (form_kind.Keyword keyword.EndParameters) ∷ [])) rest ∙ ap (λ zs. spell_tops xs ++ piece line (form_kind.Keyword keyword.Parameters) ∷ zs) (one-end (map spell_parameter ps) (piece end (form_kind.Keyword keyword.EndParameters)) rest))
+    ∙ tops-read deep xs l name heads (piece line (form_kind.Keyword keyword.Parameters) ∷ (map spell_parameter ps ++ piece end (form_kind.Keyword keyword.EndParameters) ∷ rest)) (omega (arith, h))
+    ∙ run-open deep k line (form_kind.Keyword keyword.Parameters) (frame_kind.Parameters line []) (map spell_parameter ps ++ piece end (form_kind.Keyword keyword.EndParameters) ∷ rest) (model-role l name heads (tops_of xs) piece_kind.Parameters Opens refl refl) refl refl (omega (arith, h))
+    ∙ parameters-read deep k line [] ps (piece end (form_kind.Keyword keyword.EndParameters) ∷ rest)
+    ∙ run-role deep (frame_kind.Parameters line ps ∷ k) (piece end (form_kind.Keyword keyword.EndParameters)) Closes rest (ends place_kind.Parameters refl) refl refl
+    ∙ ap (λ z. run deep z rest) (model-others l name heads (tops_of xs) (top.Parameters line ps) [])
 tops-read deep (declares_top xs line items end) l name heads rest h =
-    ap (run deep (g.Heads l name heads ∷ [])) (append_assoc (spell_tops xs) (spell_declarations line items end) rest)
+    ap (run deep (frame_kind.Heads l name heads ∷ [])) (append_assoc (spell_tops xs) (spell_declarations line items end) rest)
     ∙ tops-read deep xs l name heads (spell_declarations line items end ++ rest) (omega (arith, h))
-    ∙ declarations-read deep line items end (model l name heads (tops_of xs) ∷ []) rest (model-role l name heads (tops_of xs) m.Declarations Opens refl refl) (omega (arith, h))
+    ∙ declarations-read deep line items end (model l name heads (tops_of xs) ∷ []) rest (model-role l name heads (tops_of xs) piece_kind.Declarations Opens refl refl) (omega (arith, h))
     ∙ ap (λ z. run deep z rest) (model-declares l name heads (tops_of xs) (declaration_block line items) [])
 tops-read deep (defines xs heading parts end) l name heads rest h =
     let k : Stack = model l name heads (tops_of xs) ∷ [] in
     let routine : Routine = record { heading = heading; parts = parts_of parts } in
-    ap (run deep (g.Heads l name heads ∷ [])) (append_assoc (spell_tops xs) (piece heading.line (heading_form heading) ∷ (spell_parts parts ++ piece end (end_form heading.result) ∷ [])) rest ∙ ap (λ zs. spell_tops xs ++ piece heading.line (heading_form heading) ∷ zs) (one-end (spell_parts parts) (piece end (end_form heading.result)) rest))
+    ap (run deep (frame_kind.Heads l name heads ∷ [])) (append_assoc (spell_tops xs) (piece heading.line (heading_form heading) ∷ (spell_parts parts ++ piece end (end_form heading.result) ∷ [])) rest ∙ ap (λ zs. spell_tops xs ++ piece heading.line (heading_form heading) ∷ zs) (one-end (spell_parts parts) (piece end (end_form heading.result)) rest))
     ∙ tops-read deep xs l name heads (piece heading.line (heading_form heading) ∷ (spell_parts parts ++ piece end (end_form heading.result) ∷ rest)) (omega (arith, h))
-    ∙ run-open deep k heading.line (heading_form heading) (g.Routine heading []) (spell_parts parts ++ piece end (end_form heading.result) ∷ rest) (model-routine l name heads (tops_of xs) heading.result) refl refl (omega (arith, h))
+    ∙ run-open deep k heading.line (heading_form heading) (frame_kind.Routine heading []) (spell_parts parts ++ piece end (end_form heading.result) ∷ rest) (model-routine l name heads (tops_of xs) heading.result) refl refl (omega (arith, h))
     ∙ parts-read deep parts k heading (piece end (end_form heading.result) ∷ rest) (omega (arith, h))
-    ∙ run-role deep (g.Routine heading (parts_of parts) ∷ k) (piece end (end_form heading.result)) Closes rest (ends-routine heading.result) (end-limit heading.result) refl
-    ∙ ap (λ z. run deep z rest) (model-others l name heads (tops_of xs) (t.Routine routine) [])
+    ∙ run-role deep (frame_kind.Routine heading (parts_of parts) ∷ k) (piece end (end_form heading.result)) Closes rest (ends-routine heading.result) (end-limit heading.result) refl
+    ∙ ap (λ z. run deep z rest) (model-others l name heads (tops_of xs) (top.Routine routine) [])
 tops-read deep (announces xs heading) l name heads rest h =
-    let x : PieceForm = piece heading.line (f.Forward heading.name heading.formals heading.result) in
-    ap (run deep (g.Heads l name heads ∷ [])) (one-end (spell_tops xs) x rest)
+    let x : PieceForm = piece heading.line (form_kind.Forward heading.name heading.formals heading.result) in
+    ap (run deep (frame_kind.Heads l name heads ∷ [])) (one-end (spell_tops xs) x rest)
     ∙ tops-read deep xs l name heads (x ∷ rest) h
-    ∙ run-role deep (model l name heads (tops_of xs) ∷ []) x StandsAlone rest (model-role l name heads (tops_of xs) m.Forward StandsAlone refl refl) refl refl
-    ∙ ap (λ z. run deep z rest) (model-others l name heads (tops_of xs) (t.Forward heading) [])
+    ∙ run-role deep (model l name heads (tops_of xs) ∷ []) x StandsAlone rest (model-role l name heads (tops_of xs) piece_kind.Forward StandsAlone refl refl) refl refl
+    ∙ ap (λ z. run deep z rest) (model-others l name heads (tops_of xs) (top.Forward heading) [])
 tops-read deep (states_top xs w) l name heads rest h =
-    ap (run deep (g.Heads l name heads ∷ [])) (append_assoc (spell_tops xs) (spell w) rest)
+    ap (run deep (frame_kind.Heads l name heads ∷ [])) (append_assoc (spell_tops xs) (spell w) rest)
     ∙ tops-read deep xs l name heads (spell w ++ rest) (omega (arith, h))
     ∙ reads deep w (model l name heads (tops_of xs) ∷ []) rest (model-takes l name heads (tops_of xs)) (omega (arith, h))
     ∙ ap (λ z. run deep z rest) (model-states l name heads (tops_of xs) (tree w) [])
 
 -- ---- the whole source
 
-end-read : (deep : ℕ) (l : ℕ) (name : ModelName) (heads : List Head) (xs : List Top) (end : ℕ) → run deep (model l name heads xs ∷ []) (piece end (f.Keyword keyword.EndModel) ∷ []) ≡ done (record { line = l; name = name; heads = heads; tops = xs })
+end-read : (deep : ℕ) (l : ℕ) (name : ModelName) (heads : List Head) (xs : List Top) (end : ℕ) → run deep (model l name heads xs ∷ []) (piece end (form_kind.Keyword keyword.EndModel) ∷ []) ≡ done (record { line = l; name = name; heads = heads; tops = xs })
 unfolding step step_as role_at
 end-read deep l name heads [] end = refl
 end-read deep l name heads (x ∷ xs) end = refl
@@ -199,7 +199,7 @@ end-read deep l name heads (x ∷ xs) end = refl
 pub source-read : (deep : ℕ) (x : Source) → AreAllowed x.heads → depth_tops x.tops ≤ deep → run deep [] (spell_source x) ≡ done (tree_of x)
 unfolding role_at
 source-read deep x a h =
-    run-open deep [] x.line (f.Model x.name) (g.Heads x.line x.name []) (map spell_head x.heads ++ (spell_tops x.tops ++ piece x.end (f.Keyword keyword.EndModel) ∷ [])) refl refl refl (omega arith)
-    ∙ heads-read deep [] x.line x.name [] x.heads (spell_tops x.tops ++ piece x.end (f.Keyword keyword.EndModel) ∷ []) a
-    ∙ tops-read deep x.tops x.line x.name x.heads (piece x.end (f.Keyword keyword.EndModel) ∷ []) h
+    run-open deep [] x.line (form_kind.Model x.name) (frame_kind.Heads x.line x.name []) (map spell_head x.heads ++ (spell_tops x.tops ++ piece x.end (form_kind.Keyword keyword.EndModel) ∷ [])) refl refl refl (omega arith)
+    ∙ heads-read deep [] x.line x.name [] x.heads (spell_tops x.tops ++ piece x.end (form_kind.Keyword keyword.EndModel) ∷ []) a
+    ∙ tops-read deep x.tops x.line x.name x.heads (piece x.end (form_kind.Keyword keyword.EndModel) ∷ []) h
     ∙ end-read deep x.line x.name x.heads (tops_of x.tops) x.end

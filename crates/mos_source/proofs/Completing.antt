@@ -5,12 +5,12 @@ use Rattle.std.proofs.lemmas.List.{append-nil}
 use Rattle.mos_tree.specs.declared.declaration.BaseType.{BaseType}
 use Rattle.mos_tree.specs.declared.source.ModelName.TheVariants as called
 use Rattle.mos_tree.specs.declared.source.Tree.{Tree}
-use Rattle.mos_tree.specs.declared.statement.Statement.TheVariants as s
-use Rattle.mos_tree.specs.declared.form.Form.TheVariants as f
+use Rattle.mos_tree.specs.declared.statement.Statement.TheVariants as statement_kind
+use Rattle.mos_tree.specs.declared.form.Form.TheVariants as form_kind
 use Rattle.mos_tree.specs.declared.form.Simple.TheVariants as simple
 use Rattle.mos_tree.specs.declared.form.PieceForm.{PieceForm}
 use Rattle.mos_source.specs.declared.frame.Frame.{Frame}
-use Rattle.mos_source.specs.declared.frame.Frame.TheVariants as g
+use Rattle.mos_source.specs.declared.frame.Frame.TheVariants as frame_kind
 use Rattle.mos_source.specs.declared.place.Role.TheVariants.{Opens, StandsAlone, Closes}
 use Rattle.mos_tree.specs.Forms.{piece, piece_kind_of}
 use Rattle.mos_source.specs.Places.{role_at}
@@ -27,19 +27,19 @@ use Rattle.mos_source.proofs.Shapes.{Adds, closes-adds, routine-no-model, no-hig
 pub record Closed (deep : ℕ) (ps : List PieceForm) : Type 0 where
   pub rest : List PieceForm
   pub tree : Tree
-  pub held : Holds deep (g.End tree ∷ []) (ps ++ rest)
+  pub held : Holds deep (frame_kind.End tree ∷ []) (ps ++ rest)
 
 behind-one : (deep : ℕ) (k next : Stack) (x : PieceForm) (ps : List PieceForm) → Holds deep k ps → step deep k x ≡ Ok next → (Holds deep next (ps ++ x ∷ []) → Closed deep (ps ++ x ∷ [])) → Closed deep ps
 behind-one deep k next x ps held e go =
     let more : Closed deep (ps ++ x ∷ []) = go (sound deep k next x ps held e) in
-    record { rest = x ∷ more.rest; tree = more.tree; held = respelled deep (g.End more.tree ∷ []) ((ps ++ x ∷ []) ++ more.rest) (ps ++ x ∷ more.rest) (one-end ps x more.rest) more.held }
+    record { rest = x ∷ more.rest; tree = more.tree; held = respelled deep (frame_kind.End more.tree ∷ []) ((ps ++ x ∷ []) ++ more.rest) (ps ++ x ∷ more.rest) (one-end ps x more.rest) more.held }
 
-ended : (deep : ℕ) (k : Stack) (tree : Tree) (ps : List PieceForm) → Holds deep (g.End tree ∷ k) ps → Closed deep ps
-ended deep k tree ps held = record { rest = []; tree = tree; held = respelled deep (g.End tree ∷ []) ps (ps ++ []) (sym (append-nil ps)) (record { alone = refl; source = held.source; within = held.within; exact = held.exact; is = held.is }) }
+ended : (deep : ℕ) (k : Stack) (tree : Tree) (ps : List PieceForm) → Holds deep (frame_kind.End tree ∷ k) ps → Closed deep ps
+ended deep k tree ps held = record { rest = []; tree = tree; held = respelled deep (frame_kind.End tree ∷ []) ps (ps ++ []) (sym (append-nil ps)) (record { alone = refl; source = held.source; within = held.within; exact = held.exact; is = held.is }) }
 
 -- the least statement
 abbrev break : PieceForm
-break = piece 0 (f.Simple simple.Break)
+break = piece 0 (form_kind.Simple simple.Break)
 
 routine-closes : (typ : Option BaseType) → closes_there (routine_place typ) ≡ true
 routine-closes None = refl
@@ -70,24 +70,24 @@ closing-block : (deep n : ℕ) (frame : Frame) (k : Stack) (ps : List PieceForm)
 closing-block deep n frame k ps len held c model go =
     closes-by deep frame k ps held c (λ h. go (closed frame k) (ps ++ closer frame ∷ []) (omega (arith, len, closed-no-higher deep frame k ps held c model)) h)
 
-heads-closing : (deep : ℕ) (l : ℕ) (name : _) (hs : _) (k : Stack) (ps : List PieceForm) → Holds deep (g.Heads l name hs ∷ k) ps → Closed deep ps
-heads-closing deep l name hs k ps held = closes-by deep (g.Heads l name hs) k ps held refl (λ h. ended deep k (record { line = l; name = name; heads = hs; tops = [] }) (ps ++ closer (g.Heads l name hs) ∷ []) h)
+heads-closing : (deep : ℕ) (l : ℕ) (name : _) (hs : _) (k : Stack) (ps : List PieceForm) → Holds deep (frame_kind.Heads l name hs ∷ k) ps → Closed deep ps
+heads-closing deep l name hs k ps held = closes-by deep (frame_kind.Heads l name hs) k ps held refl (λ h. ended deep k (record { line = l; name = name; heads = hs; tops = [] }) (ps ++ closer (frame_kind.Heads l name hs) ∷ []) h)
 
 pub closing : (deep n : ℕ) (k : Stack) (ps : List PieceForm) → length k ≤ n → Holds deep k ps → Closed deep ps
 unfolding role_at
 closing deep n [] ps len held =
-    let x : PieceForm = piece 0 (f.Model (called.Named [])) in
-    behind-one deep [] (g.Heads 0 (called.Named []) [] ∷ []) x ps held (step-role deep [] x Opens refl refl (block-fits deep 0 (omega arith))) (λ h. heads-closing deep 0 (called.Named []) [] [] (ps ++ x ∷ []) h)
-closing deep n (g.Heads l name hs ∷ k) ps len held = heads-closing deep l name hs k ps held
-closing deep n (g.Tops l name hs xs ∷ k) ps len held = closes-by deep (g.Tops l name hs xs) k ps held refl (λ h. ended deep k (record { line = l; name = name; heads = hs; tops = xs }) (ps ++ closer (g.Tops l name hs xs) ∷ []) h)
-closing deep n (g.End tree ∷ k) ps len held = ended deep k tree ps held
+    let x : PieceForm = piece 0 (form_kind.Model (called.Named [])) in
+    behind-one deep [] (frame_kind.Heads 0 (called.Named []) [] ∷ []) x ps held (step-role deep [] x Opens refl refl (block-fits deep 0 (omega arith))) (λ h. heads-closing deep 0 (called.Named []) [] [] (ps ++ x ∷ []) h)
+closing deep n (frame_kind.Heads l name hs ∷ k) ps len held = heads-closing deep l name hs k ps held
+closing deep n (frame_kind.Tops l name hs xs ∷ k) ps len held = closes-by deep (frame_kind.Tops l name hs xs) k ps held refl (λ h. ended deep k (record { line = l; name = name; heads = hs; tops = xs }) (ps ++ closer (frame_kind.Tops l name hs xs) ∷ []) h)
+closing deep n (frame_kind.End tree ∷ k) ps len held = ended deep k tree ps held
 closing deep zero (x ∷ k) ps len held = absurd (omega (arith, len))
-closing deep (suc n) (g.Routine heading xs ∷ k) ps len held = closing-block deep n (g.Routine heading xs) k ps (omega (arith, len)) held (routine-closes heading.result) (routine-no-model heading.result) (λ next qs small h. closing deep n next qs small h)
-closing deep (suc n) (g.Forall l index ∷ k) ps len held =
-    behind-one deep (g.Forall l index ∷ k) (add_statement (s.Forall l index (s.Break 0)) k) break ps held (step-role deep (g.Forall l index ∷ k) break StandsAlone refl refl refl) (λ h. closing deep n (add_statement (s.Forall l index (s.Break 0)) k) (ps ++ break ∷ []) (omega (arith, len, no-higher k (s.Forall l index (s.Break 0)))) h)
-closing deep (suc n) (g.While l c ∷ k) ps len held =
-    behind-one deep (g.While l c ∷ k) (add_statement (s.While l c (s.Break 0)) k) break ps held (step-role deep (g.While l c ∷ k) break StandsAlone refl refl refl) (λ h. closing deep n (add_statement (s.While l c (s.Break 0)) k) (ps ++ break ∷ []) (omega (arith, len, no-higher k (s.While l c (s.Break 0)))) h)
-closing deep (suc n) (g.CaseArm l v xs at labels ∷ k) ps len held =
-    behind-one deep (g.CaseArm l v xs at labels ∷ k) (g.Case l v (xs ++ alternative_of at labels (s.Break 0) ∷ []) ∷ k) break ps held (step-role deep (g.CaseArm l v xs at labels ∷ k) break StandsAlone refl refl refl)
-    (λ h. closing-block deep n (g.Case l v (xs ++ alternative_of at labels (s.Break 0) ∷ [])) k (ps ++ break ∷ []) (omega (arith, len)) h refl refl (λ next qs small g2. closing deep n next qs small g2))
+closing deep (suc n) (frame_kind.Routine heading xs ∷ k) ps len held = closing-block deep n (frame_kind.Routine heading xs) k ps (omega (arith, len)) held (routine-closes heading.result) (routine-no-model heading.result) (λ next qs small h. closing deep n next qs small h)
+closing deep (suc n) (frame_kind.Forall l index ∷ k) ps len held =
+    behind-one deep (frame_kind.Forall l index ∷ k) (add_statement (statement_kind.Forall l index (statement_kind.Break 0)) k) break ps held (step-role deep (frame_kind.Forall l index ∷ k) break StandsAlone refl refl refl) (λ h. closing deep n (add_statement (statement_kind.Forall l index (statement_kind.Break 0)) k) (ps ++ break ∷ []) (omega (arith, len, no-higher k (statement_kind.Forall l index (statement_kind.Break 0)))) h)
+closing deep (suc n) (frame_kind.While l c ∷ k) ps len held =
+    behind-one deep (frame_kind.While l c ∷ k) (add_statement (statement_kind.While l c (statement_kind.Break 0)) k) break ps held (step-role deep (frame_kind.While l c ∷ k) break StandsAlone refl refl refl) (λ h. closing deep n (add_statement (statement_kind.While l c (statement_kind.Break 0)) k) (ps ++ break ∷ []) (omega (arith, len, no-higher k (statement_kind.While l c (statement_kind.Break 0)))) h)
+closing deep (suc n) (frame_kind.CaseArm l v xs at labels ∷ k) ps len held =
+    behind-one deep (frame_kind.CaseArm l v xs at labels ∷ k) (frame_kind.Case l v (xs ++ alternative_of at labels (statement_kind.Break 0) ∷ []) ∷ k) break ps held (step-role deep (frame_kind.CaseArm l v xs at labels ∷ k) break StandsAlone refl refl refl)
+    (λ h. closing-block deep n (frame_kind.Case l v (xs ++ alternative_of at labels (statement_kind.Break 0) ∷ [])) k (ps ++ break ∷ []) (omega (arith, len)) h refl refl (λ next qs small g2. closing deep n next qs small g2))
 closing deep (suc n) (frame ∷ k) ps len held = closing-block deep n frame k ps (omega (arith, len)) held refl refl (λ next qs small h. closing deep n next qs small h)

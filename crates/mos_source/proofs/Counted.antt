@@ -7,12 +7,12 @@ use Rattle.mos_text.specs.declared.kind.Kind.{Kind}
 use Rattle.mos_text.specs.declared.kind.Kind.TheVariants as kind
 use Rattle.mos_tree.specs.declared.form.Form.{Form}
 use Rattle.mos_tree.specs.declared.form.PieceKind.{PieceKind}
-use Rattle.mos_tree.specs.declared.form.PieceKind.TheVariants as m
+use Rattle.mos_tree.specs.declared.form.PieceKind.TheVariants as piece_kind
 use Rattle.mos_tree.specs.declared.form.PieceForm.{PieceForm}
 use Rattle.mos_source.specs.declared.frame.Frame.{Frame}
-use Rattle.mos_source.specs.declared.frame.Frame.TheVariants as g
+use Rattle.mos_source.specs.declared.frame.Frame.TheVariants as frame_kind
 use Rattle.mos_source.specs.declared.place.Place.{Place}
-use Rattle.mos_source.specs.declared.place.Place.TheVariants as p
+use Rattle.mos_source.specs.declared.place.Place.TheVariants as place_kind
 use Rattle.mos_source.specs.declared.place.Role.{Role}
 use Rattle.mos_source.specs.declared.place.Role.TheVariants.{Opens, Continues, StandsAlone, Closes}
 use Rattle.mos_tree.specs.Forms.{piece_kind_of}
@@ -37,7 +37,7 @@ may_not_open (Some Opens) = false
 may_not_open _ = true
 
 pub frame-no-start : (frame : Frame) → is_start (frame_place frame) ≡ false
-frame-no-start (g.Routine heading parts) = routine-no-start heading.result
+frame-no-start (frame_kind.Routine heading parts) = routine-no-start heading.result
   where
     routine-no-start : (typ : Option _) → is_start (routine_place typ) ≡ false
     routine-no-start None = refl
@@ -47,26 +47,26 @@ frame-no-start _ = refl
 -- the pieces that open a block do nothing else, and no other piece opens one
 pub opens-so : (place : Place) (x : PieceKind) → is_start place ≡ false → choose (opens_block x) (may_open (role_at place x)) (may_not_open (role_at place x)) ≡ true
 unfolding role_at
-opens-so p.Start x s = let no : ⊥ = cc in absurd no
-opens-so _ m.Unknown s = refl
+opens-so place_kind.Start x s = let no : ⊥ = cc in absurd no
+opens-so _ piece_kind.Unknown s = refl
 opens-so _ _ s = refl
 
 only-opens : (role : Role) → may_open (Some role) ≡ true → role ≡ Opens
 only-opens Opens h = refl
 only-opens _ h = cc
 
-pub unknown-nowhere : (place : Place) → role_at place m.Unknown ≡ None
+pub unknown-nowhere : (place : Place) → role_at place piece_kind.Unknown ≡ None
 unfolding role_at
-unknown-nowhere p.Start = refl
+unknown-nowhere place_kind.Start = refl
 unknown-nowhere _ = refl
 
 -- ---- the form that counts
 
-pub counts-own : (depth : ℕ) (x : PieceForm) (found : Kind) → own_limit x.form ≡ Some found → form_at depth x ≡ m.Unknown
+pub counts-own : (depth : ℕ) (x : PieceForm) (found : Kind) → own_limit x.form ≡ Some found → form_at depth x ≡ piece_kind.Unknown
 unfolding form_at
 counts-own depth x found o = rw o refl
 
-counts-deep : (depth : ℕ) (x : PieceForm) → own_limit x.form ≡ None → opens_block (piece_kind_of x.form) ≡ true → nat_le limit depth ≡ true → form_at depth x ≡ m.Unknown
+counts-deep : (depth : ℕ) (x : PieceForm) → own_limit x.form ≡ None → opens_block (piece_kind_of x.form) ≡ true → nat_le limit depth ≡ true → form_at depth x ≡ piece_kind.Unknown
 unfolding form_at
 counts-deep depth x o b d = rw (o, b, d) refl
 
@@ -130,7 +130,7 @@ pub record Counts (frame : Frame) (k : Stack) (x : PieceForm) (role : Role) : Ty
   pub is : form_at (length k) x ≡ piece_kind_of x.form
   pub block : block_limit limit role (suc (length k)) ≡ None
 
-pub not-known : (place : Place) (x : PieceKind) (role : Role) → x ≡ m.Unknown → role_at place x ≡ Some role → ⊥
+pub not-known : (place : Place) (x : PieceKind) (role : Role) → x ≡ piece_kind.Unknown → role_at place x ≡ Some role → ⊥
 not-known place x role e r =
     let none : role_at place x ≡ None = ap (role_at place) e ∙ unknown-nowhere place in
     cc

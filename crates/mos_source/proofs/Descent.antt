@@ -5,11 +5,11 @@ use Rattle.std.specs.Prelude.{is_some}
 use Rattle.mos_text.specs.declared.kind.Kind.{Kind}
 use Rattle.mos_text.specs.declared.kind.Kind.TheVariants as kind
 use Rattle.mos_tree.specs.declared.form.PieceKind.{PieceKind}
-use Rattle.mos_tree.specs.declared.form.PieceKind.TheVariants as m
+use Rattle.mos_tree.specs.declared.form.PieceKind.TheVariants as piece_kind
 use Rattle.mos_tree.specs.declared.form.PieceForm.{PieceForm}
 use Rattle.mos_source.specs.declared.frame.Frame.{Frame}
 use Rattle.mos_source.specs.declared.place.Place.{Place}
-use Rattle.mos_source.specs.declared.place.Place.TheVariants as p
+use Rattle.mos_source.specs.declared.place.Place.TheVariants as place_kind
 use Rattle.mos_source.specs.declared.place.Role.{Role}
 use Rattle.mos_source.specs.declared.place.Role.TheVariants.{Opens, Continues, StandsAlone, Closes}
 use Rattle.mos_tree.specs.Forms.{piece_kind_of}
@@ -40,18 +40,18 @@ pub data ReadAt (place : Place) (k top : Stack) (xs : List PieceForm) : Type 0 w
 
 -- what pieces open is no model and not the end
 opened-block : (x : PieceKind) → opens_block x ≡ true → (is_end (opened_place x) ≡ false) × (is_model (opened_place x) ≡ false)
-opened-block m.Parameters h = (refl, refl)
-opened-block m.Declarations h = (refl, refl)
-opened-block m.RecordOf h = (refl, refl)
-opened-block m.Procedure h = (refl, refl)
-opened-block m.Function h = (refl, refl)
-opened-block m.If h = (refl, refl)
-opened-block m.Case h = (refl, refl)
-opened-block m.Forall h = (refl, refl)
-opened-block m.While h = (refl, refl)
-opened-block m.Repeat h = (refl, refl)
-opened-block m.Do h = (refl, refl)
-opened-block m.Initializations h = (refl, refl)
+opened-block piece_kind.Parameters h = (refl, refl)
+opened-block piece_kind.Declarations h = (refl, refl)
+opened-block piece_kind.RecordOf h = (refl, refl)
+opened-block piece_kind.Procedure h = (refl, refl)
+opened-block piece_kind.Function h = (refl, refl)
+opened-block piece_kind.If h = (refl, refl)
+opened-block piece_kind.Case h = (refl, refl)
+opened-block piece_kind.Forall h = (refl, refl)
+opened-block piece_kind.While h = (refl, refl)
+opened-block piece_kind.Repeat h = (refl, refl)
+opened-block piece_kind.Do h = (refl, refl)
+opened-block piece_kind.Initializations h = (refl, refl)
 opened-block _ h = let no : ⊥ = cc in absurd no
 
 case-arm-so : (b c : Bool) → choose b c false ≡ true → b ≡ true
@@ -62,48 +62,48 @@ opening : (place : Place) (x : PieceKind) → is_start place ≡ false → role_
 opening place x s r = case-arm-so (opens_block x) (may_open (role_at place x)) (ap (λ z. choose (opens_block x) (may_open (role_at place x)) (may_not_open z)) (sym r) ∙ opens-so place x s)
 
 gone-end : (place : Place) (x : PieceKind) → is_end (gone_place place x) ≡ is_end place
-gone-end p.IfArm m.Else = refl
-gone-end p.IfArm _ = refl
-gone-end p.Case m.Alternative = refl
-gone-end p.Case m.Else = refl
-gone-end p.Case _ = refl
+gone-end place_kind.IfArm piece_kind.Else = refl
+gone-end place_kind.IfArm _ = refl
+gone-end place_kind.Case piece_kind.Alternative = refl
+gone-end place_kind.Case piece_kind.Else = refl
+gone-end place_kind.Case _ = refl
 gone-end _ x = refl
 
 gone-model : (place : Place) (x : PieceKind) → is_model (gone_place place x) ≡ is_model place
-gone-model p.IfArm m.Else = refl
-gone-model p.IfArm _ = refl
-gone-model p.Case m.Alternative = refl
-gone-model p.Case m.Else = refl
-gone-model p.Case _ = refl
+gone-model place_kind.IfArm piece_kind.Else = refl
+gone-model place_kind.IfArm _ = refl
+gone-model place_kind.Case piece_kind.Alternative = refl
+gone-model place_kind.Case piece_kind.Else = refl
+gone-model place_kind.Case _ = refl
 gone-model _ x = refl
 
 after-end : (place : Place) → is_end (place_after place) ≡ is_end place
-after-end p.Heads = refl
+after-end place_kind.Heads = refl
 after-end _ = refl
 
 after-model : (place : Place) → is_model (place_after place) ≡ is_model place
-after-model p.Heads = refl
+after-model place_kind.Heads = refl
 after-model _ = refl
 
 left-opened : (place inner : Place) → is_start place ≡ false → is_loop_body place ≡ false → left_opened place inner ≡ within_then (waits inner) (waits (place_after place))
-left-opened p.Start inner s l = let no : ⊥ = cc in absurd no
-left-opened p.LoopBody inner s l = let no : ⊥ = cc in absurd no
+left-opened place_kind.Start inner s l = let no : ⊥ = cc in absurd no
+left-opened place_kind.LoopBody inner s l = let no : ⊥ = cc in absurd no
 left-opened _ inner s l = refl
 
 left-opened-loop : (place inner : Place) → is_loop_body place ≡ true → left_opened place inner ≡ within (waits inner)
-left-opened-loop p.LoopBody inner l = refl
+left-opened-loop place_kind.LoopBody inner l = refl
 left-opened-loop _ inner l = let no : ⊥ = cc in absurd no
 
 left-after : (place : Place) → is_loop_body place ≡ false → left_after place ≡ rest (waits (place_after place))
-left-after p.LoopBody l = let no : ⊥ = cc in absurd no
+left-after place_kind.LoopBody l = let no : ⊥ = cc in absurd no
 left-after _ l = refl
 
 left-after-loop : (place : Place) → is_loop_body place ≡ true → left_after place ≡ whole
-left-after-loop p.LoopBody l = refl
+left-after-loop place_kind.LoopBody l = refl
 left-after-loop _ l = let no : ⊥ = cc in absurd no
 
 loop-no-model : (place : Place) → is_loop_body place ≡ true → is_model place ≡ false
-loop-no-model p.LoopBody l = refl
+loop-no-model place_kind.LoopBody l = refl
 loop-no-model _ l = let no : ⊥ = cc in absurd no
 
 -- ---- a piece and what is read behind it
@@ -232,6 +232,6 @@ read-role n (Some Closes) frame k x xs read small h r live = read-closes frame k
 
 pub read-block : (n : ℕ) (frame : Frame) (k : Stack) (xs : List PieceForm) → length xs ≤ n → is_end (frame_place frame) ≡ false → Live (frame ∷ k) → ReadAt (frame_place frame) k (frame ∷ k) xs
 unfolding Reader At-here
-read-block n frame k [] small h live = broken [] kind.Syntax (read-none (waits (frame_place frame)) (length k) [] (waits-firm (frame_place frame)) (none-begins (frame_place frame) m.Unknown h (unknown-nowhere (frame_place frame)))) (ap at_end (unfinished frame k h))
+read-block n frame k [] small h live = broken [] kind.Syntax (read-none (waits (frame_place frame)) (length k) [] (waits-firm (frame_place frame)) (none-begins (frame_place frame) piece_kind.Unknown h (unknown-nowhere (frame_place frame)))) (ap at_end (unfinished frame k h))
 read-block zero frame k (x ∷ xs) small h live = absurd (omega (arith, small))
 read-block (suc n) frame k (x ∷ xs) small h live = read-role n (role_at (frame_place frame) (form_at (length k) x)) frame k x xs (λ f j ys l e v. read-block n f j ys l e v) (omega (arith, small)) h refl live

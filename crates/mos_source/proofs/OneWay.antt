@@ -2,13 +2,13 @@
 
 use Rattle.std.proofs.Common.{◌≡◌, ℕ, suc, Bool, true, false, List, ◌∷◌, refl, sym, subst}
 use Rattle.mos_tree.specs.declared.form.PieceKind.{PieceKind}
-use Rattle.mos_tree.specs.declared.form.PieceKind.TheVariants as m
+use Rattle.mos_tree.specs.declared.form.PieceKind.TheVariants as piece_kind
 use Rattle.mos_tree.specs.declared.form.PieceForm.{PieceForm}
 use Rattle.mos_source.specs.Laws.{AlternativesDiffer}
 use Rattle.mos_source.specs.Productions.{Rule, one, block, ◌~◌, ◌or◌, optional, many, statement, statement_is, same, form_at, front, begins, Reading, took, broke, Reads, takes, breaks, opens, opens_not, breaks_first, goes_on, as_first, as_second, as_none, entered, missing, again, no_more, by_name}
 
 pub alternatives-differ : AlternativesDiffer
-alternatives-differ m.Unknown = (refl, refl)
+alternatives-differ piece_kind.Unknown = (refl, refl)
 alternatives-differ _ = (refl, refl)
 
 pub never : (b : Bool) → b ≡ true → b ≡ false → ⊥

@@ -11,7 +11,7 @@ use Rattle.mos_source.specs.declared.fault.PieceFault.{PieceFault}
 use Rattle.mos_source.specs.declared.fault.PieceFault.TheVariants as fault
 use Rattle.mos_tree.specs.declared.form.Form.{Form}
 use Rattle.mos_tree.specs.declared.form.PieceForm.{PieceForm}
-use Rattle.mos_source.specs.declared.frame.Frame.TheVariants as g
+use Rattle.mos_source.specs.declared.frame.Frame.TheVariants as frame_kind
 use Rattle.mos_source.specs.declared.place.Role.{Role}
 use Rattle.mos_source.specs.declared.place.Role.TheVariants.{Opens, Continues, StandsAlone, Closes}
 use Rattle.mos_source.specs.Sources.{Source, spell_source, tree_of, limit, IsWithin, IsSource}
@@ -43,7 +43,7 @@ pub record Found (deep : ℕ) (ps : List PieceForm) (tree : Tree) : Type 0 where
 
 found-end : (deep : ℕ) (k : Stack) (ps : List PieceForm) (tree : Tree) → Holds deep k ps → at_end (finished_tree k) ≡ done tree → Found deep ps tree
 found-end deep [] ps tree held e = let no : ⊥ = cc in absurd no
-found-end deep (g.End x ∷ k) ps tree held e =
+found-end deep (frame_kind.End x ∷ k) ps tree held e =
     let same : x ≡ tree = cc in
     record { source = held.source; within = held.within; exact = held.exact; is = sym same ∙ held.is }
 found-end deep (_ ∷ k) ps tree held e = let no : ⊥ = cc in absurd no

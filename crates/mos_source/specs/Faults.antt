@@ -2,11 +2,11 @@
 
 use Rattle.std.specs.Prelude.{◌≡◌, ℕ, List, [], ◌∷◌, ◌++◌, Option, Some, None}
 use Rattle.mos_text.specs.declared.kind.Kind.{Kind}
-use Rattle.mos_text.specs.declared.kind.Kind.TheVariants as k
+use Rattle.mos_text.specs.declared.kind.Kind.TheVariants as error_kind
 use Rattle.mos_tree.specs.declared.form.PieceKind.{PieceKind}
 use Rattle.mos_tree.specs.declared.form.PieceForm.{PieceForm}
 use Rattle.mos_tree.specs.Forms.{piece_kind_of}
-use Rattle.mos_source.specs.Limits.{broken}
+use Rattle.mos_source.specs.Limits.{broken_kind}
 use Rattle.mos_source.specs.Sources.{Source, spell_source, IsWithin, limit}
 
 -- a source within the limits begins with these pieces
@@ -38,9 +38,9 @@ pub record CouldStand (before : List PieceForm) (piece_kind : PieceKind) : Type 
 
 -- the kind of the fault: the limit that the piece breaks where it could stand but for this limit
 pub data IsKind (before : List PieceForm) : List PieceForm → Kind → Type 0 where
-  too_early : IsKind before [] k.Syntax
-  beyond : (x : PieceForm) (after : List PieceForm) → CouldStand before (piece_kind_of x.form) → IsKind before (x ∷ after) (broken x.form)
-  misplaced : (x : PieceForm) (after : List PieceForm) → (CouldStand before (piece_kind_of x.form) → ⊥) → IsKind before (x ∷ after) k.Syntax
+  too_early : IsKind before [] error_kind.Syntax
+  beyond : (x : PieceForm) (after : List PieceForm) → CouldStand before (piece_kind_of x.form) → IsKind before (x ∷ after) (broken_kind x.form)
+  misplaced : (x : PieceForm) (after : List PieceForm) → (CouldStand before (piece_kind_of x.form) → ⊥) → IsKind before (x ∷ after) error_kind.Syntax
 
 -- the line of the first of these pieces; where there is none, there is no line
 abbrev pub line_of_first : List PieceForm → Option ℕ

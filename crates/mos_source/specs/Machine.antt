@@ -8,36 +8,36 @@ use Rattle.mos_tree.specs.declared.declaration.BaseType.{BaseType}
 use Rattle.mos_tree.specs.declared.declaration.Parameter.{Parameter}
 use Rattle.mos_tree.specs.declared.declaration.FieldGroup.{FieldGroup}
 use Rattle.mos_tree.specs.declared.declaration.Item.{Item}
-use Rattle.mos_tree.specs.declared.declaration.Item.TheVariants as i
+use Rattle.mos_tree.specs.declared.declaration.Item.TheVariants as item_kind
 use Rattle.mos_tree.specs.declared.declaration.Heading.{Heading}
 use Rattle.mos_tree.specs.declared.statement.Statement.{Statement}
-use Rattle.mos_tree.specs.declared.statement.Statement.TheVariants as s
+use Rattle.mos_tree.specs.declared.statement.Statement.TheVariants as statement_kind
 use Rattle.mos_tree.specs.declared.statement.Arm.{Arm}
 use Rattle.mos_tree.specs.declared.statement.Alternative.{Alternative}
 use Rattle.mos_tree.specs.declared.statement.Label.{Label}
 use Rattle.mos_tree.specs.declared.statement.LabelGroup.{LabelGroup}
 use Rattle.mos_tree.specs.declared.source.ModelName.{ModelName}
 use Rattle.mos_tree.specs.declared.source.Head.{Head}
-use Rattle.mos_tree.specs.declared.source.Head.TheVariants as h
+use Rattle.mos_tree.specs.declared.source.Head.TheVariants as head_kind
 use Rattle.mos_tree.specs.declared.source.Declared.{Declared}
 use Rattle.mos_tree.specs.declared.source.RoutinePart.{RoutinePart}
-use Rattle.mos_tree.specs.declared.source.RoutinePart.TheVariants as r
+use Rattle.mos_tree.specs.declared.source.RoutinePart.TheVariants as routine_part
 use Rattle.mos_tree.specs.declared.source.Top.{Top}
-use Rattle.mos_tree.specs.declared.source.Top.TheVariants as t
+use Rattle.mos_tree.specs.declared.source.Top.TheVariants as top
 use Rattle.mos_tree.specs.declared.source.Tree.{Tree}
 use Rattle.mos_tree.specs.declared.form.Form.{Form}
-use Rattle.mos_tree.specs.declared.form.Form.TheVariants as f
+use Rattle.mos_tree.specs.declared.form.Form.TheVariants as form_kind
 use Rattle.mos_tree.specs.declared.form.ConditionKeyword.TheVariants as conditional
 use Rattle.mos_tree.specs.declared.form.Keyword.TheVariants as keyword
 use Rattle.mos_tree.specs.declared.form.Keyword.{Keyword}
 use Rattle.mos_tree.specs.declared.form.ConditionKeyword.{ConditionKeyword}
 use Rattle.mos_tree.specs.declared.form.PieceForm.{PieceForm}
 use Rattle.mos_source.specs.declared.frame.Frame.{Frame}
-use Rattle.mos_source.specs.declared.frame.Frame.TheVariants as g
+use Rattle.mos_source.specs.declared.frame.Frame.TheVariants as frame_kind
 use Rattle.mos_source.specs.declared.frame.Part.{Part}
 use Rattle.mos_source.specs.declared.frame.Part.TheVariants as part
 use Rattle.mos_source.specs.declared.place.Place.{Place}
-use Rattle.mos_source.specs.declared.place.Place.TheVariants as p
+use Rattle.mos_source.specs.declared.place.Place.TheVariants as place_kind
 use Rattle.mos_source.specs.declared.place.Role.{Role}
 use Rattle.mos_source.specs.declared.place.Role.TheVariants.{Opens, Continues, StandsAlone, Closes}
 use Rattle.mos_tree.specs.Forms.{piece_kind_of}
@@ -62,93 +62,93 @@ push_frame (Some frame) k = frame ∷ k
 
 -- a heading with a result is that of a function
 abbrev pub routine_place : Option BaseType → Place
-routine_place None = p.Procedure
-routine_place (Some typ) = p.Function
+routine_place None = place_kind.Procedure
+routine_place (Some typ) = place_kind.Function
 
 -- the place in this block
 abbrev pub frame_place : Frame → Place
-frame_place (g.Heads line name heads) = p.Heads
-frame_place (g.Tops line name heads tops) = p.Tops
-frame_place (g.Parameters line parameters) = p.Parameters
-frame_place (g.Declarations line items) = p.Declarations
-frame_place (g.Record line name fields) = p.Record
-frame_place (g.Routine heading parts) = routine_place heading.result
-frame_place (g.IfArm first arms line condition body) = p.IfArm
-frame_place (g.IfElse first arms body) = p.IfElse
-frame_place (g.Case line value alternatives) = p.Case
-frame_place (g.CaseArm line value alternatives at labels) = p.CaseArm
-frame_place (g.CaseElse line value alternatives body) = p.CaseElse
-frame_place (g.Forall line index) = p.LoopBody
-frame_place (g.While line condition) = p.LoopBody
-frame_place (g.Repeat line body) = p.Repeat
-frame_place (g.Do line body) = p.Do
-frame_place (g.Initializations line direction name rows) = p.Initializations
-frame_place (g.End tree) = p.End
+frame_place (frame_kind.Heads line name heads) = place_kind.Heads
+frame_place (frame_kind.Tops line name heads tops) = place_kind.Tops
+frame_place (frame_kind.Parameters line parameters) = place_kind.Parameters
+frame_place (frame_kind.Declarations line items) = place_kind.Declarations
+frame_place (frame_kind.Record line name fields) = place_kind.Record
+frame_place (frame_kind.Routine heading parts) = routine_place heading.result
+frame_place (frame_kind.IfArm first arms line condition body) = place_kind.IfArm
+frame_place (frame_kind.IfElse first arms body) = place_kind.IfElse
+frame_place (frame_kind.Case line value alternatives) = place_kind.Case
+frame_place (frame_kind.CaseArm line value alternatives at labels) = place_kind.CaseArm
+frame_place (frame_kind.CaseElse line value alternatives body) = place_kind.CaseElse
+frame_place (frame_kind.Forall line index) = place_kind.LoopBody
+frame_place (frame_kind.While line condition) = place_kind.LoopBody
+frame_place (frame_kind.Repeat line body) = place_kind.Repeat
+frame_place (frame_kind.Do line body) = place_kind.Do
+frame_place (frame_kind.Initializations line direction name rows) = place_kind.Initializations
+frame_place (frame_kind.End tree) = place_kind.End
 
 -- the place behind what is read
 abbrev pub place_of : Stack → Place
-place_of [] = p.Start
+place_of [] = place_kind.Start
 place_of (frame ∷ k) = frame_place frame
 
 -- ---- pieces that open
 
 -- the block that a word with a condition opens
 abbrev pub opened_by_condition : ℕ → ConditionKeyword → Expr → Option Frame
-opened_by_condition line conditional.If x = Some (g.IfArm line [] line x [])
-opened_by_condition line conditional.Case x = Some (g.Case line x [])
-opened_by_condition line conditional.While x = Some (g.While line x)
+opened_by_condition line conditional.If x = Some (frame_kind.IfArm line [] line x [])
+opened_by_condition line conditional.Case x = Some (frame_kind.Case line x [])
+opened_by_condition line conditional.While x = Some (frame_kind.While line x)
 opened_by_condition line _ x = None
 
 -- the block that a word opens
 abbrev pub opened_by_word : ℕ → Keyword → Option Frame
-opened_by_word line keyword.Parameters = Some (g.Parameters line [])
-opened_by_word line keyword.Declarations = Some (g.Declarations line [])
-opened_by_word line keyword.Repeat = Some (g.Repeat line [])
-opened_by_word line keyword.Do = Some (g.Do line [])
+opened_by_word line keyword.Parameters = Some (frame_kind.Parameters line [])
+opened_by_word line keyword.Declarations = Some (frame_kind.Declarations line [])
+opened_by_word line keyword.Repeat = Some (frame_kind.Repeat line [])
+opened_by_word line keyword.Do = Some (frame_kind.Do line [])
 opened_by_word line _ = None
 
 -- the block that the piece opens
 abbrev pub opened_by : ℕ → Form → Option Frame
-opened_by line (f.Keyword word) = opened_by_word line word
-opened_by line (f.Model name) = Some (g.Heads line name [])
-opened_by line (f.RecordOf name) = Some (g.Record line name [])
-opened_by line (f.Routine name formals result) = Some (g.Routine (record { line = line; name = name; formals = formals; result = result }) [])
-opened_by line (f.Guarded word x) = opened_by_condition line word x
-opened_by line (f.Forall index) = Some (g.Forall line index)
-opened_by line (f.Initializations direction name) = Some (g.Initializations line direction name [])
+opened_by line (form_kind.Keyword word) = opened_by_word line word
+opened_by line (form_kind.Model name) = Some (frame_kind.Heads line name [])
+opened_by line (form_kind.RecordOf name) = Some (frame_kind.Record line name [])
+opened_by line (form_kind.Routine name formals result) = Some (frame_kind.Routine (record { line = line; name = name; formals = formals; result = result }) [])
+opened_by line (form_kind.Guarded word x) = opened_by_condition line word x
+opened_by line (form_kind.Forall index) = Some (frame_kind.Forall line index)
+opened_by line (form_kind.Initializations direction name) = Some (frame_kind.Initializations line direction name [])
 opened_by line _ = None
 
 -- ---- pieces that stand alone
 
 -- what the piece is by itself
 abbrev pub stands_alone : ℕ → Form → Option Part
-stands_alone line (f.Simple simple) = Some (part.Statement (written.statement_of line simple))
-stands_alone line (f.Bare name) = Some (part.Statement (s.Call line name []))
-stands_alone line (f.Forward name formals result) = Some (part.Top (t.Forward (record { line = line; name = name; formals = formals; result = result })))
+stands_alone line (form_kind.Simple simple) = Some (part.Statement (written.statement_of line simple))
+stands_alone line (form_kind.Bare name) = Some (part.Statement (statement_kind.Call line name []))
+stands_alone line (form_kind.Forward name formals result) = Some (part.Top (top.Forward (record { line = line; name = name; formals = formals; result = result })))
 stands_alone line _ = None
 
 -- ---- pieces that go on with a block
 
 -- the piece as a head of a model
 abbrev pub head_of : ℕ → Form → Option Head
-head_of line (f.Uses modules) = Some (h.Uses line modules)
-head_of line (f.Options name) = Some (h.NoImplicit line)
+head_of line (form_kind.Uses modules) = Some (head_kind.Uses line modules)
+head_of line (form_kind.Options name) = Some (head_kind.NoImplicit line)
 head_of line _ = None
 
 -- the piece as a parameter
 abbrev pub parameter_of : ℕ → Form → Option Parameter
-parameter_of line (f.Definition name value) = Some (record { line = line; name = name; default = value })
+parameter_of line (form_kind.Definition name value) = Some (record { line = line; name = name; default = value })
 parameter_of line _ = None
 
 -- the piece as an item of `declarations`
 abbrev pub item_of : ℕ → Form → Option Item
-item_of line (f.Definition name value) = Some (i.Constant line name value)
-item_of line (f.Typed names typ) = Some (i.Variables line names typ)
+item_of line (form_kind.Definition name value) = Some (item_kind.Constant line name value)
+item_of line (form_kind.Typed names typ) = Some (item_kind.Variables line names typ)
 item_of line _ = None
 
 -- the piece as fields of a record
 abbrev pub field_of : ℕ → Form → Option FieldGroup
-field_of line (f.Typed names typ) = Some (record { line = line; names = names; typ = typ })
+field_of line (form_kind.Typed names typ) = Some (record { line = line; names = names; typ = typ })
 field_of line _ = None
 
 -- a name alone is one label
@@ -157,8 +157,8 @@ labels_of name = written.label_of name ∷ []
 
 -- the piece as a row of labels
 abbrev pub row_of : ℕ → Form → Option LabelGroup
-row_of line (f.Bare name) = Some (record { line = line; labels = labels_of name })
-row_of line (f.Labels labels) = Some (record { line = line; labels = labels })
+row_of line (form_kind.Bare name) = Some (record { line = line; labels = labels_of name })
+row_of line (form_kind.Labels labels) = Some (record { line = line; labels = labels })
 row_of line _ = None
 
 -- the items with one behind them, where there is one
@@ -168,8 +168,8 @@ more items (Some x) = items ++ x ∷ []
 
 -- behind these arms: another one where the piece has a condition, or `else`
 abbrev pub arm_or_else : ℕ → Form → ℕ → List (Arm Statement) → Frame
-arm_or_else line (f.Guarded word condition) first arms = g.IfArm first arms line condition []
-arm_or_else line _ first arms = g.IfElse first arms []
+arm_or_else line (form_kind.Guarded word condition) first arms = frame_kind.IfArm first arms line condition []
+arm_or_else line _ first arms = frame_kind.IfElse first arms []
 
 -- behind the arm that is read: another one, or `else`
 abbrev pub next_arm : ℕ → Form → ℕ → List (Arm Statement) → Arm Statement → Frame
@@ -177,22 +177,22 @@ next_arm line form first arms last = arm_or_else line form first (arms ++ last �
 
 -- behind an alternative: another one where the piece has labels, or `else`
 abbrev pub next_alternative : ℕ → Form → ℕ → Expr → List (Alternative Statement) → Frame
-next_alternative at (f.Alternative labels) line value xs = g.CaseArm line value xs at labels
-next_alternative at _ line value xs = g.CaseElse line value xs []
+next_alternative at (form_kind.Alternative labels) line value xs = frame_kind.CaseArm line value xs at labels
+next_alternative at _ line value xs = frame_kind.CaseElse line value xs []
 
 -- the statement with the piece as a row of it, or parted by it
 abbrev pub continued_statement : ℕ → Form → Frame → Frame
-continued_statement line form (g.IfArm first arms at condition body) = next_arm line form first arms (written.arm_of at condition body)
-continued_statement line form (g.Case at value xs) = next_alternative line form at value xs
-continued_statement line form (g.Initializations at direction name rows) = g.Initializations at direction name (more rows (row_of line form))
+continued_statement line form (frame_kind.IfArm first arms at condition body) = next_arm line form first arms (written.arm_of at condition body)
+continued_statement line form (frame_kind.Case at value xs) = next_alternative line form at value xs
+continued_statement line form (frame_kind.Initializations at direction name rows) = frame_kind.Initializations at direction name (more rows (row_of line form))
 continued_statement line form frame = frame
 
 -- the block with the piece as a row of it, or parted by it
 abbrev pub continued_by : ℕ → Form → Frame → Frame
-continued_by line form (g.Heads at name heads) = g.Heads at name (more heads (head_of line form))
-continued_by line form (g.Parameters at xs) = g.Parameters at (more xs (parameter_of line form))
-continued_by line form (g.Declarations at xs) = g.Declarations at (more xs (item_of line form))
-continued_by line form (g.Record at name xs) = g.Record at name (more xs (field_of line form))
+continued_by line form (frame_kind.Heads at name heads) = frame_kind.Heads at name (more heads (head_of line form))
+continued_by line form (frame_kind.Parameters at xs) = frame_kind.Parameters at (more xs (parameter_of line form))
+continued_by line form (frame_kind.Declarations at xs) = frame_kind.Declarations at (more xs (item_of line form))
+continued_by line form (frame_kind.Record at name xs) = frame_kind.Record at name (more xs (field_of line form))
 continued_by line form frame = continued_statement line form frame
 
 -- the innermost block goes on with the piece
@@ -204,30 +204,30 @@ continue_block line form (frame ∷ k) = continued_by line form frame ∷ k
 
 -- `repeat` with its condition
 abbrev pub until : ℕ → Form → ℕ → List Statement → Option Part
-until line (f.Guarded word condition) at body = Some (part.Statement (s.Repeat at body line condition))
+until line (form_kind.Guarded word condition) at body = Some (part.Statement (statement_kind.Repeat at body line condition))
 until line _ at body = None
 
 -- `if` with its arms and without `else`
 abbrev pub whole_if : ℕ → List (Arm Statement) → Arm Statement → Part
-whole_if first arms last = part.Statement (s.If first (arms ++ last ∷ []) [])
+whole_if first arms last = part.Statement (statement_kind.If first (arms ++ last ∷ []) [])
 
 -- the `case` that is closed
 abbrev pub closed_case : Frame → Option Part
-closed_case (g.Case at value xs) = Some (part.Statement (s.Case at value xs []))
-closed_case (g.CaseElse at value xs body) = Some (part.Statement (s.Case at value xs body))
+closed_case (frame_kind.Case at value xs) = Some (part.Statement (statement_kind.Case at value xs []))
+closed_case (frame_kind.CaseElse at value xs body) = Some (part.Statement (statement_kind.Case at value xs body))
 closed_case _ = None
 
 -- the block of statements or of data that is closed, or the `case`
 abbrev pub closed_block : ℕ → Form → Frame → Option Part
-closed_block line form (g.Repeat at body) = until line form at body
-closed_block line form (g.Do at body) = Some (part.Statement (s.Do at body))
-closed_block line form (g.Initializations at direction name rows) = Some (part.Statement (s.Initializations at direction name rows))
+closed_block line form (frame_kind.Repeat at body) = until line form at body
+closed_block line form (frame_kind.Do at body) = Some (part.Statement (statement_kind.Do at body))
+closed_block line form (frame_kind.Initializations at direction name rows) = Some (part.Statement (statement_kind.Initializations at direction name rows))
 closed_block line form frame = closed_case frame
 
 -- the statement that is closed
 abbrev pub closed_statement : ℕ → Form → Frame → Option Part
-closed_statement line form (g.IfArm first arms at condition body) = Some (whole_if first arms (written.arm_of at condition body))
-closed_statement line form (g.IfElse first arms body) = Some (part.Statement (s.If first arms body))
+closed_statement line form (frame_kind.IfArm first arms at condition body) = Some (whole_if first arms (written.arm_of at condition body))
+closed_statement line form (frame_kind.IfElse first arms body) = Some (part.Statement (statement_kind.If first arms body))
 closed_statement line form frame = closed_block line form frame
 
 -- the model that is closed
@@ -236,75 +236,75 @@ closed_model line name heads tops = part.Source (record { line = line; name = na
 
 -- what the block is that the piece closes
 abbrev pub closed_by : ℕ → Form → Frame → Option Part
-closed_by line form (g.Heads at name heads) = Some (closed_model at name heads [])
-closed_by line form (g.Tops at name heads tops) = Some (closed_model at name heads tops)
-closed_by line form (g.Parameters at xs) = Some (part.Top (t.Parameters at xs))
-closed_by line form (g.Declarations at xs) = Some (part.Declared (record { line = at; items = xs }))
-closed_by line form (g.Record at name xs) = Some (part.Record (i.Record at name xs))
-closed_by line form (g.Routine heading xs) = Some (part.Top (t.Routine (record { heading = heading; parts = xs })))
+closed_by line form (frame_kind.Heads at name heads) = Some (closed_model at name heads [])
+closed_by line form (frame_kind.Tops at name heads tops) = Some (closed_model at name heads tops)
+closed_by line form (frame_kind.Parameters at xs) = Some (part.Top (top.Parameters at xs))
+closed_by line form (frame_kind.Declarations at xs) = Some (part.Declared (record { line = at; items = xs }))
+closed_by line form (frame_kind.Record at name xs) = Some (part.Record (item_kind.Record at name xs))
+closed_by line form (frame_kind.Routine heading xs) = Some (part.Top (top.Routine (record { heading = heading; parts = xs })))
 closed_by line form frame = closed_statement line form frame
 
 -- ---- the block round it
 
 -- a first part behind the heads of a model
 abbrev pub first_top : ℕ → ModelName → List Head → Top → Frame
-first_top line name heads x = g.Tops line name heads (x ∷ [])
+first_top line name heads x = frame_kind.Tops line name heads (x ∷ [])
 
 -- one part more behind them
 abbrev pub next_top : ℕ → ModelName → List Head → List Top → Top → Frame
-next_top line name heads xs x = g.Tops line name heads (xs ++ x ∷ [])
+next_top line name heads xs x = frame_kind.Tops line name heads (xs ++ x ∷ [])
 
 -- a routine with one part more
 abbrev pub next_part : Heading → List RoutinePart → RoutinePart → Frame
-next_part heading xs x = g.Routine heading (xs ++ x ∷ [])
+next_part heading xs x = frame_kind.Routine heading (xs ++ x ∷ [])
 
 -- a model with one part more
 abbrev pub with_top : Top → Frame → Frame
-with_top x (g.Heads line name heads) = first_top line name heads x
-with_top x (g.Tops line name heads xs) = next_top line name heads xs x
+with_top x (frame_kind.Heads line name heads) = first_top line name heads x
+with_top x (frame_kind.Tops line name heads xs) = next_top line name heads xs x
 with_top x frame = frame
 
 -- a model or a routine with one block of `declarations` more
 abbrev pub with_declared : Declared → Frame → Frame
-with_declared x (g.Routine heading xs) = next_part heading xs (r.Declarations x)
-with_declared x frame = with_top (t.Declarations x) frame
+with_declared x (frame_kind.Routine heading xs) = next_part heading xs (routine_part.Declarations x)
+with_declared x frame = with_top (top.Declarations x) frame
 
 -- `declarations` with one record more
 abbrev pub with_record : Item → Frame → Frame
-with_record x (g.Declarations line xs) = g.Declarations line (xs ++ x ∷ [])
+with_record x (frame_kind.Declarations line xs) = frame_kind.Declarations line (xs ++ x ∷ [])
 with_record x frame = frame
 
 -- an alternative of `case` with its statement
 abbrev pub case_with : ℕ → Expr → List (Alternative Statement) → Alternative Statement → Frame
-case_with line value xs x = g.Case line value (xs ++ x ∷ [])
+case_with line value xs x = frame_kind.Case line value (xs ++ x ∷ [])
 
 -- an arm of `if` with one statement more
 abbrev pub if_arm_with : ℕ → List (Arm Statement) → Arm Statement → Statement → Frame
-if_arm_with first arms arm x = g.IfArm first arms arm.line arm.condition (arm.body ++ x ∷ [])
+if_arm_with first arms arm x = frame_kind.IfArm first arms arm.line arm.condition (arm.body ++ x ∷ [])
 
 -- the `else` of a `case` with one statement more
 abbrev pub case_else_with : ℕ → Expr → List (Alternative Statement) → List Statement → Statement → Frame
-case_else_with line value xs body x = g.CaseElse line value xs (body ++ x ∷ [])
+case_else_with line value xs body x = frame_kind.CaseElse line value xs (body ++ x ∷ [])
 
 -- a block of statements with one statement more
 abbrev pub with_block_statement : Statement → Frame → Frame
-with_block_statement x (g.IfElse first arms body) = g.IfElse first arms (body ++ x ∷ [])
-with_block_statement x (g.CaseElse line value xs body) = case_else_with line value xs body x
-with_block_statement x (g.Repeat line body) = g.Repeat line (body ++ x ∷ [])
-with_block_statement x (g.Do line body) = g.Do line (body ++ x ∷ [])
-with_block_statement x frame = with_top (t.Statement x) frame
+with_block_statement x (frame_kind.IfElse first arms body) = frame_kind.IfElse first arms (body ++ x ∷ [])
+with_block_statement x (frame_kind.CaseElse line value xs body) = case_else_with line value xs body x
+with_block_statement x (frame_kind.Repeat line body) = frame_kind.Repeat line (body ++ x ∷ [])
+with_block_statement x (frame_kind.Do line body) = frame_kind.Do line (body ++ x ∷ [])
+with_block_statement x frame = with_top (top.Statement x) frame
 
 -- the block with one statement more, where it takes one without being ended by it
 abbrev pub with_statement : Statement → Frame → Frame
-with_statement x (g.Routine heading xs) = next_part heading xs (r.Statement x)
-with_statement x (g.IfArm first arms line condition body) = if_arm_with first arms (written.arm_of line condition body) x
-with_statement x (g.CaseArm line value xs at labels) = case_with line value xs (written.alternative_of at labels x)
+with_statement x (frame_kind.Routine heading xs) = next_part heading xs (routine_part.Statement x)
+with_statement x (frame_kind.IfArm first arms line condition body) = if_arm_with first arms (written.arm_of line condition body) x
+with_statement x (frame_kind.CaseArm line value xs at labels) = case_with line value xs (written.alternative_of at labels x)
 with_statement x frame = with_block_statement x frame
 
 -- one statement ends the block
 abbrev pub is_loop : Frame → Bool
-is_loop (g.Forall line index) = true
-is_loop (g.While line condition) = true
+is_loop (frame_kind.Forall line index) = true
+is_loop (frame_kind.While line condition) = true
 is_loop _ = false
 
 -- one statement ends the innermost block
@@ -314,8 +314,8 @@ top_is_loop (frame ∷ k) = is_loop frame
 
 -- the loop with its body
 abbrev pub loop_with_body : Statement → Frame → Statement
-loop_with_body x (g.Forall line index) = s.Forall line index x
-loop_with_body x (g.While line condition) = s.While line condition x
+loop_with_body x (frame_kind.Forall line index) = statement_kind.Forall line index x
+loop_with_body x (frame_kind.While line condition) = statement_kind.While line condition x
 loop_with_body x frame = x
 
 -- the innermost block, which is no loop, takes the statement
@@ -343,7 +343,7 @@ add_other x (frame ∷ k) = with_part x frame ∷ k
 -- the blocks that are open take the part
 abbrev pub add_part : Part → Stack → Stack
 add_part (part.Statement x) k = add_statement x k
-add_part (part.Source x) k = g.End x ∷ k
+add_part (part.Source x) k = frame_kind.End x ∷ k
 add_part x k = add_other x k
 
 -- they take the part, where there is one
@@ -407,7 +407,7 @@ pub data Outcome : Type 0 where
 -- the tree, where the stack is that of a whole source
 abbrev pub finished_tree : Stack → Option Tree
 finished_tree [] = None
-finished_tree (g.End tree ∷ k) = Some tree
+finished_tree (frame_kind.End tree ∷ k) = Some tree
 finished_tree (_ ∷ k) = None
 
 -- the pieces end: with a tree, or too early

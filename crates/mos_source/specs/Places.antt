@@ -4,19 +4,19 @@ use Rattle.std.specs.Prelude.{Bool, true, false, if◌then◌else◌, Option, So
 use Rattle.mos_tree.specs.declared.form.PieceKind.{PieceKind}
 use Rattle.mos_tree.specs.declared.form.PieceKind.TheVariants as m
 use Rattle.mos_source.specs.declared.place.Place.{Place}
-use Rattle.mos_source.specs.declared.place.Place.TheVariants as p
+use Rattle.mos_source.specs.declared.place.Place.TheVariants as place_kind
 use Rattle.mos_source.specs.declared.place.Role.{Role}
 use Rattle.mos_source.specs.declared.place.Role.TheVariants.{Opens, Continues, StandsAlone, Closes}
 
 -- a statement may begin at the place
 abbrev pub takes_statements : Place → Bool
-takes_statements p.Start = false
-takes_statements p.Parameters = false
-takes_statements p.Declarations = false
-takes_statements p.Record = false
-takes_statements p.Case = false
-takes_statements p.Initializations = false
-takes_statements p.End = false
+takes_statements place_kind.Start = false
+takes_statements place_kind.Parameters = false
+takes_statements place_kind.Declarations = false
+takes_statements place_kind.Record = false
+takes_statements place_kind.Case = false
+takes_statements place_kind.Initializations = false
+takes_statements place_kind.End = false
 takes_statements _ = true
 
 -- what the first piece of a statement does
@@ -44,36 +44,36 @@ top_role _ = None
 
 -- what a piece does at the place, statements aside
 abbrev pub own_role : Place → PieceKind → Option Role
-own_role p.Start m.Model = Some Opens
-own_role p.Heads m.Uses = Some Continues
-own_role p.Heads m.Options = Some Continues
-own_role p.Heads piece_kind = top_role piece_kind
-own_role p.Tops piece_kind = top_role piece_kind
-own_role p.Parameters m.Definition = Some Continues
-own_role p.Parameters m.EndParameters = Some Closes
-own_role p.Declarations m.Definition = Some Continues
-own_role p.Declarations m.Typed = Some Continues
-own_role p.Declarations m.RecordOf = Some Opens
-own_role p.Declarations m.EndDeclarations = Some Closes
-own_role p.Record m.Typed = Some Continues
-own_role p.Record m.EndRecord = Some Closes
-own_role p.Procedure m.Declarations = Some Opens
-own_role p.Procedure m.EndProcedure = Some Closes
-own_role p.Function m.Declarations = Some Opens
-own_role p.Function m.EndFunction = Some Closes
-own_role p.IfArm m.Elif = Some Continues
-own_role p.IfArm m.Else = Some Continues
-own_role p.IfArm m.EndIf = Some Closes
-own_role p.IfElse m.EndIf = Some Closes
-own_role p.Case m.Alternative = Some Continues
-own_role p.Case m.Else = Some Continues
-own_role p.Case m.EndCase = Some Closes
-own_role p.CaseElse m.EndCase = Some Closes
-own_role p.Repeat m.Until = Some Closes
-own_role p.Do m.EndDo = Some Closes
-own_role p.Initializations m.Bare = Some Continues
-own_role p.Initializations m.Labels = Some Continues
-own_role p.Initializations m.EndInitializations = Some Closes
+own_role place_kind.Start m.Model = Some Opens
+own_role place_kind.Heads m.Uses = Some Continues
+own_role place_kind.Heads m.Options = Some Continues
+own_role place_kind.Heads piece_kind = top_role piece_kind
+own_role place_kind.Tops piece_kind = top_role piece_kind
+own_role place_kind.Parameters m.Definition = Some Continues
+own_role place_kind.Parameters m.EndParameters = Some Closes
+own_role place_kind.Declarations m.Definition = Some Continues
+own_role place_kind.Declarations m.Typed = Some Continues
+own_role place_kind.Declarations m.RecordOf = Some Opens
+own_role place_kind.Declarations m.EndDeclarations = Some Closes
+own_role place_kind.Record m.Typed = Some Continues
+own_role place_kind.Record m.EndRecord = Some Closes
+own_role place_kind.Procedure m.Declarations = Some Opens
+own_role place_kind.Procedure m.EndProcedure = Some Closes
+own_role place_kind.Function m.Declarations = Some Opens
+own_role place_kind.Function m.EndFunction = Some Closes
+own_role place_kind.IfArm m.Elif = Some Continues
+own_role place_kind.IfArm m.Else = Some Continues
+own_role place_kind.IfArm m.EndIf = Some Closes
+own_role place_kind.IfElse m.EndIf = Some Closes
+own_role place_kind.Case m.Alternative = Some Continues
+own_role place_kind.Case m.Else = Some Continues
+own_role place_kind.Case m.EndCase = Some Closes
+own_role place_kind.CaseElse m.EndCase = Some Closes
+own_role place_kind.Repeat m.Until = Some Closes
+own_role place_kind.Do m.EndDo = Some Closes
+own_role place_kind.Initializations m.Bare = Some Continues
+own_role place_kind.Initializations m.Labels = Some Continues
+own_role place_kind.Initializations m.EndInitializations = Some Closes
 own_role _ _ = None
 
 -- what a statement does comes first

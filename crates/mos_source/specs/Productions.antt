@@ -2,7 +2,7 @@
 
 use Rattle.std.specs.Prelude.{◌≡◌, ◌≢◌, ℕ, suc, Bool, true, false, ◌||◌, ◌&&◌, not, nat_eq, nat_le, if◌then◌else◌, ◌⊎◌, List, [], ◌∷◌, is_some}
 use Rattle.mos_tree.specs.declared.form.PieceKind.{PieceKind}
-use Rattle.mos_tree.specs.declared.form.PieceKind.TheVariants as m
+use Rattle.mos_tree.specs.declared.form.PieceKind.TheVariants as piece_kind
 use Rattle.mos_tree.specs.declared.form.PieceForm.{PieceForm}
 use Rattle.mos_tree.specs.Forms.{piece_kind_of}
 use Rattle.mos_source.specs.Limits.{own_limit}
@@ -24,47 +24,47 @@ pub data Rule : Type 0 where
 
 -- heads of a model
 abbrev pub head : Rule
-head = one m.Uses or one m.Options
+head = one piece_kind.Uses or one piece_kind.Options
 
 -- behind `parameters`
 abbrev pub parameters_block : Rule
-parameters_block = many (one m.Definition) ~ one m.EndParameters
+parameters_block = many (one piece_kind.Definition) ~ one piece_kind.EndParameters
 
 -- behind `NAME = record`
 abbrev pub record_block : Rule
-record_block = many (one m.Typed) ~ one m.EndRecord
+record_block = many (one piece_kind.Typed) ~ one piece_kind.EndRecord
 
 -- in `declarations`
 abbrev pub item : Rule
-item = one m.Definition or one m.Typed or block m.RecordOf record_block
+item = one piece_kind.Definition or one piece_kind.Typed or block piece_kind.RecordOf record_block
 
 -- behind `declarations`
 abbrev pub declarations_block : Rule
-declarations_block = many item ~ one m.EndDeclarations
+declarations_block = many item ~ one piece_kind.EndDeclarations
 
 -- a block of `declarations`
 abbrev pub declarations : Rule
-declarations = block m.Declarations declarations_block
+declarations = block piece_kind.Declarations declarations_block
 
 -- behind the heading of a procedure
 abbrev pub procedure_block : Rule
-procedure_block = many (declarations or statement) ~ one m.EndProcedure
+procedure_block = many (declarations or statement) ~ one piece_kind.EndProcedure
 
 -- behind the heading of a function
 abbrev pub function_block : Rule
-function_block = many (declarations or statement) ~ one m.EndFunction
+function_block = many (declarations or statement) ~ one piece_kind.EndFunction
 
 -- a procedure or a function
 abbrev pub routine : Rule
-routine = block m.Procedure procedure_block or block m.Function function_block
+routine = block piece_kind.Procedure procedure_block or block piece_kind.Function function_block
 
 -- what stands in a model behind its heads
 abbrev pub top : Rule
-top = block m.Parameters parameters_block or declarations or routine or one m.Forward or statement
+top = block piece_kind.Parameters parameters_block or declarations or routine or one piece_kind.Forward or statement
 
 -- behind the heads of a model
 abbrev pub tops : Rule
-tops = many top ~ one m.EndModel
+tops = many top ~ one piece_kind.EndModel
 
 -- behind `model`
 abbrev pub heads : Rule
@@ -72,79 +72,79 @@ heads = many head ~ tops
 
 -- a whole source
 abbrev pub source : Rule
-source = one m.Model ~ heads
+source = one piece_kind.Model ~ heads
 
 -- `else` with what stands under it
 abbrev pub otherwise : Rule
-otherwise = one m.Else ~ many statement
+otherwise = one piece_kind.Else ~ many statement
 
 -- behind `if .. then`
 abbrev pub if_block : Rule
-if_block = many statement ~ many (one m.Elif ~ many statement) ~ optional otherwise ~ one m.EndIf
+if_block = many statement ~ many (one piece_kind.Elif ~ many statement) ~ optional otherwise ~ one piece_kind.EndIf
 
 -- behind `case .. of`
 abbrev pub case_block : Rule
-case_block = many (one m.Alternative ~ statement) ~ optional otherwise ~ one m.EndCase
+case_block = many (one piece_kind.Alternative ~ statement) ~ optional otherwise ~ one piece_kind.EndCase
 
 -- behind `repeat`
 abbrev pub repeat_block : Rule
-repeat_block = many statement ~ one m.Until
+repeat_block = many statement ~ one piece_kind.Until
 
 -- behind `do`
 abbrev pub do_block : Rule
-do_block = many statement ~ one m.EndDo
+do_block = many statement ~ one piece_kind.EndDo
 
 -- behind `initializations`; a name alone is a row of one label
 abbrev pub initializations_block : Rule
-initializations_block = many (one m.Bare or one m.Labels) ~ one m.EndInitializations
+initializations_block = many (one piece_kind.Bare or one piece_kind.Labels) ~ one piece_kind.EndInitializations
 
 -- what a statement is; one piece is an assignment, a list that is filled, a call, `break` or `next`
 abbrev pub statement_is : Rule
 statement_is =
-    one m.Simple or one m.Bare or block m.If if_block or block m.Case case_block or
-    block m.Forall statement or block m.While statement or block m.Repeat repeat_block or
-    block m.Do do_block or block m.Initializations initializations_block
+    one piece_kind.Simple or one piece_kind.Bare or block piece_kind.If if_block or block piece_kind.Case case_block or
+    block piece_kind.Forall statement or block piece_kind.While statement or block piece_kind.Repeat repeat_block or
+    block piece_kind.Do do_block or block piece_kind.Initializations initializations_block
 
 -- ---- forms
 
 -- each form has a number of its own
 abbrev pub number_of : PieceKind → ℕ
-number_of m.Unknown = 0
-number_of m.Model = 1
-number_of m.Uses = 2
-number_of m.Options = 3
-number_of m.EndModel = 4
-number_of m.Parameters = 5
-number_of m.EndParameters = 6
-number_of m.Declarations = 7
-number_of m.EndDeclarations = 8
-number_of m.Definition = 9
-number_of m.Typed = 10
-number_of m.RecordOf = 11
-number_of m.EndRecord = 12
-number_of m.Procedure = 13
-number_of m.Function = 14
-number_of m.EndProcedure = 15
-number_of m.EndFunction = 16
-number_of m.Forward = 17
-number_of m.Simple = 18
-number_of m.Bare = 19
-number_of m.If = 20
-number_of m.Elif = 21
-number_of m.Else = 22
-number_of m.EndIf = 23
-number_of m.Case = 24
-number_of m.Alternative = 25
-number_of m.EndCase = 26
-number_of m.Forall = 27
-number_of m.While = 28
-number_of m.Repeat = 29
-number_of m.Until = 30
-number_of m.Do = 31
-number_of m.EndDo = 32
-number_of m.Initializations = 33
-number_of m.Labels = 34
-number_of m.EndInitializations = 35
+number_of piece_kind.Unknown = 0
+number_of piece_kind.Model = 1
+number_of piece_kind.Uses = 2
+number_of piece_kind.Options = 3
+number_of piece_kind.EndModel = 4
+number_of piece_kind.Parameters = 5
+number_of piece_kind.EndParameters = 6
+number_of piece_kind.Declarations = 7
+number_of piece_kind.EndDeclarations = 8
+number_of piece_kind.Definition = 9
+number_of piece_kind.Typed = 10
+number_of piece_kind.RecordOf = 11
+number_of piece_kind.EndRecord = 12
+number_of piece_kind.Procedure = 13
+number_of piece_kind.Function = 14
+number_of piece_kind.EndProcedure = 15
+number_of piece_kind.EndFunction = 16
+number_of piece_kind.Forward = 17
+number_of piece_kind.Simple = 18
+number_of piece_kind.Bare = 19
+number_of piece_kind.If = 20
+number_of piece_kind.Elif = 21
+number_of piece_kind.Else = 22
+number_of piece_kind.EndIf = 23
+number_of piece_kind.Case = 24
+number_of piece_kind.Alternative = 25
+number_of piece_kind.EndCase = 26
+number_of piece_kind.Forall = 27
+number_of piece_kind.While = 28
+number_of piece_kind.Repeat = 29
+number_of piece_kind.Until = 30
+number_of piece_kind.Do = 31
+number_of piece_kind.EndDo = 32
+number_of piece_kind.Initializations = 33
+number_of piece_kind.Labels = 34
+number_of piece_kind.EndInitializations = 35
 
 -- one form twice
 abbrev pub same : PieceKind → PieceKind → Bool
@@ -152,18 +152,18 @@ same a b = nat_eq (number_of a) (number_of b)
 
 -- the pieces that open a block
 abbrev pub opens_block : PieceKind → Bool
-opens_block m.Parameters = true
-opens_block m.Declarations = true
-opens_block m.RecordOf = true
-opens_block m.Procedure = true
-opens_block m.Function = true
-opens_block m.If = true
-opens_block m.Case = true
-opens_block m.Forall = true
-opens_block m.While = true
-opens_block m.Repeat = true
-opens_block m.Do = true
-opens_block m.Initializations = true
+opens_block piece_kind.Parameters = true
+opens_block piece_kind.Declarations = true
+opens_block piece_kind.RecordOf = true
+opens_block piece_kind.Procedure = true
+opens_block piece_kind.Function = true
+opens_block piece_kind.If = true
+opens_block piece_kind.Case = true
+opens_block piece_kind.Forall = true
+opens_block piece_kind.While = true
+opens_block piece_kind.Repeat = true
+opens_block piece_kind.Do = true
+opens_block piece_kind.Initializations = true
 opens_block _ = false
 
 -- whether a piece inside so many open blocks breaks a limit
@@ -172,11 +172,11 @@ breaks_limit depth x = is_some (own_limit x.form) || (opens_block (piece_kind_of
 
 -- the form that counts inside so many open blocks: a piece that breaks a limit has none
 unfoldable pub form_at : ℕ → PieceForm → PieceKind
-form_at depth x = if breaks_limit depth x then m.Unknown else piece_kind_of x.form
+form_at depth x = if breaks_limit depth x then piece_kind.Unknown else piece_kind_of x.form
 
 -- the form of the first piece; where there is no piece, there is no form
 abbrev pub front : ℕ → List PieceForm → PieceKind
-front depth [] = m.Unknown
+front depth [] = piece_kind.Unknown
 front depth (x ∷ xs) = form_at depth x
 
 -- whether a part begins with a piece of this form, where it is known of statements (`named`). No part

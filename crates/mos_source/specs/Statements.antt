@@ -5,13 +5,13 @@ use Rattle.std.specs.Prelude.{ℕ, ◌+◌, max, List, [], ◌∷◌, ◌++◌, 
 use Rattle.mos_tree.specs.declared.expr.Expr.{Expr}
 use Rattle.mos_tree.specs.declared.expr.Index.{Index}
 use Rattle.mos_tree.specs.declared.statement.Statement.{Statement}
-use Rattle.mos_tree.specs.declared.statement.Statement.TheVariants as s
+use Rattle.mos_tree.specs.declared.statement.Statement.TheVariants as statement_kind
 use Rattle.mos_tree.specs.declared.statement.Arm.{Arm}
 use Rattle.mos_tree.specs.declared.statement.Alternative.{Alternative}
 use Rattle.mos_tree.specs.declared.statement.Label.{Label}
 use Rattle.mos_tree.specs.declared.statement.LabelGroup.{LabelGroup}
 use Rattle.mos_tree.specs.declared.statement.Direction.{Direction}
-use Rattle.mos_tree.specs.declared.form.Form.TheVariants as f
+use Rattle.mos_tree.specs.declared.form.Form.TheVariants as form_kind
 use Rattle.mos_tree.specs.declared.form.ConditionKeyword.TheVariants as conditional
 use Rattle.mos_tree.specs.declared.form.Keyword.TheVariants as keyword
 use Rattle.mos_tree.specs.declared.form.Form.{Form}
@@ -28,21 +28,21 @@ pub data Rows : Type 0 where
 
 mutual
   -- a statement as it is written
-  pub data Written : Type 0 where
-    single : ℕ → Simple → Written  -- a statement of one piece
-    bare : ℕ → List ℕ → Written  -- a call by a name alone
-    if_ : Arms → ℕ → Expr → Block → Last → ℕ → Written  -- the arms, of which the last stands apart, and `else`
-    case_ : ℕ → Expr → Alternatives → Last → ℕ → Written  -- `case`
-    forall_ : ℕ → Index Expr → Written → Written  -- `forall`
-    while_ : ℕ → Expr → Written → Written  -- `while`
-    repeat_ : ℕ → Block → ℕ → Expr → Written  -- `repeat`, the line of `until` and its condition
-    do_ : ℕ → Block → ℕ → Written  -- `do`
-    initializations : ℕ → Direction → Expr → Rows → ℕ → Written  -- `initializations`
+  pub data WrittenStatement : Type 0 where
+    single : ℕ → Simple → WrittenStatement  -- a statement of one piece
+    bare : ℕ → List ℕ → WrittenStatement  -- a call by a name alone
+    if_ : Arms → ℕ → Expr → Block → Last → ℕ → WrittenStatement  -- the arms, of which the last stands apart, and `else`
+    case_ : ℕ → Expr → Alternatives → Last → ℕ → WrittenStatement  -- `case`
+    forall_ : ℕ → Index Expr → WrittenStatement → WrittenStatement  -- `forall`
+    while_ : ℕ → Expr → WrittenStatement → WrittenStatement  -- `while`
+    repeat_ : ℕ → Block → ℕ → Expr → WrittenStatement  -- `repeat`, the line of `until` and its condition
+    do_ : ℕ → Block → ℕ → WrittenStatement  -- `do`
+    initializations : ℕ → Direction → Expr → Rows → ℕ → WrittenStatement  -- `initializations`
 
   -- statements one after the other, the last one last
   pub data Block : Type 0 where
-    nothing : Block
-    then_one : Block → Written → Block
+    no_statement : Block
+    then_one : Block → WrittenStatement → Block
 
   -- arms, the last one last: the first one is `if`, the others are `elif`
   pub data Arms : Type 0 where
@@ -57,37 +57,37 @@ mutual
   -- the alternatives of `case`, the last one last
   pub data Alternatives : Type 0 where
     no_alternative : Alternatives
-    alternative : Alternatives → ℕ → List Expr → Written → Alternatives
+    alternative : Alternatives → ℕ → List Expr → WrittenStatement → Alternatives
 
 -- ---- pieces
 
 -- the piece that begins an arm behind these arms
 abbrev pub arm_form : Arms → Expr → Form
-arm_form no_arm condition = f.Guarded conditional.If condition
-arm_form (arm before line c b) condition = f.Guarded conditional.Elif condition
+arm_form no_arm condition = form_kind.Guarded conditional.If condition
+arm_form (arm before line c b) condition = form_kind.Guarded conditional.Elif condition
 
 -- the pieces of rows
 abbrev pub spell_rows : Rows → List PieceForm
 spell_rows no_row = []
-spell_rows (named rows line name) = spell_rows rows ++ piece line (f.Bare name) ∷ []
-spell_rows (labelled rows line labels) = spell_rows rows ++ piece line (f.Labels labels) ∷ []
+spell_rows (named rows line name) = spell_rows rows ++ piece line (form_kind.Bare name) ∷ []
+spell_rows (labelled rows line labels) = spell_rows rows ++ piece line (form_kind.Labels labels) ∷ []
 
 abbrev mutual
   -- the pieces of a statement
-  pub spell : Written → List PieceForm
-  spell (single line x) = piece line (f.Simple x) ∷ []
-  spell (bare line name) = piece line (f.Bare name) ∷ []
-  spell (if_ arms line condition b last end) = spell_arms arms ++ piece line (arm_form arms condition) ∷ (spell_block b ++ (spell_last last ++ piece end (f.Keyword keyword.EndIf) ∷ []))
-  spell (case_ line value xs last end) = piece line (f.Guarded conditional.Case value) ∷ (spell_alternatives xs ++ (spell_last last ++ piece end (f.Keyword keyword.EndCase) ∷ []))
-  spell (forall_ line index body) = piece line (f.Forall index) ∷ spell body
-  spell (while_ line condition body) = piece line (f.Guarded conditional.While condition) ∷ spell body
-  spell (repeat_ line b until condition) = piece line (f.Keyword keyword.Repeat) ∷ (spell_block b ++ piece until (f.Guarded conditional.Until condition) ∷ [])
-  spell (do_ line b end) = piece line (f.Keyword keyword.Do) ∷ (spell_block b ++ piece end (f.Keyword keyword.EndDo) ∷ [])
-  spell (initializations line direction name rows end) = piece line (f.Initializations direction name) ∷ (spell_rows rows ++ piece end (f.Keyword keyword.EndInitializations) ∷ [])
+  pub spell : WrittenStatement → List PieceForm
+  spell (single line x) = piece line (form_kind.Simple x) ∷ []
+  spell (bare line name) = piece line (form_kind.Bare name) ∷ []
+  spell (if_ arms line condition b last end) = spell_arms arms ++ piece line (arm_form arms condition) ∷ (spell_block b ++ (spell_last last ++ piece end (form_kind.Keyword keyword.EndIf) ∷ []))
+  spell (case_ line value xs last end) = piece line (form_kind.Guarded conditional.Case value) ∷ (spell_alternatives xs ++ (spell_last last ++ piece end (form_kind.Keyword keyword.EndCase) ∷ []))
+  spell (forall_ line index body) = piece line (form_kind.Forall index) ∷ spell body
+  spell (while_ line condition body) = piece line (form_kind.Guarded conditional.While condition) ∷ spell body
+  spell (repeat_ line b until condition) = piece line (form_kind.Keyword keyword.Repeat) ∷ (spell_block b ++ piece until (form_kind.Guarded conditional.Until condition) ∷ [])
+  spell (do_ line b end) = piece line (form_kind.Keyword keyword.Do) ∷ (spell_block b ++ piece end (form_kind.Keyword keyword.EndDo) ∷ [])
+  spell (initializations line direction name rows end) = piece line (form_kind.Initializations direction name) ∷ (spell_rows rows ++ piece end (form_kind.Keyword keyword.EndInitializations) ∷ [])
 
   -- the pieces of statements
   pub spell_block : Block → List PieceForm
-  spell_block nothing = []
+  spell_block no_statement = []
   spell_block (then_one b w) = spell_block b ++ spell w
 
   -- the pieces of arms
@@ -98,18 +98,18 @@ abbrev mutual
   -- the pieces of `else`
   pub spell_last : Last → List PieceForm
   spell_last without = []
-  spell_last (otherwise line b) = piece line (f.Keyword keyword.Else) ∷ spell_block b
+  spell_last (otherwise line b) = piece line (form_kind.Keyword keyword.Else) ∷ spell_block b
 
   -- the pieces of alternatives
   pub spell_alternatives : Alternatives → List PieceForm
   spell_alternatives no_alternative = []
-  spell_alternatives (alternative before line labels w) = spell_alternatives before ++ piece line (f.Alternative labels) ∷ spell w
+  spell_alternatives (alternative before line labels w) = spell_alternatives before ++ piece line (form_kind.Alternative labels) ∷ spell w
 
 -- ---- depth
 
 abbrev mutual
   -- how many blocks of a statement stand in one another at most
-  pub depth : Written → ℕ
+  pub depth : WrittenStatement → ℕ
   depth (single line x) = 0
   depth (bare line name) = 0
   depth (if_ arms line condition b last end) = 1 + max (depth_arms arms) (max (depth_block b) (depth_last last))
@@ -122,7 +122,7 @@ abbrev mutual
 
   -- those of statements
   pub depth_block : Block → ℕ
-  depth_block nothing = 0
+  depth_block no_statement = 0
   depth_block (then_one b w) = max (depth_block b) (depth w)
 
   -- those of arms
@@ -144,11 +144,11 @@ abbrev mutual
 
 -- the statement of one piece
 abbrev pub statement_of : ℕ → Simple → Statement
-statement_of line (simple.Assign target operator value) = s.Assign line target operator value
-statement_of line (simple.Fill name values) = s.Fill line name values
-statement_of line (simple.Call name arguments) = s.Call line name arguments
-statement_of line simple.Break = s.Break line
-statement_of line simple.Next = s.Next line
+statement_of line (simple.Assign target operator value) = statement_kind.Assign line target operator value
+statement_of line (simple.Fill name values) = statement_kind.Fill line name values
+statement_of line (simple.Call name arguments) = statement_kind.Call line name arguments
+statement_of line simple.Break = statement_kind.Break line
+statement_of line simple.Next = statement_kind.Next line
 
 -- a label without a text
 abbrev pub label_of : List ℕ → Label
@@ -175,20 +175,20 @@ alternative_of line labels body = record { line = line; labels = labels; body = 
 
 abbrev mutual
   -- the tree of a statement
-  pub tree : Written → Statement
+  pub tree : WrittenStatement → Statement
   tree (single line x) = statement_of line x
-  tree (bare line name) = s.Call line name []
-  tree (if_ arms line condition b last end) = s.If (first_line arms line) (trees_of_arms arms ++ arm_of line condition (trees b) ∷ []) (trees_of_last last)
-  tree (case_ line value xs last end) = s.Case line value (trees_of_alternatives xs) (trees_of_last last)
-  tree (forall_ line index body) = s.Forall line index (tree body)
-  tree (while_ line condition body) = s.While line condition (tree body)
-  tree (repeat_ line b until condition) = s.Repeat line (trees b) until condition
-  tree (do_ line b end) = s.Do line (trees b)
-  tree (initializations line direction name rows end) = s.Initializations line direction name (label_groups rows)
+  tree (bare line name) = statement_kind.Call line name []
+  tree (if_ arms line condition b last end) = statement_kind.If (first_line arms line) (trees_of_arms arms ++ arm_of line condition (trees b) ∷ []) (trees_of_last last)
+  tree (case_ line value xs last end) = statement_kind.Case line value (trees_of_alternatives xs) (trees_of_last last)
+  tree (forall_ line index body) = statement_kind.Forall line index (tree body)
+  tree (while_ line condition body) = statement_kind.While line condition (tree body)
+  tree (repeat_ line b until condition) = statement_kind.Repeat line (trees b) until condition
+  tree (do_ line b end) = statement_kind.Do line (trees b)
+  tree (initializations line direction name rows end) = statement_kind.Initializations line direction name (label_groups rows)
 
   -- the trees of statements
   pub trees : Block → List Statement
-  trees nothing = []
+  trees no_statement = []
   trees (then_one b w) = trees b ++ tree w ∷ []
 
   -- those of arms

@@ -18,7 +18,7 @@ use Rattle.mos_tree.specs.declared.statement.Reference.TheVariants as reference
 use Rattle.mos_tree.specs.declared.statement.Arm.{Arm}
 use Rattle.mos_tree.specs.declared.statement.Alternative.{Alternative}
 use Rattle.mos_tree.specs.declared.statement.Statement.{Statement}
-use Rattle.mos_tree.specs.declared.statement.Statement.TheOpen as s
+use Rattle.mos_tree.specs.declared.statement.Statement.TheOpen as open_statement
 use Rattle.mos_tree.specs.declared.statement.Statement.TheOpen.{Statement-F}
 use Rattle.mos_tree.specs.declared.statement.Statement.TheFolds.{fold-Statement}
 use Rattle.mos_tree.specs.declared.source.Declared.{Declared}
@@ -44,7 +44,7 @@ use Rattle.mos_tree.specs.declared.form.PieceForm.{PieceForm}
 abbrev pub size_of_dimension : Dimension → ℕ
 size_of_dimension dimension.Range = 0
 size_of_dimension (dimension.Set member) = 0
-size_of_dimension (dimension.Over set) = nodes set
+size_of_dimension (dimension.IndexSet set) = nodes set
 
 -- the nodes in a type
 abbrev pub size_of_type : TypeForm → ℕ
@@ -100,18 +100,18 @@ size_of_alternative x = nodes_in x.labels + x.body + 1
 
 -- one statement, by the sizes of those in it
 abbrev pub size_step : Statement-F ℕ → ℕ
-size_step (s.Assign line target operator value) = size_of_reference target + nodes value + 1
-size_step (s.Fill line name values) = nodes_in values + 1
-size_step (s.Call line name arguments) = nodes_in arguments + 1
-size_step (s.If line arms otherwise) = sum (map size_of_arm arms) + sum otherwise + 1
-size_step (s.Case line value alternatives otherwise) = nodes value + sum (map size_of_alternative alternatives) + sum otherwise + 1
-size_step (s.Forall line index body) = nodes_in_index index + body + 1
-size_step (s.While line condition body) = nodes condition + body + 1
-size_step (s.Repeat line body until_line condition) = sum body + nodes condition + 1
-size_step (s.Do line body) = sum body + 1
-size_step (s.Break line) = 1
-size_step (s.Next line) = 1
-size_step (s.Initializations line direction name labels) = nodes name + 1
+size_step (open_statement.Assign line target operator value) = size_of_reference target + nodes value + 1
+size_step (open_statement.Fill line name values) = nodes_in values + 1
+size_step (open_statement.Call line name arguments) = nodes_in arguments + 1
+size_step (open_statement.If line arms otherwise) = sum (map size_of_arm arms) + sum otherwise + 1
+size_step (open_statement.Case line value alternatives otherwise) = nodes value + sum (map size_of_alternative alternatives) + sum otherwise + 1
+size_step (open_statement.Forall line index body) = nodes_in_index index + body + 1
+size_step (open_statement.While line condition body) = nodes condition + body + 1
+size_step (open_statement.Repeat line body until_line condition) = sum body + nodes condition + 1
+size_step (open_statement.Do line body) = sum body + 1
+size_step (open_statement.Break line) = 1
+size_step (open_statement.Next line) = 1
+size_step (open_statement.Initializations line direction name labels) = nodes name + 1
 
 -- a statement with all that stand in it
 abbrev pub size_of_statement : Statement → ℕ

@@ -21,7 +21,7 @@ pub enum Dimension {
     /// `set of` a type.
     Set(BaseType),
     /// An index set.
-    Over(Expr),
+    IndexSet(Expr),
 }
 
 /// A type as it is written.

@@ -3,9 +3,9 @@
 use Rattle.std.proofs.Common.{◌≡◌, ℕ, Option, Some, None, Result, refl, sym, ◌∙◌, ap, arith}
 use Rattle.mos_tree.specs.declared.declaration.BaseType.{BaseType}
 use Rattle.mos_tree.specs.declared.declaration.BaseType.TheVariants as base
-use Rattle.mos_scan.specs.declared.token.TokenKind.TheVariants as t
-use Rattle.mos_scan.specs.declared.reading.Word.{Word}
-use Rattle.mos_scan.specs.declared.reading.Word.TheVariants as w
+use Rattle.mos_scan.specs.declared.token.TokenKind.TheVariants as token_kind
+use Rattle.mos_scan.specs.declared.grammar_word.Word.{Word}
+use Rattle.mos_scan.specs.declared.grammar_word.Word.TheVariants as word_kind
 use Rattle.mos_typing.specs.Typing.{base_word}
 use Rattle.mos_expr.specs.Said.{Gives, Says}
 use Rattle.mos_expr.specs.declared.fault.ExprFault.{ExprFault}
@@ -14,10 +14,10 @@ use Rattle.mos_typing.specs.Reader.{base_of}
 use Rattle.mos_typing.proofs.Saying.{says_nothing, says_made, says_gives}
 
 pub base_known : (x : Word) (b : BaseType) → base_of x ≡ Some b → x ≡ base_word b
-base_known (w.Key t.Integer) b e = let p : base.Integer ≡ b = cc in ap base_word p
-base_known (w.Key t.Boolean) b e = let p : base.Boolean ≡ b = cc in ap base_word p
-base_known (w.Key t.StringWord) b e = let p : base.Text ≡ b = cc in ap base_word p
-base_known (w.Name n) b e = let p : base.Named n ≡ b = cc in ap base_word p
+base_known (word_kind.Key token_kind.Integer) b e = let p : base.Integer ≡ b = cc in ap base_word p
+base_known (word_kind.Key token_kind.Boolean) b e = let p : base.Boolean ≡ b = cc in ap base_word p
+base_known (word_kind.Key token_kind.StringWord) b e = let p : base.Text ≡ b = cc in ap base_word p
+base_known (word_kind.Name n) b e = let p : base.Named n ≡ b = cc in ap base_word p
 base_known _ b e = cc
 
 pub base_read : (b : BaseType) → base_of (base_word b) ≡ Some b

@@ -2,7 +2,7 @@
 
 use Rattle.std.proofs.Common.{◌≡◌, ℕ, max, List, Result, refl, sym, subst}
 use Rattle.mos_tree.specs.declared.expr.Expr.{Expr}
-use Rattle.mos_scan.specs.declared.reading.Word.{Word}
+use Rattle.mos_scan.specs.declared.grammar_word.Word.{Word}
 use Rattle.mos_expr.specs.Said.{IsExpression, AreSomeExpressions, Says}
 use Rattle.mos_expr.specs.declared.fault.ExprFault.{ExprFault}
 use Rattle.mos_typing.specs.Joining.{pair, both}

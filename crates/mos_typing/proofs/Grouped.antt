@@ -5,15 +5,15 @@ use Rattle.std.proofs.lemmas.Bool.{eqb-true}
 use Rattle.std.proofs.lemmas.List.{nil_from_length}
 use Rattle.mos_tree.specs.declared.declaration.TypeForm.{TypeForm}
 use Rattle.mos_tree.specs.declared.declaration.FormalGroup.{FormalGroup}
-use Rattle.mos_scan.specs.declared.token.TokenKind.TheVariants as t
-use Rattle.mos_scan.specs.declared.reading.Word.{Word}
-use Rattle.mos_scan.specs.declared.reading.Word.TheVariants as w
+use Rattle.mos_scan.specs.declared.token.TokenKind.TheVariants as token_kind
+use Rattle.mos_scan.specs.declared.grammar_word.Word.{Word}
+use Rattle.mos_scan.specs.declared.grammar_word.Word.TheVariants as word_kind
 use Rattle.mos_expr.specs.Grammar.{Names, one_name, and_name, spell_names, list_of_names, limit}
 use Rattle.mos_expr.specs.declared.fault.ExprFault.{ExprFault}
-use Rattle.mos_expr.specs.declared.fault.ExprFault.TheVariants as x
+use Rattle.mos_expr.specs.declared.fault.ExprFault.TheVariants as expr_fault
 use Rattle.mos_typing.specs.Typing.{Typing, of_base, a_range, a_set, a_list, an_array, Groups, last_group, and_group, Formals, no_brackets, empty_brackets, formals, in_brackets, dynamic_words, base_words, dims_words, typing_words, group_words, formal_words, type_of, groups_of, formals_of, tallest_type, tallest_groups, tallest_formals, GroupsAreGrouped, FormalsAreGrouped}
 use Rattle.mos_typing.specs.declared.cut.Mark.TheVariants as marks
-use Rattle.mos_typing.specs.Cutting.{Halves, Group, cut, first_group, typed_cut, group_cut}
+use Rattle.mos_typing.specs.Cutting.{Halves, Group, halves_at, first_group, typed_cut, group_cut}
 use Rattle.mos_typing.specs.Joining.{on_ok, both, alone, first_of}
 use Rattle.mos_typing.specs.Reader.{names_of, group_of}
 use Rattle.mos_expr.specs.Said.{Says}
@@ -29,24 +29,24 @@ use Rattle.mos_typing.proofs.Saying.{says_nothing, says_made, says_on_ok, says_s
 -- ---- no type is cut
 
 dynamic_goes : (d : ℕ) (dynamic : _) → Goes any d (dynamic_words dynamic) d
-dynamic_goes d true = same d (w.Key t.Dynamic) refl refl refl
+dynamic_goes d true = same d (word_kind.Key token_kind.Dynamic) refl refl refl
 dynamic_goes d false = nothing d
 
 typing_goes : (d : ℕ) (x : Typing) → Goes any d (typing_words x) d
 typing_goes d (of_base b) = base_goes d b
-typing_goes d a_range = same d (w.Key t.Range) refl refl refl
-typing_goes d (a_set b) = member_goes d (w.Key t.Set) b (same d (w.Key t.Set) refl refl refl)
-typing_goes d (a_list b) = member_goes d (w.Key t.List) b (same d (w.Key t.List) refl refl refl)
+typing_goes d a_range = same d (word_kind.Key token_kind.Range) refl refl refl
+typing_goes d (a_set b) = member_goes d (word_kind.Key token_kind.Set) b (same d (word_kind.Key token_kind.Set) refl refl refl)
+typing_goes d (a_list b) = member_goes d (word_kind.Key token_kind.List) b (same d (word_kind.Key token_kind.List) refl refl refl)
 typing_goes d (an_array dynamic ds b) =
     joined d d d (dynamic_words dynamic) _ (dynamic_goes d dynamic)
-    (led d d d (w.Key t.Array) _ (same d (w.Key t.Array) refl refl refl)
-    (joined d d d (in_brackets (dims_words ds)) (w.Key t.Of ∷ base_words b)
-    (closed d (w.Key t.OpenRound) (dims_words ds) (w.Key t.CloseRound ∷ []) (open_round d refl) (dims_go d ds) (close d (w.Key t.CloseRound) refl refl refl))
-    (led d d d (w.Key t.Of) (base_words b) (same d (w.Key t.Of) refl refl refl) (base_goes d b))))
+    (led d d d (word_kind.Key token_kind.Array) _ (same d (word_kind.Key token_kind.Array) refl refl refl)
+    (joined d d d (in_brackets (dims_words ds)) (word_kind.Key token_kind.Of ∷ base_words b)
+    (closed d (word_kind.Key token_kind.OpenRound) (dims_words ds) (word_kind.Key token_kind.CloseRound ∷ []) (open_round d refl) (dims_go d ds) (close d (word_kind.Key token_kind.CloseRound) refl refl refl))
+    (led d d d (word_kind.Key token_kind.Of) (base_words b) (same d (word_kind.Key token_kind.Of) refl refl refl) (base_goes d b))))
 
 -- ---- one group
 
-pub says_no_names : (names typ : List Word) → None ≡ names_of names → Says (IsGroup names typ) (Err x.NoExpr)
+pub says_no_names : (names typ : List Word) → None ≡ names_of names → Says (IsGroup names typ) (Err expr_fault.NoExpr)
 says_no_names names typ e =
     says_nothing (IsGroup names typ) (λ made h k. none_some (names_of names) (list_of_names k.listed) (sym e) (ap names_of k.names_exact ∙ names_read k.listed))
 
@@ -71,10 +71,10 @@ says_group names typ all r s e k i =
 -- ---- where groups are cut
 
 abbrev one_words : Names → Typing → List Word
-one_words ns x = spell_names ns ++ w.Key t.Colon ∷ typing_words x
+one_words ns x = spell_names ns ++ word_kind.Key token_kind.Colon ∷ typing_words x
 
 abbrev more_words : Names → Typing → Groups → List Word
-more_words ns x gs = spell_names ns ++ w.Key t.Colon ∷ (typing_words x ++ w.Key t.Comma ∷ group_words gs)
+more_words ns x gs = spell_names ns ++ word_kind.Key token_kind.Colon ∷ (typing_words x ++ word_kind.Key token_kind.Comma ∷ group_words gs)
 
 pub one_first : (ns : Names) (x : Typing) → first_group (one_words ns x) ≡ None
 one_first ns x = ap typed_cut (colon_at ns (typing_words x)) ∙ ap (group_cut (spell_names ns)) (cut_none (typing_words x) (typing_goes 0 x))
@@ -84,27 +84,27 @@ cut_of ns x gs = (spell_names ns, typing_words x, group_words gs)
 
 pub more_first : (ns : Names) (x : Typing) (gs : Groups) → first_group (more_words ns x gs) ≡ Some (cut_of ns x gs)
 more_first ns x gs =
-    ap typed_cut (colon_at ns (typing_words x ++ w.Key t.Comma ∷ group_words gs))
+    ap typed_cut (colon_at ns (typing_words x ++ word_kind.Key token_kind.Comma ∷ group_words gs))
     ∙ ap (group_cut (spell_names ns)) (cut_at (typing_words x) (group_words gs) (typing_goes 0 x))
 
-groups_colon : (gs : Groups) (words : List Word) → words ≡ group_words gs → cut marks.Colon 0 words ≡ None → ⊥
-groups_colon (last_group ns x) words e n = none_some (cut marks.Colon 0 words) (spell_names ns, typing_words x) n (ap (cut marks.Colon 0) e ∙ colon_at ns (typing_words x))
+groups_colon : (gs : Groups) (words : List Word) → words ≡ group_words gs → halves_at marks.Colon 0 words ≡ None → ⊥
+groups_colon (last_group ns x) words e n = none_some (halves_at marks.Colon 0 words) (spell_names ns, typing_words x) n (ap (halves_at marks.Colon 0) e ∙ colon_at ns (typing_words x))
 groups_colon (and_group ns x gs) words e n =
-    none_some (cut marks.Colon 0 words) (spell_names ns, typing_words x ++ w.Key t.Comma ∷ group_words gs) n (ap (cut marks.Colon 0) e ∙ colon_at ns (typing_words x ++ w.Key t.Comma ∷ group_words gs))
+    none_some (halves_at marks.Colon 0 words) (spell_names ns, typing_words x ++ word_kind.Key token_kind.Comma ∷ group_words gs) n (ap (halves_at marks.Colon 0) e ∙ colon_at ns (typing_words x ++ word_kind.Key token_kind.Comma ∷ group_words gs))
 
 -- ---- the last group
 
-pub says_no_colon : (words : List Word) → cut marks.Colon 0 words ≡ None → Says (IsOnlyGroup words) (Err x.NoExpr)
+pub says_no_colon : (words : List Word) → halves_at marks.Colon 0 words ≡ None → Says (IsOnlyGroup words) (Err expr_fault.NoExpr)
 says_no_colon words n = says_nothing (IsOnlyGroup words) (λ made h k. groups_colon k.written words k.exact n)
 
 some_groups : {P : Type 0} (gs : Groups) → [] ≡ groups_of gs → P
 some_groups (last_group ns x) e = cc
 some_groups (and_group ns x gs) e = cc
 
-only_back : (words names typ : List Word) → cut marks.Colon 0 words ≡ Some (names, typ) → (made : FormalGroup) (h : ℕ) (gs : Groups) → GroupsAreGrouped gs → words ≡ group_words gs → alone made ≡ groups_of gs → h ≡ tallest_groups gs → IsGroup names typ made h
+only_back : (words names typ : List Word) → halves_at marks.Colon 0 words ≡ Some (names, typ) → (made : FormalGroup) (h : ℕ) (gs : Groups) → GroupsAreGrouped gs → words ≡ group_words gs → alone made ≡ groups_of gs → h ≡ tallest_groups gs → IsGroup names typ made h
 only_back words names typ c made h (last_group ns x) g e i k =
     let l : List Word × List Word = (names, typ) in
-    let o : l ≡ (spell_names ns, typing_words x) = some_same (cut marks.Colon 0 words) l (spell_names ns, typing_words x) c (ap (cut marks.Colon 0) e ∙ colon_at ns (typing_words x)) in
+    let o : l ≡ (spell_names ns, typing_words x) = some_same (halves_at marks.Colon 0 words) l (spell_names ns, typing_words x) c (ap (halves_at marks.Colon 0) e ∙ colon_at ns (typing_words x)) in
     record {
       listed = ns;
       typing = x;
@@ -116,13 +116,13 @@ only_back words names typ c made h (last_group ns x) g e i k =
     }
 only_back words names typ c made h (and_group ns x gs) g e i k = let p : [] ≡ groups_of gs = cc in some_groups gs p
 
-pub says_only : (words names typ : List Word) (r : Result FormalGroup ExprFault) → cut marks.Colon 0 words ≡ Some (names, typ) → Says (IsGroup names typ) r → Says (IsOnlyGroup words) r
+pub says_only : (words names typ : List Word) (r : Result FormalGroup ExprFault) → halves_at marks.Colon 0 words ≡ Some (names, typ) → Says (IsGroup names typ) r → Says (IsOnlyGroup words) r
 says_only words names typ r c k =
     says_same (IsGroup names typ) (IsOnlyGroup words) r
     (λ made h q. record {
       written = last_group q.listed q.typing;
       grouped = q.grouped;
-      exact = cut_sound marks.Colon 0 words names typ c ∙ ap (λ z. z ++ w.Key t.Colon ∷ typ) q.names_exact ∙ ap (λ z. spell_names q.listed ++ w.Key t.Colon ∷ z) q.exact;
+      exact = cut_sound marks.Colon 0 words names typ c ∙ ap (λ z. z ++ word_kind.Key token_kind.Colon ∷ typ) q.names_exact ∙ ap (λ z. spell_names q.listed ++ word_kind.Key token_kind.Colon ∷ z) q.exact;
       is = ap alone q.is;
       high_is = q.high_is;
     })
@@ -141,16 +141,16 @@ says_last words r n k =
 
 -- ---- one group more
 
-typed_is : (names rest : List Word) (q : Halves) (ns typ after : List Word) → ((a b : List Word) → q ≡ Some (a, b) → rest ≡ a ++ w.Key t.Comma ∷ b) → group_cut names q ≡ Some (ns, typ, after) → names ++ w.Key t.Colon ∷ rest ≡ ns ++ w.Key t.Colon ∷ (typ ++ w.Key t.Comma ∷ after)
+typed_is : (names rest : List Word) (q : Halves) (ns typ after : List Word) → ((a b : List Word) → q ≡ Some (a, b) → rest ≡ a ++ word_kind.Key token_kind.Comma ∷ b) → group_cut names q ≡ Some (ns, typ, after) → names ++ word_kind.Key token_kind.Colon ∷ rest ≡ ns ++ word_kind.Key token_kind.Colon ∷ (typ ++ word_kind.Key token_kind.Comma ∷ after)
 typed_is names rest None ns typ after known e = none_some {A = Group} None (ns, typ, after) refl e
 typed_is names rest (Some (a, b)) ns typ after known e =
     let l : Group = (names, a, b) in
     let o : l ≡ (ns, typ, after) = some_same {A = Group} (Some l) l (ns, typ, after) refl e in
-    ap (λ z. names ++ w.Key t.Colon ∷ z) (known a b refl) ∙ ap (λ (z : Group). z.0 ++ w.Key t.Colon ∷ (z.1 ++ w.Key t.Comma ∷ z.2)) o
+    ap (λ z. names ++ word_kind.Key token_kind.Colon ∷ z) (known a b refl) ∙ ap (λ (z : Group). z.0 ++ word_kind.Key token_kind.Colon ∷ (z.1 ++ word_kind.Key token_kind.Comma ∷ z.2)) o
 
-first_is : (words : List Word) (q : Halves) (names typ after : List Word) → ((a b : List Word) → q ≡ Some (a, b) → words ≡ a ++ w.Key t.Colon ∷ b) → typed_cut q ≡ Some (names, typ, after) → words ≡ names ++ w.Key t.Colon ∷ (typ ++ w.Key t.Comma ∷ after)
+first_is : (words : List Word) (q : Halves) (names typ after : List Word) → ((a b : List Word) → q ≡ Some (a, b) → words ≡ a ++ word_kind.Key token_kind.Colon ∷ b) → typed_cut q ≡ Some (names, typ, after) → words ≡ names ++ word_kind.Key token_kind.Colon ∷ (typ ++ word_kind.Key token_kind.Comma ∷ after)
 first_is words None names typ after known e = none_some {A = Group} None (names, typ, after) refl e
-first_is words (Some (a, b)) names typ after known e = known a b refl ∙ typed_is a b (cut marks.Comma 0 b) names typ after (cut_sound marks.Comma 0 b) e
+first_is words (Some (a, b)) names typ after known e = known a b refl ∙ typed_is a b (halves_at marks.Comma 0 b) names typ after (cut_sound marks.Comma 0 b) e
 
 more_back : (words names typ after : List Word) → first_group words ≡ Some (names, typ, after) → (all : List FormalGroup) (h : ℕ) (gs : Groups) → GroupsAreGrouped gs → words ≡ group_words gs → all ≡ groups_of gs → h ≡ tallest_groups gs → Parts (IsGroup names typ) (AreGroups after) first_of all h
 more_back words names typ after c all h (last_group ns x) g e i k = none_some (first_group words) (names, typ, after) (ap first_group e ∙ one_first ns x) c
@@ -183,10 +183,10 @@ says_more words names typ after p c k r l =
       written = and_group q.listed q.typing more.written;
       grouped = (q.grouped, more.grouped);
       exact =
-          first_is words (cut marks.Colon 0 words) names typ after (cut_sound marks.Colon 0 words) c
-          ∙ ap (λ z. z ++ w.Key t.Colon ∷ (typ ++ w.Key t.Comma ∷ after)) q.names_exact
-          ∙ ap (λ z. spell_names q.listed ++ w.Key t.Colon ∷ (z ++ w.Key t.Comma ∷ after)) q.exact
-          ∙ ap (λ z. spell_names q.listed ++ w.Key t.Colon ∷ (typing_words q.typing ++ w.Key t.Comma ∷ z)) more.exact;
+          first_is words (halves_at marks.Colon 0 words) names typ after (cut_sound marks.Colon 0 words) c
+          ∙ ap (λ z. z ++ word_kind.Key token_kind.Colon ∷ (typ ++ word_kind.Key token_kind.Comma ∷ after)) q.names_exact
+          ∙ ap (λ z. spell_names q.listed ++ word_kind.Key token_kind.Colon ∷ (z ++ word_kind.Key token_kind.Comma ∷ after)) q.exact
+          ∙ ap (λ z. spell_names q.listed ++ word_kind.Key token_kind.Colon ∷ (typing_words q.typing ++ word_kind.Key token_kind.Comma ∷ z)) more.exact;
       is = ap (λ z. z ∷ all) q.is ∙ ap (λ z. group_of (list_of_names q.listed) (type_of q.typing) ∷ z) more.is;
       high_is = ap (λ z. max z m) q.high_is ∙ ap (λ z. max (tallest_type q.typing) z) more.high_is;
     })
@@ -202,8 +202,8 @@ no_groups (and_group (and_name n ns) x gs) e = cc
 
 same_inside : (xs ys : List Word) → in_brackets xs ≡ in_brackets ys → xs ≡ ys
 same_inside xs ys e =
-    let p : xs ++ w.Key t.CloseRound ∷ [] ≡ ys ++ w.Key t.CloseRound ∷ [] = cc in
-    let k : SameEnd xs ys (w.Key t.CloseRound) (w.Key t.CloseRound) = one_end xs ys (w.Key t.CloseRound) (w.Key t.CloseRound) p in
+    let p : xs ++ word_kind.Key token_kind.CloseRound ∷ [] ≡ ys ++ word_kind.Key token_kind.CloseRound ∷ [] = cc in
+    let k : SameEnd xs ys (word_kind.Key token_kind.CloseRound) (word_kind.Key token_kind.CloseRound) = one_end xs ys (word_kind.Key token_kind.CloseRound) (word_kind.Key token_kind.CloseRound) p in
     k.fronts
 
 -- the test for no words
@@ -255,5 +255,5 @@ no_formals words n m no_brackets e = n e
 no_formals words n m empty_brackets e = m [] e
 no_formals words n m (formals gs) e = m (group_words gs) e
 
-pub says_no_formals : (words : List Word) → (words ≡ [] → ⊥) → ((inside : List Word) → words ≡ in_brackets inside → ⊥) → Says (AreFormalGroups words) (Err x.NoExpr)
+pub says_no_formals : (words : List Word) → (words ≡ [] → ⊥) → ((inside : List Word) → words ≡ in_brackets inside → ⊥) → Says (AreFormalGroups words) (Err expr_fault.NoExpr)
 says_no_formals words n m = says_nothing (AreFormalGroups words) (λ all h k. no_formals words n m k.written k.exact)

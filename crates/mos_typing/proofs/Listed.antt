@@ -2,9 +2,9 @@
 
 use Rattle.std.proofs.Common.{◌≡◌, ℕ, List, [], ◌∷◌, Option, Some, None, refl, sym, ◌∙◌, ap}
 use Rattle.std.specs.Prelude.{Result, Ok, Err, IfOk}
-use Rattle.mos_scan.specs.declared.token.TokenKind.TheVariants as t
-use Rattle.mos_scan.specs.declared.reading.Word.{Word}
-use Rattle.mos_scan.specs.declared.reading.Word.TheVariants as w
+use Rattle.mos_scan.specs.declared.token.TokenKind.TheVariants as token_kind
+use Rattle.mos_scan.specs.declared.grammar_word.Word.{Word}
+use Rattle.mos_scan.specs.declared.grammar_word.Word.TheVariants as word_kind
 use Rattle.mos_expr.specs.Grammar.{Names, one_name, and_name, spell_names, list_of_names}
 use Rattle.mos_typing.specs.Reader.{names_of, onto}
 use Rattle.mos_typing.specs.Spellings.{FindsNames}
@@ -15,20 +15,20 @@ pub record AreNames (words : List Word) (all : List (List ℕ)) : Type 0 where
   pub exact : words ≡ spell_names written
   pub is : all ≡ list_of_names written
 
-more_names : (n : List ℕ) (rest : List Word) (q : Option (List (List ℕ))) (all : List (List ℕ)) → ((more : List (List ℕ)) → q ≡ Some more → AreNames rest more) → onto (n ∷ []) q ≡ Some all → AreNames (w.Name n ∷ w.Key t.Comma ∷ rest) all
+more_names : (n : List ℕ) (rest : List Word) (q : Option (List (List ℕ))) (all : List (List ℕ)) → ((more : List (List ℕ)) → q ≡ Some more → AreNames rest more) → onto (n ∷ []) q ≡ Some all → AreNames (word_kind.Name n ∷ word_kind.Key token_kind.Comma ∷ rest) all
 more_names n rest None all known e = cc
 more_names n rest (Some more) all known e =
     let p : n ∷ more ≡ all = cc in
     let k : AreNames rest more = known more refl in
     record {
       written = and_name n k.written;
-      exact = ap (λ z. w.Name n ∷ w.Key t.Comma ∷ z) k.exact;
+      exact = ap (λ z. word_kind.Name n ∷ word_kind.Key token_kind.Comma ∷ z) k.exact;
       is = sym p ∙ ap (λ z. n ∷ z) k.is;
     }
 
 pub names_known : (words : List Word) (all : List (List ℕ)) → names_of words ≡ Some all → AreNames words all
-names_known (w.Name n ∷ []) all e = let p : n ∷ [] ≡ all = cc in record { written = one_name n; exact = refl; is = sym p }
-names_known (w.Name n ∷ w.Key t.Comma ∷ rest) all e = more_names n rest (names_of rest) all (names_known rest) e
+names_known (word_kind.Name n ∷ []) all e = let p : n ∷ [] ≡ all = cc in record { written = one_name n; exact = refl; is = sym p }
+names_known (word_kind.Name n ∷ word_kind.Key token_kind.Comma ∷ rest) all e = more_names n rest (names_of rest) all (names_known rest) e
 names_known _ all e = cc
 
 pub names_read : (ns : Names) → names_of (spell_names ns) ≡ Some (list_of_names ns)

@@ -4,16 +4,16 @@ use Rattle.std.proofs.Common.{◌≡◌, ℕ, ◌<◌, ◌≤◌, nat_le, true, 
 use Rattle.std.proofs.lemmas.Bool.{leb-true, leb-false}
 use Rattle.mos_tree.specs.declared.declaration.Dimension.TheVariants as dimension
 use Rattle.mos_tree.specs.declared.declaration.TypeForm.TheVariants as typ
-use Rattle.mos_scan.specs.declared.token.TokenKind.TheVariants as t
-use Rattle.mos_scan.specs.declared.reading.Word.{Word}
-use Rattle.mos_scan.specs.declared.reading.Word.TheVariants as w
+use Rattle.mos_scan.specs.declared.token.TokenKind.TheVariants as token_kind
+use Rattle.mos_scan.specs.declared.grammar_word.Word.{Word}
+use Rattle.mos_scan.specs.declared.grammar_word.Word.TheVariants as word_kind
 use Rattle.mos_expr.specs.Grammar.{Syntax, IsGrouped, spell, tree, height, limit, spell_names, list_of_names}
 use Rattle.mos_expr.specs.Laws.{HaveOneTree, answer_at}
 use Rattle.mos_expr.specs.Said.{IsExpression, Says}
 use Rattle.mos_expr.specs.declared.fault.ExprFault.{ExprFault}
-use Rattle.mos_expr.specs.declared.fault.ExprFault.TheVariants as x
+use Rattle.mos_expr.specs.declared.fault.ExprFault.TheVariants as expr_fault
 use Rattle.mos_typing.specs.Typing.{Dim, any_range, any_set, within, Dims, last_dim, and_dim, Typing, of_base, a_range, a_set, a_list, an_array, Groups, last_group, and_group, Formals, no_brackets, empty_brackets, formals, base_word, dim_words, dims_words, typing_words, group_words, formal_words, type_of, formals_of, tallest_type, tallest_formals, DimIsGrouped, DimsAreGrouped, TypeIsGrouped, GroupsAreGrouped, FormalsAreGrouped}
-use Rattle.mos_typing.specs.Words.{ArePlain}
+use Rattle.mos_typing.specs.PhraseWords.{ArePlain}
 use Rattle.mos_typing.specs.Joining.{on_ok, both, alone, first_of}
 use Rattle.mos_typing.specs.Reader.{group_of}
 use Rattle.mos_typing.specs.Shapes.{is_range, set_of}
@@ -32,50 +32,50 @@ use Rattle.mos_typing.proofs.Typed.{NoArray, array_words, array_back, plain_read
 -- what a call that finds its memory says
 record Known {T : Type 0} (Is : T → ℕ → Type 0) : Type 0 where
   result : Result T ExprFault
-  found : result ≡ Err x.NoMemory → ⊥
+  found : result ≡ Err expr_fault.NoMemory → ⊥
   says : Says Is result
 
 -- a part made into a whole, and two parts
-on_found : {A B : Type 0} (f : A → B) (r : Result A ExprFault) → (r ≡ Err x.NoMemory → ⊥) → on_ok f r ≡ Err x.NoMemory → ⊥
+on_found : {A B : Type 0} (f : A → B) (r : Result A ExprFault) → (r ≡ Err expr_fault.NoMemory → ⊥) → on_ok f r ≡ Err expr_fault.NoMemory → ⊥
 on_found f (Ok made) n e = cc
-on_found f (Err fault) n e = let p : fault ≡ x.NoMemory = cc in n (ap (λ z. Err z) p)
+on_found f (Err fault) n e = let p : fault ≡ expr_fault.NoMemory = cc in n (ap (λ z. Err z) p)
 
-both_found : {A B C : Type 0} (f : A → B → C) (r : Result A ExprFault) (q : Result B ExprFault) → (r ≡ Err x.NoMemory → ⊥) → (q ≡ Err x.NoMemory → ⊥) → both f r q ≡ Err x.NoMemory → ⊥
+both_found : {A B C : Type 0} (f : A → B → C) (r : Result A ExprFault) (q : Result B ExprFault) → (r ≡ Err expr_fault.NoMemory → ⊥) → (q ≡ Err expr_fault.NoMemory → ⊥) → both f r q ≡ Err expr_fault.NoMemory → ⊥
 both_found f (Ok made) q n k e = on_found (f made) q k e
-both_found f (Err x.Deep) (Ok more) n k e = cc
-both_found f (Err x.Deep) (Err fault) n k e = let p : fault ≡ x.NoMemory = cc in k (ap (λ z. Err z) p)
-both_found f (Err x.NoExpr) q n k e = cc
-both_found f (Err x.NoMemory) q n k e = n refl
+both_found f (Err expr_fault.Deep) (Ok more) n k e = cc
+both_found f (Err expr_fault.Deep) (Err fault) n k e = let p : fault ≡ expr_fault.NoMemory = cc in k (ap (λ z. Err z) p)
+both_found f (Err expr_fault.NoExpr) q n k e = cc
+both_found f (Err expr_fault.NoMemory) q n k e = n refl
 
 -- what is said of words is the answer for each thing that they spell
 answer_is : {T : Type 0} (Is : T → ℕ → Type 0) (k : Known Is) (made : T) (high : ℕ) → Is made high → answer_at made high ≡ k.result
 unfolding Says
 answer_is {T = T} Is k made high i = at k.result k.found k.says
   where
-    at : (r : Result T ExprFault) → (r ≡ Err x.NoMemory → ⊥) → Says Is r → answer_at made high ≡ r
+    at : (r : Result T ExprFault) → (r ≡ Err expr_fault.NoMemory → ⊥) → Says Is r → answer_at made high ≡ r
     at (Ok it) n s = let o = s.only made high i in on_bool (nat_le high 500) (λ e. rw e (ap (λ z. Ok z) o.0)) (λ e. absurd (omega (arith, leb-false high 500 e, o.1)))
-    at (Err x.Deep) n s = let o = s.only made high i in on_bool (nat_le high 500) (λ e. absurd (omega (arith, leb-true high 500 e, o))) (λ e. rw e refl)
-    at (Err x.NoExpr) n s = absurd (s.none made high i)
-    at (Err x.NoMemory) n s = absurd (n refl)
+    at (Err expr_fault.Deep) n s = let o = s.only made high i in on_bool (nat_le high 500) (λ e. absurd (omega (arith, leb-true high 500 e, o))) (λ e. rw e refl)
+    at (Err expr_fault.NoExpr) n s = absurd (s.none made high i)
+    at (Err expr_fault.NoMemory) n s = absurd (n refl)
 
 -- ---- expressions, by the law on their trees
 
 low_of : {T : Type 0} (other made : T) (h : ℕ) → answer_at other h ≡ Ok made → (other ≡ made) × (h ≤ limit)
 low_of other made h e = on_bool (nat_le h 500)
     (λ l. let p : Ok other ≡ Ok made = sym (rw l refl) ∙ e in (cc, omega (arith, leb-true h 500 l)))
-    (λ l. let p : Err x.Deep ≡ Ok made = sym (rw l refl) ∙ e in absurd cc)
+    (λ l. let p : Err expr_fault.Deep ≡ Ok made = sym (rw l refl) ∙ e in absurd cc)
 
-high_of : {T : Type 0} (other : T) (h : ℕ) → answer_at other h ≡ Err x.Deep → limit < h
+high_of : {T : Type 0} (other : T) (h : ℕ) → answer_at other h ≡ Err expr_fault.Deep → limit < h
 high_of other h e = on_bool (nat_le h 500)
-    (λ l. let p : Ok other ≡ Err x.Deep = sym (rw l refl) ∙ e in absurd cc)
+    (λ l. let p : Ok other ≡ Err expr_fault.Deep = sym (rw l refl) ∙ e in absurd cc)
     (λ l. omega (arith, leb-false h 500 l))
 
 known_by : {T : Type 0} (Is : T → ℕ → Type 0) (made : T) (high : ℕ) → Is made high → ((other : T) (h : ℕ) → Is other h → answer_at other h ≡ answer_at made high) → Known Is
 known_by Is made high i one = on_bool (nat_le high 500)
     (λ e. let low : answer_at made high ≡ Ok made = rw e refl in
     record { result = Ok made; found = λ n. cc; says = says_made Is made high i (omega (arith, leb-true high 500 e)) (λ other h k. low_of other made h (one other h k ∙ low)) })
-    (λ e. let deep : answer_at made high ≡ Err x.Deep = rw e refl in
-    record { result = Err x.Deep; found = λ n. cc; says = says_high Is made high i (omega (arith, leb-false high 500 e)) (λ other h k. high_of other h (one other h k ∙ deep)) })
+    (λ e. let deep : answer_at made high ≡ Err expr_fault.Deep = rw e refl in
+    record { result = Err expr_fault.Deep; found = λ n. cc; says = says_high Is made high i (omega (arith, leb-false high 500 e)) (λ other h k. high_of other h (one other h k ∙ deep)) })
 
 known_tree : HaveOneTree → (s : Syntax) → IsGrouped s → Known (IsExpression (spell s))
 known_tree law s g = known_by (IsExpression (spell s)) (tree s) (height s) (record { written = s; grouped = g; exact = refl; is = refl; high_is = refl })
@@ -88,18 +88,18 @@ no_range : (s : Syntax) → is_range (spell s) ≡ false
 no_range s = on_bool (is_range (spell s)) (λ e. absurd (at (spell s) e (syntax_goes 0 s).all)) (λ e. e)
   where
     at : (words : List Word) → is_range words ≡ true → ArePlain words → ⊥
-    at (w.Key t.Range ∷ []) e k = cc
+    at (word_kind.Key token_kind.Range ∷ []) e k = cc
     at _ e k = cc
 
 known_dim : HaveOneTree → (d : Dim) → DimIsGrouped d → Known (IsDimension (dim_words d))
-known_dim law any_range g = record { result = Ok dimension.Range; found = λ n. cc; says = says_range (w.Key t.Range ∷ []) refl }
+known_dim law any_range g = record { result = Ok dimension.Range; found = λ n. cc; says = says_range (word_kind.Key token_kind.Range ∷ []) refl }
 known_dim law (any_set b) g =
     record { result = Ok (dimension.Set b); found = λ n. cc; says = says_set (dim_words (any_set b)) (base_word b) (Ok b) (Ok (dimension.Set b)) refl (rw (base_read b) refl) refl }
 known_dim law (within s) g =
     let k = known_tree law s g in record {
-      result = on_ok dimension.Over k.result;
-      found = on_found dimension.Over k.result k.found;
-      says = says_over (spell s) k.result (on_ok dimension.Over k.result) (no_range s) (λ b e. let p : ArePlain (set_of b) = subst ArePlain e (syntax_goes 0 s).all in absurd cc) k.says refl;
+      result = on_ok dimension.IndexSet k.result;
+      found = on_found dimension.IndexSet k.result k.found;
+      says = says_over (spell s) k.result (on_ok dimension.IndexSet k.result) (no_range s) (λ b e. let p : ArePlain (set_of b) = subst ArePlain e (syntax_goes 0 s).all in absurd cc) k.says refl;
     }
 
 known_dims : HaveOneTree → (ds : Dims) → DimsAreGrouped ds → Known (AreDimensions (dims_words ds))

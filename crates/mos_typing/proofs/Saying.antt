@@ -3,11 +3,11 @@
 use Rattle.std.proofs.Common.{◌≡◌, ℕ, ◌<◌, ◌≤◌, max, Result, Ok, Err, refl, sym, ◌∙◌, ap, subst, arith}
 use Rattle.mos_expr.specs.Grammar.{limit}
 use Rattle.mos_expr.specs.declared.fault.ExprFault.{ExprFault}
-use Rattle.mos_expr.specs.declared.fault.ExprFault.TheVariants as x
+use Rattle.mos_expr.specs.declared.fault.ExprFault.TheVariants as expr_fault
 use Rattle.mos_typing.specs.Joining.{on_ok, both}
 use Rattle.mos_expr.specs.Said.{Made, TooHigh, Nothing, Says, Gives}
 
-pub says_nothing : {T : Type 0} (Is : T → ℕ → Type 0) → ((t : T) (h : ℕ) → Is t h → ⊥) → Says Is (Err x.NoExpr)
+pub says_nothing : {T : Type 0} (Is : T → ℕ → Type 0) → ((t : T) (h : ℕ) → Is t h → ⊥) → Says Is (Err expr_fault.NoExpr)
 unfolding Says
 says_nothing Is n = record { none = n }
 
@@ -15,19 +15,19 @@ pub says_made : {T : Type 0} (Is : T → ℕ → Type 0) (made : T) (high : ℕ)
 unfolding Says
 says_made Is made high i l o = record { high = high; is = i; low = l; only = o }
 
-pub says_high : {T : Type 0} (Is : T → ℕ → Type 0) (made : T) (high : ℕ) → Is made high → limit < high → ((t : T) (h : ℕ) → Is t h → limit < h) → Says Is (Err x.Deep)
+pub says_high : {T : Type 0} (Is : T → ℕ → Type 0) (made : T) (high : ℕ) → Is made high → limit < high → ((t : T) (h : ℕ) → Is t h → limit < h) → Says Is (Err expr_fault.Deep)
 unfolding Says
 says_high Is made high i a o = record { made = made; high = high; is = i; above = a; only = o }
 
-pub says_want : {T : Type 0} (Is : T → ℕ → Type 0) → Says Is (Err x.NoMemory)
+pub says_want : {T : Type 0} (Is : T → ℕ → Type 0) → Says Is (Err expr_fault.NoMemory)
 unfolding Says
 says_want Is = tt
 
 pub says_gives : {T : Type 0} (Is : T → ℕ → Type 0) (r y : Result T ExprFault) → Gives r y → Says Is y → Says Is r
 unfolding Says
-says_gives Is (Err x.NoMemory) y e k = tt
-says_gives Is (Err x.NoExpr) y e k = subst (Says Is) (sym e) k
-says_gives Is (Err x.Deep) y e k = subst (Says Is) (sym e) k
+says_gives Is (Err expr_fault.NoMemory) y e k = tt
+says_gives Is (Err expr_fault.NoExpr) y e k = subst (Says Is) (sym e) k
+says_gives Is (Err expr_fault.Deep) y e k = subst (Says Is) (sym e) k
 says_gives Is (Ok made) y e k = subst (Says Is) (sym e) k
 
 -- what is said of a part is said of the whole
@@ -39,15 +39,15 @@ says_on_ok P Q f (Ok s) out back k = record {
   low = k.low;
   only = λ t h q. ((back t h q).2 ∙ ap f (k.only (back t h q).0 h (back t h q).1).0, (k.only (back t h q).0 h (back t h q).1).1);
 }
-says_on_ok P Q f (Err x.Deep) out back k = record {
+says_on_ok P Q f (Err expr_fault.Deep) out back k = record {
   made = f k.made;
   high = k.high;
   is = out k.made k.high k.is;
   above = k.above;
   only = λ t h q. k.only (back t h q).0 h (back t h q).1;
 }
-says_on_ok P Q f (Err x.NoExpr) out back k = record { none = λ t h q. k.none (back t h q).0 h (back t h q).1 }
-says_on_ok P Q f (Err x.NoMemory) out back k = tt
+says_on_ok P Q f (Err expr_fault.NoExpr) out back k = record { none = λ t h q. k.none (back t h q).0 h (back t h q).1 }
+says_on_ok P Q f (Err expr_fault.NoMemory) out back k = tt
 
 on_ok_same : {T : Type 0} (r : Result T ExprFault) → on_ok (λ z. z) r ≡ r
 on_ok_same (Ok made) = refl
@@ -125,12 +125,12 @@ module _ {A B C : Type 0} (P : A → ℕ → Type 0) (R : B → ℕ → Type 0) 
   pub says_both : (p : Result A ExprFault) (r : Result B ExprFault) → Says P p → Says R r → Says Q (both f p r)
   unfolding Says
   says_both (Ok a) (Ok b) k l = two_made a b k l
-  says_both (Ok a) (Err x.Deep) k l = high_rest l a k.high k.is (above_rest l)
-  says_both (Ok a) (Err x.NoExpr) k l = none_rest l
-  says_both (Ok a) (Err x.NoMemory) k l = tt
-  says_both (Err x.Deep) (Ok b) k l = high_first k b l.high l.is (above_first k)
-  says_both (Err x.Deep) (Err x.Deep) k l = high_first k l.made l.high l.is (above_first k)
-  says_both (Err x.Deep) (Err x.NoExpr) k l = none_rest l
-  says_both (Err x.Deep) (Err x.NoMemory) k l = tt
-  says_both (Err x.NoExpr) r k l = none_first k
-  says_both (Err x.NoMemory) r k l = tt
+  says_both (Ok a) (Err expr_fault.Deep) k l = high_rest l a k.high k.is (above_rest l)
+  says_both (Ok a) (Err expr_fault.NoExpr) k l = none_rest l
+  says_both (Ok a) (Err expr_fault.NoMemory) k l = tt
+  says_both (Err expr_fault.Deep) (Ok b) k l = high_first k b l.high l.is (above_first k)
+  says_both (Err expr_fault.Deep) (Err expr_fault.Deep) k l = high_first k l.made l.high l.is (above_first k)
+  says_both (Err expr_fault.Deep) (Err expr_fault.NoExpr) k l = none_rest l
+  says_both (Err expr_fault.Deep) (Err expr_fault.NoMemory) k l = tt
+  says_both (Err expr_fault.NoExpr) r k l = none_first k
+  says_both (Err expr_fault.NoMemory) r k l = tt

@@ -4,9 +4,9 @@ use Rattle.std.proofs.Common.{◌≡◌, ℕ, ◌+◌, ◌≤◌, List, [], ◌�
 use Rattle.std.proofs.lemmas.List.Sums.{sum-map, sum_by-cons}
 use Rattle.mos_tree.specs.declared.declaration.Dimension.{Dimension}
 use Rattle.mos_tree.specs.Sizes.{size_of_dimension, size_of_type, size_of_formal, size_of_formals}
-use Rattle.mos_scan.specs.declared.token.TokenKind.TheVariants as t
-use Rattle.mos_scan.specs.declared.reading.Word.{Word}
-use Rattle.mos_scan.specs.declared.reading.Word.TheVariants as w
+use Rattle.mos_scan.specs.declared.token.TokenKind.TheVariants as token_kind
+use Rattle.mos_scan.specs.declared.grammar_word.Word.{Word}
+use Rattle.mos_scan.specs.declared.grammar_word.Word.TheVariants as word_kind
 use Rattle.mos_expr.specs.Grammar.{spell, tree, height, spell_names, list_of_names}
 use Rattle.mos_expr.specs.Sizes.{ExpressionIsSmall}
 use Rattle.mos_typing.specs.Typing.{Dim, any_range, any_set, within, Dims, last_dim, and_dim, Typing, of_base, a_range, a_set, a_list, an_array, Groups, last_group, and_group, Formals, no_brackets, empty_brackets, formals, base_words, dynamic_words, dim_words, dims_words, typing_words, group_words, formal_words, in_brackets, dimension_of, dimensions_of, type_of, groups_of, formals_of, DimIsGrouped, DimsAreGrouped, TypeIsGrouped, GroupsAreGrouped, FormalsAreGrouped}
@@ -38,7 +38,7 @@ module _ (small : ExpressionIsSmall) where
       let h : size_of_dimension (dimension_of d) ≤ length (dim_words d) = dim_small d g.0 in
       let k : size_of_dimensions (dimensions_of ds) ≤ length (dims_words ds) = dims_small ds g.1 in
       let e : size_of_dimensions (dimension_of d ∷ dimensions_of ds) ≡ size_of_dimension (dimension_of d) + size_of_dimensions (dimensions_of ds) = sum_more size_of_dimension (dimension_of d) (dimensions_of ds) in
-      let l : length (dim_words d ++ w.Key t.Comma ∷ dims_words ds) ≡ length (dim_words d) + (length (dims_words ds) + 1) = appended (dim_words d) (w.Key t.Comma) (dims_words ds) in
+      let l : length (dim_words d ++ word_kind.Key token_kind.Comma ∷ dims_words ds) ≡ length (dim_words d) + (length (dims_words ds) + 1) = appended (dim_words d) (word_kind.Key token_kind.Comma) (dims_words ds) in
       omega (arith, h, k, e, l)
 
   type_small : (x : Typing) → TypeIsGrouped x → size_of_type (type_of x) ≤ length (typing_words x)
@@ -48,24 +48,24 @@ module _ (small : ExpressionIsSmall) where
   type_small (a_list b) g = omega arith
   type_small (an_array dynamic ds b) g =
       let h : size_of_dimensions (dimensions_of ds) ≤ length (dims_words ds) = dims_small ds g in
-      let i : length (dims_words ds ++ w.Key t.CloseRound ∷ []) ≡ length (dims_words ds) + 1 = appended (dims_words ds) (w.Key t.CloseRound) ([]) in
-      let j : length (in_brackets (dims_words ds) ++ w.Key t.Of ∷ base_words b) ≡ length (in_brackets (dims_words ds)) + (length (base_words b) + 1) = appended (in_brackets (dims_words ds)) (w.Key t.Of) (base_words b) in
-      let m : length (in_brackets (dims_words ds)) ≡ length (dims_words ds ++ w.Key t.CloseRound ∷ []) + 1 = omega arith in
-      let k : length (dynamic_words dynamic ++ w.Key t.Array ∷ (in_brackets (dims_words ds) ++ w.Key t.Of ∷ base_words b)) ≡ length (dynamic_words dynamic) + (length (in_brackets (dims_words ds) ++ w.Key t.Of ∷ base_words b) + 1) = appended (dynamic_words dynamic) (w.Key t.Array) ((in_brackets (dims_words ds) ++ w.Key t.Of ∷ base_words b)) in
+      let i : length (dims_words ds ++ word_kind.Key token_kind.CloseRound ∷ []) ≡ length (dims_words ds) + 1 = appended (dims_words ds) (word_kind.Key token_kind.CloseRound) ([]) in
+      let j : length (in_brackets (dims_words ds) ++ word_kind.Key token_kind.Of ∷ base_words b) ≡ length (in_brackets (dims_words ds)) + (length (base_words b) + 1) = appended (in_brackets (dims_words ds)) (word_kind.Key token_kind.Of) (base_words b) in
+      let m : length (in_brackets (dims_words ds)) ≡ length (dims_words ds ++ word_kind.Key token_kind.CloseRound ∷ []) + 1 = omega arith in
+      let k : length (dynamic_words dynamic ++ word_kind.Key token_kind.Array ∷ (in_brackets (dims_words ds) ++ word_kind.Key token_kind.Of ∷ base_words b)) ≡ length (dynamic_words dynamic) + (length (in_brackets (dims_words ds) ++ word_kind.Key token_kind.Of ∷ base_words b) + 1) = appended (dynamic_words dynamic) (word_kind.Key token_kind.Array) ((in_brackets (dims_words ds) ++ word_kind.Key token_kind.Of ∷ base_words b)) in
       omega (arith, h, i, j, k, m)
 
   groups_small : (xs : Groups) → GroupsAreGrouped xs → size_of_formals (groups_of xs) ≤ length (group_words xs)
   groups_small (last_group ns x) g =
       let h : size_of_type (type_of x) ≤ length (typing_words x) = type_small x g in
       let e : size_of_formals (groups_of (last_group ns x)) ≡ size_of_type (type_of x) + 0 = sum_more size_of_formal (record { names = list_of_names ns; typ = type_of x }) [] in
-      let l : length (spell_names ns ++ w.Key t.Colon ∷ typing_words x) ≡ length (spell_names ns) + (length (typing_words x) + 1) = appended (spell_names ns) (w.Key t.Colon) (typing_words x) in
+      let l : length (spell_names ns ++ word_kind.Key token_kind.Colon ∷ typing_words x) ≡ length (spell_names ns) + (length (typing_words x) + 1) = appended (spell_names ns) (word_kind.Key token_kind.Colon) (typing_words x) in
       omega (arith, h, e, l)
   groups_small (and_group ns x rest) g =
       let h : size_of_type (type_of x) ≤ length (typing_words x) = type_small x g.0 in
       let k : size_of_formals (groups_of rest) ≤ length (group_words rest) = groups_small rest g.1 in
       let e : size_of_formals (groups_of (and_group ns x rest)) ≡ size_of_type (type_of x) + size_of_formals (groups_of rest) = sum_more size_of_formal (record { names = list_of_names ns; typ = type_of x }) (groups_of rest) in
-      let i : length (typing_words x ++ w.Key t.Comma ∷ group_words rest) ≡ length (typing_words x) + (length (group_words rest) + 1) = appended (typing_words x) (w.Key t.Comma) (group_words rest) in
-      let l : length (spell_names ns ++ w.Key t.Colon ∷ (typing_words x ++ w.Key t.Comma ∷ group_words rest)) ≡ length (spell_names ns) + (length (typing_words x ++ w.Key t.Comma ∷ group_words rest) + 1) = appended (spell_names ns) (w.Key t.Colon) ((typing_words x ++ w.Key t.Comma ∷ group_words rest)) in
+      let i : length (typing_words x ++ word_kind.Key token_kind.Comma ∷ group_words rest) ≡ length (typing_words x) + (length (group_words rest) + 1) = appended (typing_words x) (word_kind.Key token_kind.Comma) (group_words rest) in
+      let l : length (spell_names ns ++ word_kind.Key token_kind.Colon ∷ (typing_words x ++ word_kind.Key token_kind.Comma ∷ group_words rest)) ≡ length (spell_names ns) + (length (typing_words x ++ word_kind.Key token_kind.Comma ∷ group_words rest) + 1) = appended (spell_names ns) (word_kind.Key token_kind.Colon) ((typing_words x ++ word_kind.Key token_kind.Comma ∷ group_words rest)) in
       omega (arith, h, k, e, i, l)
 
   formals_small : (xs : Formals) → FormalsAreGrouped xs → size_of_formals (formals_of xs) ≤ length (formal_words xs)
@@ -73,7 +73,7 @@ module _ (small : ExpressionIsSmall) where
   formals_small empty_brackets g = omega arith
   formals_small (formals xs) g =
       let h : size_of_formals (groups_of xs) ≤ length (group_words xs) = groups_small xs g in
-      let l : length (group_words xs ++ w.Key t.CloseRound ∷ []) ≡ length (group_words xs) + 1 = appended (group_words xs) (w.Key t.CloseRound) ([]) in
+      let l : length (group_words xs ++ word_kind.Key token_kind.CloseRound ∷ []) ≡ length (group_words xs) + 1 = appended (group_words xs) (word_kind.Key token_kind.CloseRound) ([]) in
       omega (arith, h, l)
 
   pub type_is_small : TypeIsSmall

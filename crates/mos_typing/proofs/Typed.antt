@@ -6,12 +6,12 @@ use Rattle.mos_tree.specs.declared.declaration.BaseType.TheVariants as base
 use Rattle.mos_tree.specs.declared.declaration.Dimension.{Dimension}
 use Rattle.mos_tree.specs.declared.declaration.TypeForm.{TypeForm}
 use Rattle.mos_tree.specs.declared.declaration.TypeForm.TheVariants as typ
-use Rattle.mos_scan.specs.declared.token.TokenKind.TheVariants as t
-use Rattle.mos_scan.specs.declared.reading.Word.{Word}
-use Rattle.mos_scan.specs.declared.reading.Word.TheVariants as w
+use Rattle.mos_scan.specs.declared.token.TokenKind.TheVariants as token_kind
+use Rattle.mos_scan.specs.declared.grammar_word.Word.{Word}
+use Rattle.mos_scan.specs.declared.grammar_word.Word.TheVariants as word_kind
 use Rattle.mos_expr.specs.Said.{Gives, Says}
 use Rattle.mos_expr.specs.declared.fault.ExprFault.{ExprFault}
-use Rattle.mos_expr.specs.declared.fault.ExprFault.TheVariants as x
+use Rattle.mos_expr.specs.declared.fault.ExprFault.TheVariants as expr_fault
 use Rattle.mos_typing.specs.Typing.{Dims, Typing, of_base, a_range, a_set, a_list, an_array, base_word, base_words, dynamic_words, dims_words, typing_words, dimensions_of, type_of, tallest_type, TypeIsGrouped}
 use Rattle.mos_typing.specs.Joining.{on_ok, or_nothing}
 use Rattle.mos_typing.specs.Reader.{base_of, plain_type}
@@ -29,7 +29,7 @@ abbrev pub words_of_array : Bool → List Word → Word → List Word
 words_of_array dynamic ds b = dynamic_words dynamic ++ array_of ds b
 
 pub array_words : (dynamic : Bool) (ds : Dims) (b : BaseType) → typing_words (an_array dynamic ds b) ≡ words_of_array dynamic (dims_words ds) (base_word b)
-array_words dynamic ds b = ap (λ z. dynamic_words dynamic ++ w.Key t.Array ∷ w.Key t.OpenRound ∷ z) (append_assoc (dims_words ds) (w.Key t.CloseRound ∷ []) (w.Key t.Of ∷ base_words b))
+array_words dynamic ds b = ap (λ z. dynamic_words dynamic ++ word_kind.Key token_kind.Array ∷ word_kind.Key token_kind.OpenRound ∷ z) (append_assoc (dims_words ds) (word_kind.Key token_kind.CloseRound ∷ []) (word_kind.Key token_kind.Of ∷ base_words b))
 
 -- the type is this array
 pub record IsArray (dynamic : Bool) (ds : List Word) (b : Word) (x : Typing) : Type 0 where
@@ -41,14 +41,14 @@ pub record IsArray (dynamic : Bool) (ds : List Word) (b : Word) (x : Typing) : T
 
 same_array : (dynamic : Bool) (ds : List Word) (b : Word) (dims : Dims) (cell : BaseType) → array_of ds b ≡ array_of (dims_words dims) (base_word cell) → IsArray dynamic ds b (an_array dynamic dims cell)
 same_array dynamic ds b dims cell e =
-    let more : List Word = w.Key t.CloseRound ∷ w.Key t.Of ∷ [] in
+    let more : List Word = word_kind.Key token_kind.CloseRound ∷ word_kind.Key token_kind.Of ∷ [] in
     let p : ds ++ (more ++ b ∷ []) ≡ dims_words dims ++ (more ++ base_word cell ∷ []) = cc in
     let k : SameEnd ds (dims_words dims) b (base_word cell) = behind_same ds (dims_words dims) more b (base_word cell) p in
     record { dims = dims; cell = cell; is = refl; inside = k.fronts; cell_is = k.lasts }
 
 pub array_back : (dynamic : Bool) (ds : List Word) (b : Word) (x : Typing) → words_of_array dynamic ds b ≡ typing_words x → IsArray dynamic ds b x
 array_back true ds b (an_array true dims cell) e =
-    let p : w.Key t.Dynamic ∷ array_of ds b ≡ w.Key t.Dynamic ∷ array_of (dims_words dims) (base_word cell) = e ∙ array_words true dims cell in
+    let p : word_kind.Key token_kind.Dynamic ∷ array_of ds b ≡ word_kind.Key token_kind.Dynamic ∷ array_of (dims_words dims) (base_word cell) = e ∙ array_words true dims cell in
     let q : array_of ds b ≡ array_of (dims_words dims) (base_word cell) = cc in
     same_array true ds b dims cell q
 array_back false ds b (an_array false dims cell) e = same_array false ds b dims cell (e ∙ array_words false dims cell)
@@ -59,7 +59,7 @@ array_back _ ds b _ e = cc
 cell_read : (b : Word) (cell : BaseType) → b ≡ base_word cell → base_of b ≡ Some cell
 cell_read b cell e = ap base_of e ∙ base_read cell
 
-pub says_no_cell : (dynamic : Bool) (ds : List Word) (b : Word) → None ≡ base_of b → Says (IsTypeForm (words_of_array dynamic ds b)) (Err x.NoExpr)
+pub says_no_cell : (dynamic : Bool) (ds : List Word) (b : Word) → None ≡ base_of b → Says (IsTypeForm (words_of_array dynamic ds b)) (Err expr_fault.NoExpr)
 says_no_cell dynamic ds b e =
     says_nothing (IsTypeForm (words_of_array dynamic ds b))
     (λ made h k. let a : IsArray dynamic ds b k.written = array_back dynamic ds b k.written k.exact in none_some (base_of b) a.cell (sym e) (cell_read b a.cell a.cell_is))
@@ -96,31 +96,31 @@ base_made : (f : BaseType → TypeForm) (q : Option BaseType) (made : TypeForm) 
 base_made f None made e = cc
 base_made f (Some b) made e = (b, refl, cc)
 
-base_fault : (f : BaseType → TypeForm) (q : Option BaseType) (fault : ExprFault) → on_ok f (or_nothing q) ≡ Err fault → fault ≡ x.NoExpr
+base_fault : (f : BaseType → TypeForm) (q : Option BaseType) (fault : ExprFault) → on_ok f (or_nothing q) ≡ Err fault → fault ≡ expr_fault.NoExpr
 base_fault f None fault e = cc
 base_fault f (Some b) fault e = cc
 
 plain_known : (words : List Word) (made : TypeForm) → plain_type words ≡ Ok made → IsTypeForm words made 0
-plain_known (w.Key t.Range ∷ []) made e = record { written = a_range; grouped = tt; exact = refl; is = cc; high_is = refl }
-plain_known (w.Key t.Set ∷ w.Key t.Of ∷ b ∷ []) made e =
+plain_known (word_kind.Key token_kind.Range ∷ []) made e = record { written = a_range; grouped = tt; exact = refl; is = cc; high_is = refl }
+plain_known (word_kind.Key token_kind.Set ∷ word_kind.Key token_kind.Of ∷ b ∷ []) made e =
     let k = base_made typ.Set (base_of b) made e in record { written = a_set k.0; grouped = tt; exact = ap set_of (base_known b k.0 k.1); is = k.2; high_is = refl }
-plain_known (w.Key t.List ∷ w.Key t.Of ∷ b ∷ []) made e =
-    let k = base_made typ.List (base_of b) made e in record { written = a_list k.0; grouped = tt; exact = ap (λ z. w.Key t.List ∷ w.Key t.Of ∷ z ∷ []) (base_known b k.0 k.1); is = k.2; high_is = refl }
+plain_known (word_kind.Key token_kind.List ∷ word_kind.Key token_kind.Of ∷ b ∷ []) made e =
+    let k = base_made typ.List (base_of b) made e in record { written = a_list k.0; grouped = tt; exact = ap (λ z. word_kind.Key token_kind.List ∷ word_kind.Key token_kind.Of ∷ z ∷ []) (base_known b k.0 k.1); is = k.2; high_is = refl }
 plain_known (b ∷ []) made e =
     let k = base_made typ.Base (base_of b) made e in record { written = of_base k.0; grouped = tt; exact = ap (λ z. z ∷ []) (base_known b k.0 k.1); is = k.2; high_is = refl }
 plain_known _ made e = cc
 
-plain_fault : (words : List Word) (fault : ExprFault) → plain_type words ≡ Err fault → fault ≡ x.NoExpr
-plain_fault (w.Key t.Range ∷ []) fault e = cc
-plain_fault (w.Key t.Set ∷ w.Key t.Of ∷ b ∷ []) fault e = base_fault typ.Set (base_of b) fault e
-plain_fault (w.Key t.List ∷ w.Key t.Of ∷ b ∷ []) fault e = base_fault typ.List (base_of b) fault e
+plain_fault : (words : List Word) (fault : ExprFault) → plain_type words ≡ Err fault → fault ≡ expr_fault.NoExpr
+plain_fault (word_kind.Key token_kind.Range ∷ []) fault e = cc
+plain_fault (word_kind.Key token_kind.Set ∷ word_kind.Key token_kind.Of ∷ b ∷ []) fault e = base_fault typ.Set (base_of b) fault e
+plain_fault (word_kind.Key token_kind.List ∷ word_kind.Key token_kind.Of ∷ b ∷ []) fault e = base_fault typ.List (base_of b) fault e
 plain_fault (b ∷ []) fault e = base_fault typ.Base (base_of b) fault e
 plain_fault _ fault e = cc
 
 abbrev pub NoArray : List Word → Type 0
 NoArray words = (dynamic : Bool) (ds : List Word) (b : Word) → words ≡ words_of_array dynamic ds b → ⊥
 
-no_array : (words : List Word) → ((rest : List Word) → words ≡ w.Key t.Dynamic ∷ rest → ⊥) → ((ds : List Word) (b : Word) → words ≡ array_of ds b → ⊥) → NoArray words
+no_array : (words : List Word) → ((rest : List Word) → words ≡ word_kind.Key token_kind.Dynamic ∷ rest → ⊥) → ((ds : List Word) (b : Word) → words ≡ array_of ds b → ⊥) → NoArray words
 no_array words n m true ds b e = n (array_of ds b) e
 no_array words n m false ds b e = m ds b e
 
@@ -153,20 +153,20 @@ plain_says words (Err fault) n e =
     let q : Ok (type_of k.written) ≡ Err fault = sym (ap plain_type k.exact ∙ r.value) ∙ e in
     cc))
 
-pub says_plain : (words : List Word) (r : Result TypeForm ExprFault) → ((rest : List Word) → words ≡ w.Key t.Dynamic ∷ rest → ⊥) → ((ds : List Word) (b : Word) → words ≡ array_of ds b → ⊥) → Gives r (plain_type words) → Says (IsTypeForm words) r
+pub says_plain : (words : List Word) (r : Result TypeForm ExprFault) → ((rest : List Word) → words ≡ word_kind.Key token_kind.Dynamic ∷ rest → ⊥) → ((ds : List Word) (b : Word) → words ≡ array_of ds b → ⊥) → Gives r (plain_type words) → Says (IsTypeForm words) r
 says_plain words r n m g = says_gives (IsTypeForm words) r (plain_type words) g (plain_says words (plain_type words) (no_array words n m) refl)
 
 -- ---- the word `dynamic`
 
-no_dynamic : (words : List Word) → ((ds : List Word) (b : Word) → words ≡ array_of ds b → ⊥) → (x : Typing) → w.Key t.Dynamic ∷ words ≡ typing_words x → ⊥
+no_dynamic : (words : List Word) → ((ds : List Word) (b : Word) → words ≡ array_of ds b → ⊥) → (x : Typing) → word_kind.Key token_kind.Dynamic ∷ words ≡ typing_words x → ⊥
 no_dynamic words n (an_array true dims cell) e =
-    let p : w.Key t.Dynamic ∷ words ≡ w.Key t.Dynamic ∷ array_of (dims_words dims) (base_word cell) = e ∙ array_words true dims cell in
+    let p : word_kind.Key token_kind.Dynamic ∷ words ≡ word_kind.Key token_kind.Dynamic ∷ array_of (dims_words dims) (base_word cell) = e ∙ array_words true dims cell in
     n (dims_words dims) (base_word cell) cc
 no_dynamic words n (of_base base.Integer) e = cc
 no_dynamic words n _ e = cc
 
-pub says_no_dynamic : (words : List Word) → ((ds : List Word) (b : Word) → words ≡ array_of ds b → ⊥) → Says (IsTypeForm (w.Key t.Dynamic ∷ words)) (Err x.NoExpr)
-says_no_dynamic words n = says_nothing (IsTypeForm (w.Key t.Dynamic ∷ words)) (λ made h k. no_dynamic words n k.written k.exact)
+pub says_no_dynamic : (words : List Word) → ((ds : List Word) (b : Word) → words ≡ array_of ds b → ⊥) → Says (IsTypeForm (word_kind.Key token_kind.Dynamic ∷ words)) (Err expr_fault.NoExpr)
+says_no_dynamic words n = says_nothing (IsTypeForm (word_kind.Key token_kind.Dynamic ∷ words)) (λ made h k. no_dynamic words n k.written k.exact)
 
 -- what is said of an array is said of the words that are one
 pub says_as : (words more : List Word) (r : Result TypeForm ExprFault) → words ≡ more → Says (IsTypeForm more) r → Says (IsTypeForm words) r

@@ -4,7 +4,7 @@
 
 use Rattle.std.specs.Prelude.{List, [], ◌∷◌, ◌++◌, Option, Some, None, Result, Ok, Err}
 use Rattle.mos_expr.specs.declared.fault.ExprFault.{ExprFault}
-use Rattle.mos_expr.specs.declared.fault.ExprFault.TheVariants as x
+use Rattle.mos_expr.specs.declared.fault.ExprFault.TheVariants as expr_fault
 
 -- a whole of one part
 abbrev pub on_ok : {A B : Type 0} → (A → B) → Result A ExprFault → Result B ExprFault
@@ -13,7 +13,7 @@ on_ok f (Err fault) = Err fault
 
 -- what may be nothing
 abbrev pub or_nothing : {A : Type 0} → Option A → Result A ExprFault
-or_nothing None = Err x.NoExpr
+or_nothing None = Err expr_fault.NoExpr
 or_nothing (Some made) = Ok made
 
 -- two parts side by side
@@ -23,13 +23,13 @@ pair first rest = (first, rest)
 -- a whole of two parts
 abbrev pub both : {A B C : Type 0} → (A → B → C) → Result A ExprFault → Result B ExprFault → Result C ExprFault
 both f (Ok made) r = on_ok (f made) r
-both f (Err x.Deep) (Ok more) = Err x.Deep
-both f (Err x.Deep) (Err fault) = Err fault
+both f (Err expr_fault.Deep) (Ok more) = Err expr_fault.Deep
+both f (Err expr_fault.Deep) (Err fault) = Err fault
 both f (Err fault) r = Err fault
 
 -- the items so far, None where one is too high, before what is said of the rest
 abbrev pub behind : {A : Type 0} → Option (List A) → Result (List A) ExprFault → Result (List A) ExprFault
-behind None (Ok more) = Err x.Deep
+behind None (Ok more) = Err expr_fault.Deep
 behind None (Err fault) = Err fault
 behind (Some done) r = on_ok (λ more. done ++ more) r
 
@@ -43,5 +43,5 @@ first_of made more = made ∷ more
 
 -- two parts of which the first is too high
 abbrev pub beside_too_high : {A B : Type 0} → Result B ExprFault → Result (A × B) ExprFault
-beside_too_high (Ok rest) = Err x.Deep
+beside_too_high (Ok rest) = Err expr_fault.Deep
 beside_too_high (Err fault) = Err fault

@@ -4,7 +4,7 @@ use Rattle.std.specs.Prelude.{◌≡◌, ℕ, ◌≤◌, List, length}
 use Rattle.mos_tree.specs.declared.declaration.TypeForm.{TypeForm}
 use Rattle.mos_tree.specs.declared.declaration.FormalGroup.{FormalGroup}
 use Rattle.mos_tree.specs.Sizes.{size_of_type, size_of_formals}
-use Rattle.mos_scan.specs.declared.reading.Word.{Word}
+use Rattle.mos_scan.specs.declared.grammar_word.Word.{Word}
 use Rattle.mos_expr.specs.Laws.{answer_at}
 use Rattle.mos_typing.specs.Spellings.{IsTypeForm, AreFormalGroups}
 use Rattle.mos_typing.specs.Typing.{Typing, Formals, IsTyping, AreFormals, type_of, formals_of, tallest_type, tallest_formals}

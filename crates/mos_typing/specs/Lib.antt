@@ -6,4 +6,4 @@ pub mod Reader
 pub mod Shapes
 pub mod Spellings
 pub mod Typing
-pub mod Words
+pub mod PhraseWords

@@ -3,7 +3,7 @@
 use Rattle.std.specs.Prelude.{◌≡◌, ℕ, List, [], ◌∷◌}
 use Rattle.mos_tree.specs.declared.declaration.Dimension.{Dimension}
 use Rattle.mos_tree.specs.declared.declaration.FormalGroup.{FormalGroup}
-use Rattle.mos_scan.specs.declared.reading.Word.{Word}
+use Rattle.mos_scan.specs.declared.grammar_word.Word.{Word}
 use Rattle.mos_expr.specs.Grammar.{Names, spell_names, list_of_names}
 use Rattle.mos_expr.specs.Said.{Spelled}
 use Rattle.mos_typing.specs.Typing

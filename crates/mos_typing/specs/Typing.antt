@@ -9,9 +9,9 @@ use Rattle.mos_tree.specs.declared.declaration.TypeForm.{TypeForm}
 use Rattle.mos_tree.specs.declared.declaration.TypeForm.TheVariants as typ
 use Rattle.mos_tree.specs.declared.declaration.FormalGroup.{FormalGroup}
 use Rattle.mos_scan.specs.declared.token.TokenKind.{TokenKind}
-use Rattle.mos_scan.specs.declared.token.TokenKind.TheVariants as t
-use Rattle.mos_scan.specs.declared.reading.Word.{Word}
-use Rattle.mos_scan.specs.declared.reading.Word.TheVariants as w
+use Rattle.mos_scan.specs.declared.token.TokenKind.TheVariants as token_kind
+use Rattle.mos_scan.specs.declared.grammar_word.Word.{Word}
+use Rattle.mos_scan.specs.declared.grammar_word.Word.TheVariants as word_kind
 use Rattle.mos_expr.specs.Grammar.{Syntax, Names, spell, spell_names, list_of_names, IsGrouped, height, tree}
 
 -- ---- what is written
@@ -50,18 +50,18 @@ pub data Formals : Type 0 where
 
 -- one token
 abbrev pub key : TokenKind → List Word
-key kind = w.Key kind ∷ []
+key kind = word_kind.Key kind ∷ []
 
 -- words in round brackets
 abbrev pub in_brackets : List Word → List Word
-in_brackets words = w.Key t.OpenRound ∷ (words ++ key t.CloseRound)
+in_brackets words = word_kind.Key token_kind.OpenRound ∷ (words ++ key token_kind.CloseRound)
 
 -- the word of a type of one word
 abbrev pub base_word : BaseType → Word
-base_word base.Integer = w.Key t.Integer
-base_word base.Boolean = w.Key t.Boolean
-base_word base.Text = w.Key t.StringWord
-base_word (base.Named n) = w.Name n
+base_word base.Integer = word_kind.Key token_kind.Integer
+base_word base.Boolean = word_kind.Key token_kind.Boolean
+base_word base.Text = word_kind.Key token_kind.StringWord
+base_word (base.Named n) = word_kind.Name n
 
 -- that word alone
 abbrev pub base_words : BaseType → List Word
@@ -69,32 +69,32 @@ base_words b = base_word b ∷ []
 
 -- the word `dynamic`, where it stands
 abbrev pub dynamic_words : Bool → List Word
-dynamic_words true = key t.Dynamic
+dynamic_words true = key token_kind.Dynamic
 dynamic_words false = []
 
 -- the words of one index
 abbrev pub dim_words : Dim → List Word
-dim_words any_range = key t.Range
-dim_words (any_set b) = w.Key t.Set ∷ w.Key t.Of ∷ base_words b
+dim_words any_range = key token_kind.Range
+dim_words (any_set b) = word_kind.Key token_kind.Set ∷ word_kind.Key token_kind.Of ∷ base_words b
 dim_words (within s) = spell s
 
 -- the words of indexes, with commas between them
 abbrev pub dims_words : Dims → List Word
 dims_words (last_dim d) = dim_words d
-dims_words (and_dim d ds) = dim_words d ++ w.Key t.Comma ∷ dims_words ds
+dims_words (and_dim d ds) = dim_words d ++ word_kind.Key token_kind.Comma ∷ dims_words ds
 
 -- the words of a type
 abbrev pub typing_words : Typing → List Word
 typing_words (of_base b) = base_words b
-typing_words a_range = key t.Range
-typing_words (a_set b) = w.Key t.Set ∷ w.Key t.Of ∷ base_words b
-typing_words (a_list b) = w.Key t.List ∷ w.Key t.Of ∷ base_words b
-typing_words (an_array dynamic ds b) = dynamic_words dynamic ++ w.Key t.Array ∷ (in_brackets (dims_words ds) ++ w.Key t.Of ∷ base_words b)
+typing_words a_range = key token_kind.Range
+typing_words (a_set b) = word_kind.Key token_kind.Set ∷ word_kind.Key token_kind.Of ∷ base_words b
+typing_words (a_list b) = word_kind.Key token_kind.List ∷ word_kind.Key token_kind.Of ∷ base_words b
+typing_words (an_array dynamic ds b) = dynamic_words dynamic ++ word_kind.Key token_kind.Array ∷ (in_brackets (dims_words ds) ++ word_kind.Key token_kind.Of ∷ base_words b)
 
 -- the words of groups of formals, with commas between them
 abbrev pub group_words : Groups → List Word
-group_words (last_group ns x) = spell_names ns ++ w.Key t.Colon ∷ typing_words x
-group_words (and_group ns x rest) = spell_names ns ++ w.Key t.Colon ∷ (typing_words x ++ w.Key t.Comma ∷ group_words rest)
+group_words (last_group ns x) = spell_names ns ++ word_kind.Key token_kind.Colon ∷ typing_words x
+group_words (and_group ns x rest) = spell_names ns ++ word_kind.Key token_kind.Colon ∷ (typing_words x ++ word_kind.Key token_kind.Comma ∷ group_words rest)
 
 -- the words of formals, with their brackets
 abbrev pub formal_words : Formals → List Word
@@ -108,7 +108,7 @@ formal_words (formals xs) = in_brackets (group_words xs)
 abbrev pub dimension_of : Dim → Dimension
 dimension_of any_range = dimension.Range
 dimension_of (any_set b) = dimension.Set b
-dimension_of (within s) = dimension.Over (tree s)
+dimension_of (within s) = dimension.IndexSet (tree s)
 
 -- the indexes of an array
 abbrev pub dimensions_of : Dims → List Dimension

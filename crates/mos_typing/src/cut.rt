@@ -36,7 +36,7 @@ fn depth_behind(word: &Word, depth: usize) -> usize
 
 /// The words before the first such token outside brackets, and those behind it.
 pub(crate) fn cut_at(mark: Mark, words: &[Word]) -> Option<(&[Word], &[Word])>
-    ensures value { MatchOption result (cutting.cut mark 0 words.now ≡ None)
+    ensures value { MatchOption result (cutting.halves_at mark 0 words.now ≡ None)
         (λ parts. cutting.IsCut mark words.now parts.0.now parts.1.now) }
     ensures shorter { MatchOption result (Unit {0})
         (λ parts. length parts.1.now < length words.now) }

@@ -25,10 +25,10 @@ fn set_dimension(base: Result<BaseType, ExprFault>) -> Result<Dimension, ExprFau
 }
 
 fn index_set(set: Result<Expr, ExprFault>) -> Result<Dimension, ExprFault>
-    ensures { result ≡ joining.on_ok dimension.Over set }
+    ensures { result ≡ joining.on_ok dimension.IndexSet set }
 {
     match set {
-        Ok(set) => Ok(Dimension::Over(set)),
+        Ok(set) => Ok(Dimension::IndexSet(set)),
         Err(fault) => Err(fault),
     }
 }

@@ -1,6 +1,6 @@
 //! Laws of words, as contracts of calls that do nothing.
 ghost use Rattle.mos_typing.specs.Laws.{TypeIsSmall, FormalsAreSmall, AreOneType, AreOneList};
-ghost use Rattle.mos_typing.specs.Words.{SyntaxIsPlain, ListIsPlain, IndexIsPlain};
+ghost use Rattle.mos_typing.specs.PhraseWords.{SyntaxIsPlain, ListIsPlain, IndexIsPlain};
 
 use mos_expr::{trees_are_small, words_have_one_tree};
 

@@ -1,8 +1,8 @@
 //! Names with commas between them.
 ghost use Rattle.std.specs.Prelude.{◌≡◌, List, ◌∷◌, IfOk, MatchOption};
-ghost use Rattle.mos_scan.specs.declared.token.TokenKind.TheVariants as t;
-ghost use Rattle.mos_scan.specs.declared.reading.Word.{Word as WordType};
-ghost use Rattle.mos_scan.specs.declared.reading.Word.TheVariants as w;
+ghost use Rattle.mos_scan.specs.declared.token.TokenKind.TheVariants as token_kind;
+ghost use Rattle.mos_scan.specs.declared.grammar_word.Word.{Word as WordType};
+ghost use Rattle.mos_scan.specs.declared.grammar_word.Word.TheVariants as word_kind;
 ghost use Rattle.mos_typing.specs.Reader.{names_of};
 
 use mos_expr::with_name;
@@ -13,8 +13,9 @@ use std::alloc::Global;
 
 /// What stands behind a comma, where the first word is one.
 pub fn behind_comma(words: &[Word]) -> Option<&[Word]>
-    ensures { MatchOption result ((more : List WordType) → words.now ≡ w.Key t.Comma ∷ more → ⊥)
-        (λ more. words.now ≡ w.Key t.Comma ∷ more.now) }
+    ensures { MatchOption result
+        ((more : List WordType) → words.now ≡ word_kind.Key token_kind.Comma ∷ more → ⊥)
+        (λ more. words.now ≡ word_kind.Key token_kind.Comma ∷ more.now) }
 {
     match words {
         [Word::Key(TokenKind::Comma), more @ ..] => Some(more),

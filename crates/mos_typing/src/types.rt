@@ -1,8 +1,8 @@
 //! Types.
 ghost use Rattle.std.specs.Prelude.{◌≡◌, List, ◌∷◌, ◌++◌};
-ghost use Rattle.mos_scan.specs.declared.token.TokenKind.TheVariants as t;
-ghost use Rattle.mos_scan.specs.declared.reading.Word.{Word as WordType};
-ghost use Rattle.mos_scan.specs.declared.reading.Word.TheVariants as w;
+ghost use Rattle.mos_scan.specs.declared.token.TokenKind.TheVariants as token_kind;
+ghost use Rattle.mos_scan.specs.declared.grammar_word.Word.{Word as WordType};
+ghost use Rattle.mos_scan.specs.declared.grammar_word.Word.TheVariants as word_kind;
 ghost use Rattle.mos_tree.specs.declared.declaration.TypeForm.TheVariants as typ;
 ghost use Rattle.mos_expr.specs.Said.{Gives, Says};
 ghost use Rattle.mos_typing.specs.Typing as typing;
@@ -76,7 +76,7 @@ fn array_type(
 
 /// What stands behind the word `dynamic`.
 fn dynamic_type(alloc: Global, words: &[Word]) -> Result<TypeForm, ExprFault>
-    ensures { Says (spelling.IsTypeForm (w.Key t.Dynamic ∷ words.now)) result }
+    ensures { Says (spelling.IsTypeForm (word_kind.Key token_kind.Dynamic ∷ words.now)) result }
 {
     match array_parts(words) {
         Some((indexes, cell)) => array_type(alloc, true, indexes, cell),
@@ -87,7 +87,8 @@ fn dynamic_type(alloc: Global, words: &[Word]) -> Result<TypeForm, ExprFault>
 /// A type without the word `dynamic`.
 fn static_type(alloc: Global, words: &[Word]) -> Result<TypeForm, ExprFault>
     ensures { ((rest : List WordType) → words.now
-        ≡ w.Key t.Dynamic ∷ rest → ⊥) → Says (spelling.IsTypeForm words.now) result }
+        ≡ word_kind.Key token_kind.Dynamic ∷ rest → ⊥)
+        → Says (spelling.IsTypeForm words.now) result }
 {
     match array_parts(words) {
         Some((indexes, cell)) => array_type(alloc, false, indexes, cell),

@@ -47,18 +47,18 @@ pub data Operation : Type 0 where
 -- Answers of operators.
 
 -- what an operator has found, as a value of its kind, or its fault
-abbrev pub found : {A : Type 0} → (A → Scalar) → Found A FaultKind → Result
-found kind (Ok x) = Gives (One (kind x))
-found kind (Err fault) = Faults fault
+abbrev pub result_of_found : {A : Type 0} → (A → Scalar) → Found A FaultKind → Result
+result_of_found kind (Ok x) = Gives (One (kind x))
+result_of_found kind (Err fault) = Faults fault
 
 -- a comparison, where the two are of one kind
-abbrev pub compared : Comparison → Scalar → Scalar → Option Bool
-compared equal a b = same_value a b
-compared not_equal a b = option_map not (same_value a b)
-compared less a b = option_map is_lt (order_of a b)
-compared at_most a b = option_map (λ order. not (is_gt order)) (order_of a b)
-compared greater a b = option_map is_gt (order_of a b)
-compared at_least a b = option_map (λ order. not (is_lt order)) (order_of a b)
+abbrev pub comparison_result : Comparison → Scalar → Scalar → Option Bool
+comparison_result equal a b = same_value a b
+comparison_result not_equal a b = option_map not (same_value a b)
+comparison_result less a b = option_map is_lt (order_of a b)
+comparison_result at_most a b = option_map (λ order. not (is_gt order)) (order_of a b)
+comparison_result greater a b = option_map is_gt (order_of a b)
+comparison_result at_least a b = option_map (λ order. not (is_lt order)) (order_of a b)
 
 -- a truth, where there is one
 abbrev pub truth : Option Bool → Result
@@ -67,27 +67,27 @@ truth (Some b) = Gives (One (Truth b))
 
 -- a text, or the fault of one that is too long
 abbrev pub text : List ℕ → Result
-text bytes = found Str (text_of bytes)
+text bytes = result_of_found Str (text_of bytes)
 
 -- what an operator or function makes of values, in the order in which they are written
 abbrev pub answer : Operation → List Value → Result
-answer (between sum) (One (Int a) ∷ One (Int b) ∷ []) = found Int (sum_of a b)
+answer (between sum) (One (Int a) ∷ One (Int b) ∷ []) = result_of_found Int (sum_of a b)
 answer (between sum) _ = Sticks
-answer (between difference) (One (Int a) ∷ One (Int b) ∷ []) = found Int (difference_of a b)
+answer (between difference) (One (Int a) ∷ One (Int b) ∷ []) = result_of_found Int (difference_of a b)
 answer (between difference) _ = Sticks
-answer (between (compare how)) (One a ∷ One b ∷ []) = truth (compared how a b)
+answer (between (compare how)) (One a ∷ One b ∷ []) = truth (comparison_result how a b)
 answer (between (compare how)) _ = Sticks
-answer product (One (Int a) ∷ One (Int b) ∷ []) = found Int (product_of a b)
+answer product (One (Int a) ∷ One (Int b) ∷ []) = result_of_found Int (product_of a b)
 answer product _ = Sticks
-answer quotient (One (Int a) ∷ One (Int b) ∷ []) = found Int (quotient_of a b)
+answer quotient (One (Int a) ∷ One (Int b) ∷ []) = result_of_found Int (quotient_of a b)
 answer quotient _ = Sticks
-answer remainder (One (Int a) ∷ One (Int b) ∷ []) = found Int (remainder_of a b)
+answer remainder (One (Int a) ∷ One (Int b) ∷ []) = result_of_found Int (remainder_of a b)
 answer remainder _ = Sticks
-answer negative (One (Int a) ∷ []) = found Int (negative_of a)
+answer negative (One (Int a) ∷ []) = result_of_found Int (negative_of a)
 answer negative _ = Sticks
-answer join (One (Str a) ∷ One (Str b) ∷ []) = found Str (join_of a b)
+answer join (One (Str a) ∷ One (Str b) ∷ []) = result_of_found Str (join_of a b)
 answer join _ = Sticks
 answer range (One (Int a) ∷ One (Int b) ∷ []) = Gives (Range a b)
 answer range _ = Sticks
-answer show (One value ∷ []) = found Str (show_one value)
+answer show (One value ∷ []) = result_of_found Str (show_one value)
 answer show _ = Sticks

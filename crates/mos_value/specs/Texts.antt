@@ -21,13 +21,13 @@ truth_text true = codes "true"
 truth_text false = codes "false"
 
 -- the printed form of a value without parts
-abbrev pub printed : Scalar → List ℕ
-printed (Int n) = signed_decimal n
-printed (Truth b) = truth_text b
-printed (Str bytes) = bytes
-printed (Model n) = codes "model " ++ decimal n
-printed (Event class value) = codes "event " ++ signed_decimal class ++ codes " " ++ signed_decimal value
+abbrev pub print_scalar : Scalar → List ℕ
+print_scalar (Int n) = signed_decimal n
+print_scalar (Truth b) = truth_text b
+print_scalar (Str bytes) = bytes
+print_scalar (Model n) = codes "model " ++ decimal n
+print_scalar (Event class value) = codes "event " ++ signed_decimal class ++ codes " " ++ signed_decimal value
 
 -- the printed form as a text, or the fault of one that is too long
 abbrev pub show_one : Scalar → Result (List ℕ) FaultKind
-show_one value = text_of (printed value)
+show_one value = text_of (print_scalar value)

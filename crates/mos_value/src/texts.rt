@@ -1,7 +1,7 @@
 //! Texts and printed forms, up to the longest text.
 ghost use Rattle.std.specs.Prelude.{◌≡◌, IfOk};
 ghost use Rattle.mos_text.specs.declared.scalar.Scalar.TheVariants as scalar;
-ghost use Rattle.mos_value.specs.Texts.{text_of, join_of, printed, show_one};
+ghost use Rattle.mos_value.specs.Texts.{text_of, join_of, print_scalar, show_one};
 ghost use Rattle.mos_value.specs.UpToMemory.{UpToMemory};
 
 use crate::ValueFault;
@@ -51,7 +51,7 @@ pub fn into_shown(alloc: Global, a: Scalar) -> Result<Text, ValueFault>
 }
 
 fn printed_form(alloc: Global, value: Scalar) -> Result<Text, NoMemory>
-    ensures { IfOk result (λ text. text ≡ printed value) }
+    ensures { IfOk result (λ text. text ≡ print_scalar value) }
 {
     match value {
         Scalar::Str(text) => Ok(text),
@@ -63,7 +63,7 @@ fn printed_form(alloc: Global, value: Scalar) -> Result<Text, NoMemory>
 }
 
 fn event_form(alloc: Global, class: i32, value: i32) -> Result<Text, NoMemory>
-    ensures { IfOk result (λ text. text ≡ printed (scalar.Event class value)) }
+    ensures { IfOk result (λ text. text ≡ print_scalar (scalar.Event class value)) }
 {
     Ok(Text::from_string(format!(in alloc; "event {class} {value}")?))
 }

@@ -7,14 +7,14 @@ use Rattle.std.proofs.lemmas.Option.{same_Some}
 use Rattle.std.proofs.lemmas.List.{take_more, get_or-drop}
 use Rattle.mos_text.specs.declared.scalar.Scalar.{Scalar}
 use Rattle.mos_names.specs.NameLists.{place_of}
-use Rattle.run_state.specs.Parameters.{Parameter, Written, and_then, trimmed, written_of, value_like, given_by, given_behind, ends_item, open_behind, items_from}
+use Rattle.run_state.specs.Parameters.{Parameter, WrittenValue, and_then, trim, written_of, value_like, given_by, given_behind, ends_item, open_behind, items_from}
 use Rattle.mos_vm.specs.Givens.{names_of, IsPut}
 
 -- a value with its place
 abbrev with_place : ℕ → Scalar → ℕ × Scalar
 with_place place value = (place, value)
 
-placed : (found : Option Written) (f : Written → Option Scalar) (place : ℕ) (v : Scalar) → and_then found f ≡ Some v
+placed : (found : Option WrittenValue) (f : WrittenValue → Option Scalar) (place : ℕ) (v : Scalar) → and_then found f ≡ Some v
     → and_then found (λ x. option_map (with_place place) (f x)) ≡ Some (with_place place v)
 placed None f place v e = cc
 placed (Some x) f place v e = ap (option_map (with_place place)) e
@@ -22,14 +22,14 @@ placed (Some x) f place v e = ap (option_map (with_place place)) e
 -- what an item gives, by its parts
 pub put_by : (formals : List Parameter) (values : List Scalar) (item : List ℕ) (equals place : ℕ) (formal : Parameter) (v : Scalar)
     → equals ≡ position_or_len (nat_eq 61) item → nat_eq equals (length item) ≡ false
-    → place ≡ place_of (trimmed (take equals item)) (names_of formals) → slice_get formals place ≡ Some formal
-    → and_then (written_of (trimmed (drop (equals + 1) item))) (value_like formal.default) ≡ Some v
+    → place ≡ place_of (trim (take equals item)) (names_of formals) → slice_get formals place ≡ Some formal
+    → and_then (written_of (trim (drop (equals + 1) item))) (value_like formal.default) ≡ Some v
     → IsPut formals values item true (slice_set values place v)
 put_by formals values item equals place formal v at apart there found is =
     let by : ℕ → ℕ → Option Parameter → Option (ℕ × Scalar) =
-    λ e k o. and_then o (λ (p : Parameter). and_then (written_of (trimmed (drop (e + 1) item)))
+    λ e k o. and_then o (λ (p : Parameter). and_then (written_of (trim (drop (e + 1) item)))
     (λ written. option_map (with_place k) (value_like p.default written))) in
-    let named : ℕ → ℕ = λ e. place_of (trimmed (take e item)) (names_of formals) in
+    let named : ℕ → ℕ = λ e. place_of (trim (take e item)) (names_of formals) in
     let whole : ℕ → Option (ℕ × Scalar) =
     λ e. if nat_eq e (length item) then None else by e (named e) (slice_get formals (named e)) in
     let given : given_by formals item ≡ Some (with_place place v) =
@@ -37,7 +37,7 @@ put_by formals values item equals place formal v at apart there found is =
     ∙ ap (λ b. if b then None else by equals (named equals) (slice_get formals (named equals))) apart
     ∙ ap (λ k. by equals k (slice_get formals k)) (sym there)
     ∙ ap (by equals place) found
-    ∙ placed (written_of (trimmed (drop (equals + 1) item))) (value_like formal.default) place v is in
+    ∙ placed (written_of (trim (drop (equals + 1) item))) (value_like formal.default) place v is in
     ap (λ o. and_then o (λ (g : ℕ × Scalar). Some (slice_set values g.0 g.1))) given
 
 put_then : (formals : List Parameter) (values after : List Scalar) (rest : List (List ℕ)) (given : Option (ℕ × Scalar))

@@ -6,15 +6,15 @@ use Rattle.run_state.specs.Stops.{Outcome, Stop}
 use Rattle.run_state.specs.Stops as stop
 use Rattle.bim_machine.specs.Courses.{course_of}
 use Rattle.mos_vm.specs.declared.stop.Stop.{Stop as VmStop}
-use Rattle.mos_vm.specs.declared.stop.Stop.TheVariants as vm
+use Rattle.mos_vm.specs.declared.stop.Stop.TheVariants as stop_kind
 use Rattle.mos_vm.specs.declared.runner.RunResult.{RunResult}
 
 -- the same stop in the words of the definitions
 abbrev pub stop_of : VmStop → Stop
-stop_of (vm.Exited code) = stop.Exited code
-stop_of (vm.Failed kind) = stop.Failed kind
-stop_of vm.Spent = stop.Spent
-stop_of vm.Stuck = stop.Stuck
+stop_of (stop_kind.Exited code) = stop.Exited code
+stop_of (stop_kind.Failed kind) = stop.Failed kind
+stop_of stop_kind.Spent = stop.Spent
+stop_of stop_kind.Stuck = stop.Stuck
 
 -- the outcome of a run that made no call
 abbrev pub outcome_of : RunResult → Outcome

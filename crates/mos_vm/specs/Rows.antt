@@ -6,26 +6,26 @@ use Rattle.bim_code.specs.declared.image.Image.{Image}
 use Rattle.bim_code.specs.declared.instruction.Instruction.{Instruction}
 use Rattle.mos_value.specs.Values.{Value}
 use Rattle.mos_value.specs.Answers.{Result, Gives, Faults, Sticks as NoAnswer}
-use Rattle.bim_machine.specs.Machine.{Work, Act, On, Jumps, Stops, Puts, Prints, Ticks, Halt, Exits, Fails, Sticks}
+use Rattle.bim_machine.specs.Machine.{Work, Act, On, Jumps, Stops, Puts, Prints, Ticks, OwnStop, Exits, Fails, Sticks}
 use Rattle.bim_machine.specs.Instructions.{act, global}
-use Rattle.mos_vm.specs.declared.asked.Halt.{Halt as VmHalt}
-use Rattle.mos_vm.specs.declared.asked.Halt.TheVariants as halt
+use Rattle.mos_vm.specs.declared.asked.OwnStop.{OwnStop as VmOwnStop}
+use Rattle.mos_vm.specs.declared.asked.OwnStop.TheVariants as halt
 use Rattle.mos_vm.specs.declared.asked.Asked.{Asked}
 use Rattle.mos_vm.specs.declared.asked.Asked.TheVariants as asked
 use Rattle.mos_vm.specs.declared.answers.Answer.{Answer}
 use Rattle.mos_vm.specs.declared.answers.Answer.TheVariants as answer
 
 -- the same stop in the words of the definitions
-abbrev pub halt_of : VmHalt → Halt
-halt_of (halt.Exits code) = Exits code
-halt_of (halt.Fails kind) = Fails kind
-halt_of halt.Sticks = Sticks
+abbrev pub own_stop_of : VmOwnStop → OwnStop
+own_stop_of (halt.Exits code) = Exits code
+own_stop_of (halt.Fails kind) = Fails kind
+own_stop_of halt.Sticks = Sticks
 
 -- the act that is asked for, with this at hand behind it
 abbrev pub act_of : Asked → Work → Act
 act_of asked.On work = On work
 act_of asked.Jumps work = Jumps work
-act_of (asked.Stops how) work = Stops (halt_of how)
+act_of (asked.Stops how) work = Stops (own_stop_of how)
 act_of (asked.Puts slot value) work = Puts ((global slot, value) ∷ []) work
 act_of asked.Prints work = Prints work.held (record work { held = [] })
 act_of asked.Ticks work = Ticks (On work)

@@ -7,7 +7,7 @@ use Rattle.bim_code.specs.declared.instruction.Instruction.{Instruction}
 use Rattle.mos_value.specs.Values.{Value}
 use Rattle.run_state.specs.State.{World, State, beginning}
 use Rattle.run_state.specs.State as state
-use Rattle.bim_machine.specs.Machine.{Machine, At, Over, Work, Site, Act, idle, settle}
+use Rattle.bim_machine.specs.Machine.{Machine, At, Halted, Work, Site, Act, idle, settle}
 use Rattle.bim_machine.specs.Instructions.{act}
 use Rattle.bim_machine.specs.Courses.{main}
 use Rattle.mos_vm.specs.declared.stop.Stop.{Stop as VmStop}
@@ -17,7 +17,7 @@ use Rattle.mos_vm.specs.declared.runner.RunResult.{RunResult}
 use Rattle.mos_vm.specs.Courses.{stop_of, outcome_of}
 
 -- what is at hand, and the state of the run
-pub record Kept : Type 0 where
+pub record MachineState : Type 0 where
   pub work : Work
   pub state : State
 
@@ -26,28 +26,28 @@ abbrev pub world : ℕ → World
 world budget = record { replies = []; budget = budget }
 
 -- a machine that begins with these values in its global slots
-abbrev pub machine_with : List Value → Kept
+abbrev pub machine_with : List Value → MachineState
 machine_with values = record { work = idle; state = beginning values }
 
 -- the machine behind an instruction, or where that names, or over
-abbrev pub machine_after : Site → Control → Kept → Machine
+abbrev pub machine_after : Site → Control → MachineState → Machine
 machine_after site Goes kept = At site.next kept.work main kept.state
 machine_after site Jumps kept = At site.named kept.work main kept.state
-machine_after site (Halts how) kept = Over (stop_of how) site.at kept.state
+machine_after site (Halts how) kept = Halted (stop_of how) site.at kept.state
 
 -- what is asked for leads there, of whatever image and wherever it stands
-abbrev pub Settles : ℕ → Act → Kept → Control → Kept → Type 0
+abbrev pub Settles : ℕ → Act → MachineState → Control → MachineState → Type 0
 Settles budget asked before control after = (image : Image) (site : Site)
     → settle image (world budget) asked site main before.state ≡ machine_after site control after
 
 -- the instruction leads from the one to the other, wherever it stands
-abbrev pub IsStep : Image → ℕ → Instruction → Kept → Control → Kept → Type 0
+abbrev pub IsStep : Image → ℕ → Instruction → MachineState → Control → MachineState → Type 0
 IsStep image budget i before control after = (site : Site)
     → settle image (world budget)
     (act image i main.slots before.work before.state.memory.store) site main before.state
     ≡ machine_after site control after
 
 -- the result of a machine that stopped so, after so many steps
-abbrev pub IsResultOf : Kept → VmStop → ℕ → RunResult → Type 0
+abbrev pub IsResultOf : MachineState → VmStop → ℕ → RunResult → Type 0
 IsResultOf kept how steps ran =
     (outcome_of ran ≡ state.outcome_of (stop_of how) kept.state) × (ran.steps ≡ steps)

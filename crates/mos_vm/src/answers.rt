@@ -1,7 +1,7 @@
 //! What operators and functions make of values.
 ghost use Rattle.std.specs.Prelude.{◌≡◌, ◌∷◌, [], IfOk};
 ghost use Rattle.mos_text.specs.declared.scalar.Scalar.TheVariants as scalar;
-ghost use Rattle.mos_value.specs.Answers.{answer, between, sum, difference, compare, show, text, truth, compared, found};
+ghost use Rattle.mos_value.specs.Answers.{answer, between, sum, difference, compare, show, text, truth, comparison_result, result_of_found};
 ghost use Rattle.bim_machine.specs.Instructions.{comparison_of};
 ghost use Rattle.mos_vm.specs.Rows.{result_of};
 
@@ -86,7 +86,7 @@ pub(crate) fn text(bytes: Text) -> Answer
 
 /// An integer that an operator has found, or its fault.
 fn integer(number: Result<i32, FaultKind>) -> Answer
-    ensures { result_of result ≡ found scalar.Int number }
+    ensures { result_of result ≡ result_of_found scalar.Int number }
 {
     match number {
         Ok(number) => Answer::Gives(Value::one(Scalar::Int(number))),
@@ -105,7 +105,7 @@ fn truth(found: Option<bool>) -> Answer
 
 /// Whether the left value compares so with the right one, where both are of one kind that can.
 fn compared(comparison: Comparison, left: &Scalar, right: &Scalar) -> Option<bool>
-    ensures { result ≡ compared (comparison_of comparison) left.now right.now }
+    ensures { result ≡ comparison_result (comparison_of comparison) left.now right.now }
 {
     match comparison {
         Comparison::Equal => same_value(left, right),

@@ -4,7 +4,7 @@ use mos_text::FaultKind;
 
 /// How an instruction can end the run by itself.
 #[derive(Clone, Copy, Debug)]
-pub(crate) enum Halt {
+pub(crate) enum OwnStop {
     Exits(i32),
     Fails(FaultKind),
     /// It does not find what it wants.
@@ -18,7 +18,7 @@ pub(crate) enum Asked {
     On,
     /// To go on at the address that it names.
     Jumps,
-    Stops(Halt),
+    Stops(OwnStop),
     /// To put a value into a global slot, then to go on.
     Puts(u32, Value),
     /// To write all that is held, then to go on.

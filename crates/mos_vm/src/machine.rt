@@ -2,11 +2,11 @@
 ghost use Rattle.std.specs.Prelude.{◌≡◌, ℕ, IfOk};
 ghost use Rattle.bim_machine.specs.Machine.{stop_of as halted};
 ghost use Rattle.mos_vm.specs.Courses.{stop_of};
-ghost use Rattle.mos_vm.specs.Rows.{act_of, halt_of};
+ghost use Rattle.mos_vm.specs.Rows.{act_of, own_stop_of};
 ghost use Rattle.mos_vm.specs.declared.asked.Asked.TheVariants as asked;
 ghost use Rattle.mos_vm.specs.Stepping.{machine_with, Settles, IsStep, IsResultOf};
 
-use crate::asked::{Asked, Halt};
+use crate::asked::{Asked, OwnStop};
 use crate::rows::carry_out;
 use crate::runner::RunResult;
 use crate::stop::{Control, Stop};
@@ -31,9 +31,9 @@ pub(crate) struct Machine {
 
 impl Model for Machine {
     ghost use Rattle.std.specs.Prelude.{[], ◌∷◌};
-    ghost use Rattle.mos_vm.specs.Stepping.{Kept};
+    ghost use Rattle.mos_vm.specs.Stepping.{MachineState};
 
-    ghost Value = { Kept };
+    ghost Value = { MachineState };
 
     ghost view = { λ m. record {
       work = m.work;
@@ -145,12 +145,12 @@ impl Machine {
 }
 
 /// The stop that an instruction makes by itself.
-fn stop_by(halt: Halt) -> Stop
-    ensures { stop_of result ≡ halted (halt_of halt) }
+fn stop_by(halt: OwnStop) -> Stop
+    ensures { stop_of result ≡ halted (own_stop_of halt) }
 {
     match halt {
-        Halt::Exits(code) => Stop::Exited(code),
-        Halt::Fails(kind) => Stop::Failed(kind),
-        Halt::Sticks => Stop::Stuck,
+        OwnStop::Exits(code) => Stop::Exited(code),
+        OwnStop::Fails(kind) => Stop::Failed(kind),
+        OwnStop::Sticks => Stop::Stuck,
     }
 }

@@ -1,11 +1,11 @@
 //! What each instruction does with the operands, and what it asks for then: a function a row.
 ghost use Rattle.std.specs.Prelude.{◌≡◌, [], IfOk};
 ghost use Rattle.bim_machine.specs.Machine.{Work as Hand};
-ghost use Rattle.bim_machine.specs.Instructions.{resulted, truth_of_operand, own_fault};
+ghost use Rattle.bim_machine.specs.Instructions.{act_by_result, truth_of_operand, own_fault};
 ghost use Rattle.mos_vm.specs.Rows.{Asks, AsksAnywhere, blank, act_of, result_of};
 
 use crate::answers::{Answer, comparison, difference, printed_text, sum, text};
-use crate::asked::{Asked, Halt};
+use crate::asked::{Asked, OwnStop};
 use crate::value::Value;
 use crate::work::Work;
 use bim_code::{Comparison, Image, Instruction};
@@ -47,15 +47,16 @@ pub(crate) fn carry_out(
 
 /// The answer of an operator goes on top.
 fn answered(work: &mut Work, answer: Answer) -> Result<Asked, NoMemory>
-    ensures { IfOk result (λ asked. resulted (result_of answer) work.old ≡ act_of asked work.new) }
+    ensures { IfOk result
+        (λ asked. act_by_result (result_of answer) work.old ≡ act_of asked work.new) }
 {
     match answer {
         Answer::Gives(value) => {
             work.push(value)?;
             Ok(Asked::On)
         }
-        Answer::Faults(kind) => Ok(Asked::Stops(Halt::Fails(kind))),
-        Answer::Sticks => Ok(Asked::Stops(Halt::Sticks)),
+        Answer::Faults(kind) => Ok(Asked::Stops(OwnStop::Fails(kind))),
+        Answer::Sticks => Ok(Asked::Stops(OwnStop::Sticks)),
     }
 }
 
@@ -76,7 +77,7 @@ fn push_truth(work: &mut Work, number: u32) -> Result<Asked, NoMemory>
             work.push(Value::one(Scalar::Bool(truth)))?;
             Ok(Asked::On)
         }
-        None => Ok(Asked::Stops(Halt::Sticks)),
+        None => Ok(Asked::Stops(OwnStop::Sticks)),
     }
 }
 
@@ -102,7 +103,7 @@ fn push_text(
 {
     match sqlite_items::at(image.constants.as_slice(), constant as usize) {
         Some(found) => answered(work, text(found.copy(alloc)?)),
-        None => Ok(Asked::Stops(Halt::Sticks)),
+        None => Ok(Asked::Stops(OwnStop::Sticks)),
     }
 }
 
@@ -116,7 +117,7 @@ fn load(alloc: Global, work: &mut Work, globals: &[Value], slot: u32) -> Result<
             work.push(value)?;
             Ok(Asked::On)
         }
-        None => Ok(Asked::Stops(Halt::Sticks)),
+        None => Ok(Asked::Stops(OwnStop::Sticks)),
     }
 }
 
@@ -125,7 +126,7 @@ fn store(work: &mut Work, slot: u32) -> Asked
 {
     match work.pop() {
         Some(value) => Asked::Puts(slot, value),
-        None => Asked::Stops(Halt::Sticks),
+        None => Asked::Stops(OwnStop::Sticks),
     }
 }
 
@@ -139,9 +140,9 @@ fn swap(work: &mut Work) -> Result<Asked, NoMemory>
                 work.push(below)?;
                 Ok(Asked::On)
             }
-            None => Ok(Asked::Stops(Halt::Sticks)),
+            None => Ok(Asked::Stops(OwnStop::Sticks)),
         },
-        None => Ok(Asked::Stops(Halt::Sticks)),
+        None => Ok(Asked::Stops(OwnStop::Sticks)),
     }
 }
 
@@ -150,7 +151,7 @@ fn add(work: &mut Work) -> Result<Asked, NoMemory>
 {
     match work.pop_two() {
         Some((left, right)) => answered(work, sum(left, right)),
-        None => Ok(Asked::Stops(Halt::Sticks)),
+        None => Ok(Asked::Stops(OwnStop::Sticks)),
     }
 }
 
@@ -159,7 +160,7 @@ fn subtract(work: &mut Work) -> Result<Asked, NoMemory>
 {
     match work.pop_two() {
         Some((left, right)) => answered(work, difference(left, right)),
-        None => Ok(Asked::Stops(Halt::Sticks)),
+        None => Ok(Asked::Stops(OwnStop::Sticks)),
     }
 }
 
@@ -169,7 +170,7 @@ fn compare(work: &mut Work, how: Comparison) -> Result<Asked, NoMemory>
 {
     match work.pop_two() {
         Some((left, right)) => answered(work, comparison(how, left, right)),
-        None => Ok(Asked::Stops(Halt::Sticks)),
+        None => Ok(Asked::Stops(OwnStop::Sticks)),
     }
 }
 
@@ -180,7 +181,7 @@ fn jump_if(work: &mut Work) -> Asked
     match work.pop_truth() {
         Some(true) => Asked::Jumps,
         Some(false) => Asked::On,
-        None => Asked::Stops(Halt::Sticks),
+        None => Asked::Stops(OwnStop::Sticks),
     }
 }
 
@@ -190,7 +191,7 @@ fn jump_not(work: &mut Work) -> Asked
     match work.pop_truth() {
         Some(true) => Asked::On,
         Some(false) => Asked::Jumps,
-        None => Asked::Stops(Halt::Sticks),
+        None => Asked::Stops(OwnStop::Sticks),
     }
 }
 
@@ -202,7 +203,7 @@ fn show(alloc: Global, work: &mut Work) -> Result<Asked, NoMemory>
             let printed = printed_text(alloc, value)?;
             answered(work, printed)
         }
-        None => Ok(Asked::Stops(Halt::Sticks)),
+        None => Ok(Asked::Stops(OwnStop::Sticks)),
     }
 }
 
@@ -214,7 +215,7 @@ fn write(work: &mut Work) -> Result<Asked, NoMemory>
             work.hold(text.as_bytes())?;
             Ok(Asked::On)
         }
-        None => Ok(Asked::Stops(Halt::Sticks)),
+        None => Ok(Asked::Stops(OwnStop::Sticks)),
     }
 }
 
@@ -227,7 +228,7 @@ fn line(work: &mut Work) -> Result<Asked, NoMemory>
             Ok(Asked::Prints)
         }
         Some(false) => Ok(Asked::Prints),
-        None => Ok(Asked::Stops(Halt::Sticks)),
+        None => Ok(Asked::Stops(OwnStop::Sticks)),
     }
 }
 
@@ -235,8 +236,8 @@ fn end(work: &mut Work) -> Asked
     ensures { AsksAnywhere Instruction.End work.old result work.new }
 {
     match work.pop_integer() {
-        Some(code) => Asked::Stops(Halt::Exits(code)),
-        None => Asked::Stops(Halt::Sticks),
+        Some(code) => Asked::Stops(OwnStop::Exits(code)),
+        None => Asked::Stops(OwnStop::Sticks),
     }
 }
 
@@ -244,8 +245,8 @@ fn fault(number: u32) -> Asked
     ensures { (work : Hand) → AsksAnywhere (Instruction.Fault number) work result work }
 {
     match own_fault(number) {
-        Some(kind) => Asked::Stops(Halt::Fails(kind)),
-        None => Asked::Stops(Halt::Sticks),
+        Some(kind) => Asked::Stops(OwnStop::Fails(kind)),
+        None => Asked::Stops(OwnStop::Sticks),
     }
 }
 

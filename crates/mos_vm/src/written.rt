@@ -1,7 +1,7 @@
 //! Values as they are written in a parameter text.
 ghost use Rattle.std.specs.Prelude.{◌≡◌, ◌∷◌, ◌≤◌, ◌<◌, ℕ, pos, List, IfOk, IsUtf8, length, get_or, nat_eq, option_map};
 ghost use Rattle.std.specs.List.{list_any, position_or_len};
-ghost use Rattle.run_state.specs.Parameters.{and_then, is_blank, skip_blanks, trimmed, is_quote, quoted, Bare, written_of, value_like, fitting, signed_digits, digits, truth_of, text_of};
+ghost use Rattle.run_state.specs.Parameters.{and_then, is_blank, skip_blanks, trim, is_quote, quoted_written, Bare, written_of, value_like, fitting, signed_digits, digits, truth_of, text_of};
 ghost use Rattle.mos_vm.specs.Givens.{trimmed_end, up_to_least, IsUpToLeast, negative_of, number_behind};
 
 use mos_text::{NoMemory, Scalar, TEXT_LIMIT, Text, TextFault};
@@ -26,7 +26,7 @@ pub(crate) fn is_quote(byte: u8) -> bool
 
 /// The text without the blanks at both ends.
 pub(crate) fn trimmed(text: &[u8]) -> &[u8]
-    ensures value { result.now ≡ trimmed text.now }
+    ensures value { result.now ≡ trim text.now }
     ensures utf8 { IsUtf8 text.now → IsUtf8 result.now }
 {
     trimmed_end(skip_blanks(text))
@@ -131,7 +131,7 @@ fn quoted_value(
     requires utf8 { IsUtf8 more.now }
     requires ascii { quote < 128 }
     ensures { IfOk result
-        (λ value. value ≡ and_then (quoted quote more.now) (value_like like.now)) }
+        (λ value. value ≡ and_then (quoted_written quote more.now) (value_like like.now)) }
 {
     let end = position(more, quote);
     if end + 1 != more.len() {

@@ -2,16 +2,16 @@
 
 use Rattle.std.proofs.Common.{◌≡◌, ◌≤◌, ℕ, Bool, true, false, not, ◌&&◌, ◌||◌, List, [], ◌∷◌, length, Some, None, refl, sym, ap, subst, nat_le, ◌==◌, eqb-true, ne_eqb, arith}
 use Rattle.std.specs.Prelude.{IfOk, Result, Ok, Err}
-use Rattle.mos_words.specs.declared.words.commands.WordFault.{WordFault}
+use Rattle.mos_words.specs.declared.command_line.commands.WordFault.{WordFault}
 use Rattle.std.proofs.lemmas.Bool.{leb-true}
 use Rattle.std.specs.Prelude.{if◌then◌else◌, slice_index_or}
 use Rattle.std.specs.List.{list_all}
 use Rattle.mos_text.specs.FileName.{is_file_name, is_source_name}
-use Rattle.mos_words.specs.declared.words.commands.Command.{Command}
-use Rattle.mos_words.specs.declared.words.options.OptionName.{OptionName}
-use Rattle.mos_words.specs.declared.words.options.OptionName.TheVariants.{Lanes, Budget}
+use Rattle.mos_words.specs.declared.command_line.commands.Command.{Command}
+use Rattle.mos_words.specs.declared.command_line.options.OptionName.{OptionName}
+use Rattle.mos_words.specs.declared.command_line.options.OptionName.TheVariants.{Lanes, Budget}
 use Rattle.mos_words.specs.CommandLine.{Word, row_of, run_options, values, is_number, number_of, is_value, setting_of, files, breaks_words, breaks_options, breaks_files, run_command}
-use Rattle.mos_words.specs.Fit.{IsFit}
+use Rattle.mos_words.specs.Fit.{IsWithinLimits}
 
 chosen : (b : Bool) (x y : Command) → (if b then None else Some x) ≡ Some y → (b ≡ false) × (x ≡ y)
 chosen true x y h = cc
@@ -72,7 +72,7 @@ all_given arguments h =
     let budget = neither (not (list_all (is_value Budget) (values Budget arguments))) false lanes.1 in
     (holds _ lanes.0, holds _ budget.0)
 
-run_fits : (arguments : List Word) (command : Command) → run_command arguments ≡ Some command → IsFit command
+run_fits : (arguments : List Word) (command : Command) → run_command arguments ≡ Some command → IsWithinLimits command
 unfolding run_command
 run_fits arguments command h =
     let c = chosen (breaks_words arguments || breaks_options run_options arguments || breaks_files (files arguments)) _ command h in
@@ -82,8 +82,8 @@ run_fits arguments command h =
     let given = all_given arguments inner.1 in
     let lanes = in_table Lanes (values Lanes arguments) given.0 (omega arith) (omega arith) in
     let budget = in_table Budget (values Budget arguments) given.1 (omega arith) (omega arith) in
-    subst IsFit c.1 (named.0, named.1, lanes.0, lanes.1, budget.0, budget.1)
+    subst IsWithinLimits c.1 (named.0, named.1, lanes.0, lanes.1, budget.0, budget.1)
 
-pub all_fit : (arguments : List Word) (read : Result Command WordFault) → IfOk read (λ command. run_command arguments ≡ Some command) → IfOk read IsFit
+pub all_fit : (arguments : List Word) (read : Result Command WordFault) → IfOk read (λ command. run_command arguments ≡ Some command) → IfOk read IsWithinLimits
 all_fit arguments (Ok command) h = run_fits arguments command h
 all_fit arguments (Err fault) h = tt

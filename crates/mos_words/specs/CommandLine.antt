@@ -4,10 +4,10 @@ use Rattle.std.specs.Prelude.{ℕ, ◌+◌, ◌-◌, ◌*◌, ◌==◌, nat_lt, 
 use Rattle.std.specs.List.{list_all, list_any, before_first, after_first}
 use Rattle.std.specs.Str.{bytes_eq}
 use Rattle.mos_text.specs.FileName.{is_digit, is_file_name, is_source_name}
-use Rattle.mos_words.specs.declared.words.commands.Command.{Command}
-use Rattle.mos_words.specs.declared.words.commands.Command.TheVariants.{Run}
-use Rattle.mos_words.specs.declared.words.options.OptionName.{OptionName}
-use Rattle.mos_words.specs.declared.words.options.OptionName.TheVariants.{Lanes, Budget}
+use Rattle.mos_words.specs.declared.command_line.commands.Command.{Command}
+use Rattle.mos_words.specs.declared.command_line.commands.Command.TheVariants.{Run}
+use Rattle.mos_words.specs.declared.command_line.options.OptionName.{OptionName}
+use Rattle.mos_words.specs.declared.command_line.options.OptionName.TheVariants.{Lanes, Budget}
 
 -- a word, as the list of its bytes
 abbrev pub Word : Type 0

@@ -1,6 +1,6 @@
 //! The command that the words of the command line mean.
 #![tactic(auto)]
 
-mod words;
+mod command_line;
 
-pub use words::{Command, WordFault, command};
+pub use command_line::{Command, WordFault, command};

@@ -5,8 +5,8 @@ use Rattle.mos_text.specs.Content.{Files}
 use Rattle.mos_text.specs.declared.folder.Got.{Got}
 use Rattle.mos_text.specs.declared.folder.Got.TheVariants.{Bytes, Missing as NotThere, TooLarge as TooLong, Failed, NoMemory as WantsMemory}
 use Rattle.mos_words.specs.CommandLine.{command_of}
-use Rattle.mos_words.specs.declared.words.commands.Command.{Command}
-use Rattle.mos_words.specs.declared.words.commands.Command.TheVariants.{Run}
+use Rattle.mos_words.specs.declared.command_line.commands.Command.{Command}
+use Rattle.mos_words.specs.declared.command_line.commands.Command.TheVariants.{Run}
 use Rattle.mosel_run.specs.declared.answer.Answer.{Answer}
 use Rattle.mosel_run.specs.declared.status.Status.{Status}
 use Rattle.mosel_run.specs.Answered.{IsCommandAnswer, IsAnswer, Answered, delivered, no_memory}

@@ -9,7 +9,7 @@ use Rattle.std.proofs.lemmas.List.Folds.{list_any-append}
 use Rattle.std.proofs.lemmas.Slice.Eq.{bytes_eq-Decides}
 use Rattle.std.proofs.lemmas.Map.Text.{is_eq-slice_cmp}
 use Rattle.std.proofs.lemmas.Cmp.{nat_list_cmp_total}
-use Rattle.job_calls.specs.Runs.{last_given, later}
+use Rattle.job_calls.specs.Runs.{last_given, last_of}
 use Rattle.mos_text.specs.Content.{Files, Holds, known_of, known_by}
 use Rattle.mosel_run.specs.declared.answer.Put.{Put}
 use Rattle.mosel_run.specs.Laws.{put_all}
@@ -106,7 +106,7 @@ any_with names put name = by (list_any (bytes_eq put.name) names) refl
         list_any-append (bytes_eq name) names (put.name ∷ [])
         ∙ ap (λ b. list_any (bytes_eq name) names || b) (or_false (bytes_eq name put.name) ∙ turned name put.name)
 
-some_later : {A : Type 0} (first rest : Option A) → is_some (later first rest) ≡ (is_some first || is_some rest)
+some_later : {A : Type 0} (first rest : Option A) → is_some (last_of first rest) ≡ (is_some first || is_some rest)
 some_later None None = refl
 some_later None (Some x) = refl
 some_later (Some y) None = refl

@@ -12,7 +12,7 @@ use Rattle.mos_tree.specs.declared.expr.Expr.TheFolds.{map-Expr, fold-roll-Expr,
 use Rattle.mos_tree.specs.declared.expr.Expr.TheViews.{roll-Expr}
 use Rattle.mos_tree.specs.declared.statement.Arm.{Arm}
 use Rattle.mos_tree.specs.declared.statement.Assignment.{Assignment}
-use Rattle.mos_tree.specs.declared.statement.Assignment.TheVariants as op
+use Rattle.mos_tree.specs.declared.statement.Assignment.TheVariants as assignment_kind
 use Rattle.mos_tree.specs.declared.statement.Reference.{Reference}
 use Rattle.mos_tree.specs.declared.statement.Reference.TheVariants as target
 use Rattle.mos_tree.specs.declared.statement.Statement.{Statement}
@@ -23,9 +23,9 @@ use Rattle.mos_tree.specs.declared.source.Top.{Top}
 use Rattle.mos_tree.specs.declared.source.Top.TheVariants as top
 use Rattle.mos_tree.specs.declared.source.Tree.{Tree}
 use Rattle.mos_value.specs.Answers.{Operator}
-use Rattle.mos_meaning.specs.Syntax.{Expression, Shown, Effect, write, unbuilt_effect}
-use Rattle.mos_meaning.specs.Sources.{operator_of, applied, expression_step, expression, shown, procedure, assignment, block, branches, effect_step, effect, top_effect, statements_of}
-use Rattle.bim_compile.specs.Sizes.{size_of, size_of_all, size_of_effect, size_of_branches, size_of_block}
+use Rattle.mos_meaning.specs.Syntax.{Expression, Shown, CoreStatement, write, unbuilt_statement}
+use Rattle.mos_meaning.specs.Sources.{operator_of, application, expression_step, expression, shown_of, procedure, assignment, block, core_arms, core_step, core_of, core_of_top, statements_of}
+use Rattle.bim_compile.specs.Sizes.{size_of, size_of_all, size_of_core, size_of_arms, size_of_block}
 
 -- expressions
 
@@ -44,7 +44,7 @@ of-layer z h =
     let n = fold-roll-Expr ℕ nodes_step z in
     omega (arith, e, n, h)
 
-applied-within : (o : Option Operator) (a b : Expression) (n m : ℕ) → size_of a ≤ n → size_of b ≤ m → size_of (applied o a b) ≤ n + m + 1
+applied-within : (o : Option Operator) (a b : Expression) (n m : ℕ) → size_of a ≤ n → size_of b ≤ m → size_of (application o a b) ≤ n + m + 1
 applied-within None a b n m h k = omega arith
 applied-within (Some o) a b n m h k = omega arith
 
@@ -70,7 +70,7 @@ expression-within : (e : Expr) → Within e
 expression-within = ind-Expr Within (λ x y is. subst (λ z. Within (roll-Expr z)) is (of-layer (map-Expr SomeExpr Expr (λ e. e.0) y) (layer y)))
 
 -- what is printed
-shown-within : (all : List Expr) → size_of_all (shown (map expression all)) ≤ nodes_in all
+shown-within : (all : List Expr) → size_of_all (shown_of (map expression all)) ≤ nodes_in all
 shown-within [] = omega arith
 shown-within (e ∷ es) =
     omega (arith, expression-within e, shown-within es, sum-map nodes (e ∷ es), sum-map nodes es, sum_by-cons nodes e es)
@@ -78,26 +78,26 @@ shown-within (e ∷ es) =
 -- statements
 
 assignment-within : (line : ℕ) (to : Reference) (o : Assignment) (e : Expression) (n : ℕ) → size_of e ≤ n
-    → size_of_effect (assignment line to o e) ≤ size_of_reference to + n + 1
-assignment-within line (target.Name name) op.Set e n h = omega arith
-assignment-within line (target.Name name) op.Add e n h = omega arith
-assignment-within line (target.Name name) op.Take e n h = omega arith
+    → size_of_core (assignment line to o e) ≤ size_of_reference to + n + 1
+assignment-within line (target.Name name) assignment_kind.Set e n h = omega arith
+assignment-within line (target.Name name) assignment_kind.Add e n h = omega arith
+assignment-within line (target.Name name) assignment_kind.Take e n h = omega arith
 assignment-within line (target.Cell name all) o e n h = omega arith
 assignment-within line (target.Field name field) o e n h = omega arith
 assignment-within line (target.CellField name all field) o e n h = omega arith
 assignment-within line target.Returned o e n h = omega arith
 
 by-name : (line : ℕ) (first second : Bool) (all : Shown)
-    → size_of_effect (if first then write line true all else (if second then write line false all else unbuilt_effect)) ≤ size_of_all all + 1
+    → size_of_core (if first then write line true all else (if second then write line false all else unbuilt_statement)) ≤ size_of_all all + 1
 by-name line true second all = omega arith
 by-name line false true all = omega arith
 by-name line false false all = omega arith
 
-called-within : (line : ℕ) (called : List ℕ) (all : Shown) → size_of_effect (procedure line called all) ≤ size_of_all all + 1
+called-within : (line : ℕ) (called : List ℕ) (all : Shown) → size_of_core (procedure line called all) ≤ size_of_all all + 1
 called-within line called all = by-name line _ _ all
 
 abbrev StatementWithin : Statement → Type 0
-StatementWithin s = size_of_effect (effect s) ≤ size_of_statement s
+StatementWithin s = size_of_core (core_of s) ≤ size_of_statement s
 
 abbrev SomeStatement : Type 0
 SomeStatement = (s : Statement) × StatementWithin s
@@ -106,13 +106,13 @@ SomeStatement = (s : Statement) × StatementWithin s
 abbrev self : SomeStatement → Statement
 self s = s.0
 
-block-within : (all : List SomeStatement) → size_of_block (block (map effect (map self all))) ≤ sum (map size_of_statement (map self all))
+block-within : (all : List SomeStatement) → size_of_block (block (map core_of (map self all))) ≤ sum (map size_of_statement (map self all))
 block-within [] = omega arith
 block-within (s ∷ all) =
     omega (arith, s.1, block-within all, sum-map size_of_statement (map self (s ∷ all)), sum-map size_of_statement (map self all), sum_by-cons size_of_statement s.0 (map self all))
 
 arms-within : (arms : List (Arm SomeStatement)) (last : List SomeStatement)
-    → size_of_branches (branches (map (in_arm effect) (map (in_arm self) arms)) (map effect (map self last)))
+    → size_of_arms (core_arms (map (in_arm core_of) (map (in_arm self) arms)) (map core_of (map self last)))
     ≤ sum (map size_of_arm (map (in_arm size_of_statement) (map (in_arm self) arms))) + sum (map size_of_statement (map self last))
 arms-within [] last = let rest = block-within last in omega (arith, rest)
 arms-within (arm ∷ arms) last =
@@ -129,18 +129,18 @@ arms-within (arm ∷ arms) last =
     )
 
 abbrev StatementLayer : Statement-F Statement → Type 0
-StatementLayer z = size_of_effect (effect_step (map-Statement Statement Effect effect z)) ≤ size_step (map-Statement Statement ℕ size_of_statement z)
+StatementLayer z = size_of_core (core_step (map-Statement Statement CoreStatement core_of z)) ≤ size_step (map-Statement Statement ℕ size_of_statement z)
 
 of-statement : (z : Statement-F Statement) → StatementLayer z → StatementWithin (roll-Statement z)
 of-statement z h =
-    let e = ap size_of_effect (fold-roll-Statement Effect effect_step z) in
+    let e = ap size_of_core (fold-roll-Statement CoreStatement core_step z) in
     let n = fold-roll-Statement ℕ size_step z in
     omega (arith, e, n, h)
 
 statement-layer : (y : Statement-F SomeStatement) → StatementLayer (map-Statement SomeStatement Statement self y)
 statement-layer (Assign line to o value) = assignment-within line to o (expression value) (nodes value) (expression-within value)
 statement-layer (Call line called all) =
-    let called = called-within line called (shown (map expression all)) in omega (arith, called, shown-within all)
+    let called = called-within line called (shown_of (map expression all)) in omega (arith, called, shown-within all)
 statement-layer (If line arms last) = omega (arith, arms-within arms last)
 statement-layer (While line condition body) = omega (arith, expression-within condition, body.1)
 statement-layer (Do line body) = omega (arith, block-within body)
@@ -157,14 +157,14 @@ statement-within = ind-Statement StatementWithin (λ x y is. subst (λ z. Statem
 
 -- sources
 
-top-within : (t : Top) → size_of_effect (top_effect t) ≤ size_of_top t
+top-within : (t : Top) → size_of_core (core_of_top t) ≤ size_of_top t
 top-within (top.Statement s) = statement-within s
 top-within (top.Parameters line parameters) = omega arith
 top-within (top.Declarations declared) = omega arith
 top-within (top.Routine routine) = omega arith
 top-within (top.Forward heading) = omega arith
 
-tops-within : (tops : List Top) → size_of_block (block (map top_effect tops)) ≤ sum (map size_of_top tops)
+tops-within : (tops : List Top) → size_of_block (block (map core_of_top tops)) ≤ sum (map size_of_top tops)
 tops-within [] = omega arith
 tops-within (t ∷ tops) =
     omega (arith, top-within t, tops-within tops, sum-map size_of_top (t ∷ tops), sum-map size_of_top tops, sum_by-cons size_of_top t tops)

@@ -14,7 +14,7 @@ use Rattle.job_calls.specs.Runs.{Opening, source_of, replies_of, finish_of}
 use Rattle.hub_text.specs.ReportText.{report_text}
 use Rattle.bim_code.specs.declared.image.Image.{Image}
 use Rattle.bim_code.specs.Tables.{image_bytes}
-use Rattle.bim_code.specs.Limits.{FitsFields}
+use Rattle.bim_code.specs.Limits.{CountsInRange}
 use Rattle.bim_code.specs.Rules.{KeepsRules}
 use Rattle.bim_compile.specs.Means.{Means}
 use Rattle.lane_step.specs.Alone.{opening_with}
@@ -28,7 +28,7 @@ use Rattle.mos_meaning.specs.Follows.{Behaviour, behaviour_of, FollowsSources, F
 use Rattle.mosel_run.specs.declared.answer.Answer.{Answer}
 use Rattle.mosel_run.specs.Accepted.{IsAccepted, IsOnlyTree}
 use Rattle.mosel_run.specs.Jobs.{Model, accepted as accepted_file, OneThread, IsStatusOf, done, exited, failed, spent}
-use Rattle.mosel_run.specs.Making.{run_request, listed, IsStatusAtEnd}
+use Rattle.mosel_run.specs.Making.{run_request, listed_file, IsStatusAtEnd}
 use Rattle.mosel_run.specs.Puts.{puts_of, put_of, image_name, last_puts}
 use Rattle.mosel_run.specs.Run.{IsReport, IsReported}
 use Rattle.mosel_run.specs.declared.answer.Deed.TheVariants.{Write, Store}
@@ -91,13 +91,13 @@ no_puts files images o end = past 1 (o.lanes - 1)
     past lane (suc many) = past (lane + 1) many
 
 puts_are : (name source : List ℕ) (lanes budget : ℕ) (image : Image) (journal : List Entry) (end : End)
-    → journal ≡ schedule_of (opening_with lanes budget [] (listed name source ∷ [])) end
-    → puts_of (opening_with lanes budget [] (listed name source ∷ [])) journal (Some image ∷ [])
+    → journal ≡ schedule_of (opening_with lanes budget [] (listed_file name source ∷ [])) end
+    → puts_of (opening_with lanes budget [] (listed_file name source ∷ [])) journal (Some image ∷ [])
     ≡ record { name = image_name name; bytes = image_bytes image } ∷ []
 puts_are name source lanes budget image journal end is =
-    ap (λ (j : List Entry). puts_of (opening_with lanes budget [] (listed name source ∷ [])) j (Some image ∷ [])) is
+    ap (λ (j : List Entry). puts_of (opening_with lanes budget [] (listed_file name source ∷ [])) j (Some image ∷ [])) is
     ∙ ap (λ rest. record { name = image_name name; bytes = image_bytes image } ∷ last_puts rest)
-    (no_puts (listed name source ∷ []) (Some image ∷ []) (opening_with lanes budget [] (listed name source ∷ [])) end)
+    (no_puts (listed_file name source ∷ []) (Some image ∷ []) (opening_with lanes budget [] (listed_file name source ∷ [])) end)
 
 -- the status by the end of run 0
 by_end : (o : Opening) (journal : List Entry) (lines : List RunLine) (end : Option End) (status : Status) → HadMemory journal → IsWhole o journal
@@ -114,9 +114,9 @@ by_end o journal lines (Some end.NoMemory) status memory whole finish h = absurd
 by_end o journal lines None status memory whole finish h = absurd h
 
 pub is_report : (name source : List ℕ) (lanes budget : ℕ) (tree : Tree) (image : Image) (journal : List Entry) (lines : List RunLine) (end : End) (answer : Answer)
-    → is_source_name name ≡ true → IsAccepted source tree → IsOnlyTree source tree → Means (model_of tree) image → KeepsRules image → FitsFields image
-    → journal ≡ schedule_of (opening_with lanes budget [] (listed name source ∷ [])) end
-    → IsWhole (opening_with lanes budget [] (listed name source ∷ [])) journal
+    → is_source_name name ≡ true → IsAccepted source tree → IsOnlyTree source tree → Means (model_of tree) image → KeepsRules image → CountsInRange image
+    → journal ≡ schedule_of (opening_with lanes budget [] (listed_file name source ∷ [])) end
+    → IsWhole (opening_with lanes budget [] (listed_file name source ∷ [])) journal
     → FollowsSources journal lines (Some (course_of image) ∷ [])
     → finish_of 0 journal ≡ Some end
     → HadMemory journal
@@ -126,7 +126,7 @@ pub is_report : (name source : List ℕ) (lanes budget : ℕ) (tree : Tree) (ima
 is_report name source lanes budget tree image journal lines end answer named accepted only means rules fields is whole follows finish memory deeds status reported =
     let model : Model = record { tree = tree; image = image } in
     record {
-      files = listed name source ∷ [];
+      files = listed_file name source ∷ [];
       models = Some model ∷ [];
       master = model;
       journal = journal;
@@ -138,7 +138,7 @@ is_report name source lanes budget tree image journal lines end answer named acc
         tt,
       );
       master_is = refl;
-      job = record { ended = by_end (opening_with lanes budget [] (listed name source ∷ [])) journal lines (Some end) answer.status memory whole finish status; written = (end, is); follows = follows_source journal lines tree image means follows };
+      job = record { ended = by_end (opening_with lanes budget [] (listed_file name source ∷ [])) journal lines (Some end) answer.status memory whole finish status; written = (end, is); follows = follows_source journal lines tree image means follows };
       deeds = deeds ∙ ap (λ (puts : List Put). Write (report_text journal lines) ∷ map Store puts) (sym (puts_are name source lanes budget image journal end is));
       so_far = reported;
     }

@@ -5,8 +5,8 @@ use Rattle.std.specs.Prelude.{◌≡◌, ℕ, List, [], ◌∷◌, Option, Some,
 use Rattle.mos_text.specs.Limits.{source_limit}
 use Rattle.hub_text.specs.ErrorLines.{usage_line}
 use Rattle.mos_words.specs.CommandLine.{command_of}
-use Rattle.mos_words.specs.declared.words.commands.Command.{Command}
-use Rattle.mos_words.specs.declared.words.commands.Command.TheVariants.{Run}
+use Rattle.mos_words.specs.declared.command_line.commands.Command.{Command}
+use Rattle.mos_words.specs.declared.command_line.commands.Command.TheVariants.{Run}
 use Rattle.mosel_run.specs.declared.answer.Answer.{Answer}
 use Rattle.mosel_run.specs.declared.status.Status.{Status}
 use Rattle.mosel_run.specs.declared.status.Status.TheVariants.{Usage, NoMemory}

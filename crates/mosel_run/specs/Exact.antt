@@ -7,8 +7,8 @@ use Rattle.mos_text.specs.declared.folder.Got.{Got}
 use Rattle.mos_text.specs.declared.kind.Kind.{Kind}
 use Rattle.mos_tree.specs.declared.source.Tree.{Tree}
 use Rattle.mos_words.specs.CommandLine.{command_of}
-use Rattle.mos_words.specs.declared.words.commands.Command.{Command}
-use Rattle.mos_words.specs.declared.words.commands.Command.TheVariants.{Run}
+use Rattle.mos_words.specs.declared.command_line.commands.Command.{Command}
+use Rattle.mos_words.specs.declared.command_line.commands.Command.TheVariants.{Run}
 use Rattle.mosel_run.specs.declared.status.Status.{Status}
 use Rattle.mosel_run.specs.declared.status.Status.TheVariants.{Usage, Refused, FolderFault, SinkFault, NoMemory}
 use Rattle.mosel_run.specs.Accepted.{IsAccepted, IsRefusedAt}

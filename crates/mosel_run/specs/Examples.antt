@@ -4,7 +4,7 @@ use Rattle.std.specs.Prelude.{◌≡◌, List, [], ◌∷◌, Some, pos, codes}
 use Rattle.job_calls.specs.declared.call.Call.TheVariants.{Compile, Write}
 use Rattle.job_calls.specs.declared.end.End.TheVariants as end
 use Rattle.job_calls.specs.declared.entry.Entry.{Entry}
-use Rattle.job_calls.specs.declared.reply.Reply.TheVariants.{Code, Unit as Acknowledged}
+use Rattle.job_calls.specs.declared.reply.Reply.TheVariants.{Code, Unit as UnitReply}
 use Rattle.job_calls.specs.Runs.{Opening}
 use Rattle.job_calls.specs.HelloJournal.{hello_entries, hello_file, entry}
 use Rattle.bim_code.specs.Tables.{image_bytes}
@@ -63,8 +63,8 @@ HelloIsWhole = IsWhole hello_opening hello_entries
 abbrev pub puts_entries : List Entry
 puts_entries =
     entry (0 ∷ []) (Compile (codes "child.mos") (codes "c.bim")) (Code 0)
-    ∷ entry (0 ∷ []) (Write (codes "shmem:x") (codes "v: 1\n")) Acknowledged
-    ∷ entry (0 ∷ []) (Write (codes "o.dat") (codes "v: 2\n")) Acknowledged
+    ∷ entry (0 ∷ []) (Write (codes "shmem:x") (codes "v: 1\n")) UnitReply
+    ∷ entry (0 ∷ []) (Write (codes "o.dat") (codes "v: 2\n")) UnitReply
     ∷ entry (0 ∷ []) (Compile (codes "hello.mos") (codes "c.bim")) (Code 0)
     ∷ entry (0 ∷ []) (Compile (codes "wrong.mos") (codes "w.bim")) (Code 1)
     ∷ []

@@ -12,7 +12,7 @@ use Rattle.job_calls.specs.declared.run_line.RunLine.{RunLine}
 use Rattle.job_calls.specs.Runs.{Opening, finish_of}
 use Rattle.mos_text.specs.FileName.{is_source_name, is_image_name}
 use Rattle.bim_code.specs.declared.image.Image.{Image}
-use Rattle.bim_code.specs.Limits.{FitsFields}
+use Rattle.bim_code.specs.Limits.{CountsInRange}
 use Rattle.bim_code.specs.Rules.{KeepsRules}
 use Rattle.bim_compile.specs.Means.{Means}
 use Rattle.mos_meaning.specs.Follows.{Behaviour, behaviour_of, FollowsSources}
@@ -37,7 +37,7 @@ pub record IsModelOf (source : List ℕ) (model : Model) : Type 0 where
   pub only : IsOnlyTree source model.tree
   pub means : Means (model_of model.tree) model.image
   pub rules : KeepsRules model.image
-  pub fields : FitsFields model.image
+  pub fields : CountsInRange model.image
 
 -- what a listed file is: a source with a model exactly where it is accepted, or data
 pub data IsJudged (file : Listed) : Option Model → Type 0 where

@@ -7,7 +7,7 @@ use Rattle.mos_tree.specs.declared.source.Tree.{Tree}
 use Rattle.job_calls.specs.declared.entry.Entry.{Entry}
 use Rattle.job_calls.specs.declared.entry.Listed.{Listed}
 use Rattle.job_calls.specs.declared.run_line.RunLine.{RunLine}
-use Rattle.job_calls.specs.Words.{own_entries, has_quit, run_count, is_finished}
+use Rattle.job_calls.specs.Entries.{own_entries, has_quit, run_count, is_finished}
 use Rattle.job_calls.specs.Runs.{Opening, opening, source_of, last_given}
 use Rattle.mos_meaning.specs.Follows.{Behaviour, FollowsSources}
 use Rattle.mos_parse.specs.Parsed.{IsParsed, IsSyntaxFault}

@@ -5,15 +5,15 @@ use Rattle.mos_text.specs.Limits.{source_limit}
 use Rattle.job_calls.specs.declared.end.End.{End}
 use Rattle.job_calls.specs.declared.end.End.TheVariants as end
 use Rattle.job_calls.specs.declared.entry.Listed.{Listed}
-use Rattle.mos_words.specs.declared.words.commands.Command.TheVariants.{Run}
+use Rattle.mos_words.specs.declared.command_line.commands.Command.TheVariants.{Run}
 use Rattle.mosel_run.specs.declared.status.Status.{Status}
 use Rattle.mosel_run.specs.declared.status.Status.TheVariants.{Done, MasterFailed, MasterSpent}
 use Rattle.mosel_run.specs.Answered.{request_of}
 use Rattle.mosel_run.specs.Run.{Request}
 
 -- an accepted source as a listed file
-abbrev pub listed : List ℕ → List ℕ → Listed
-listed name source = record { name = name; bytes = source; code = 0 }
+abbrev pub listed_file : List ℕ → List ℕ → Listed
+listed_file name source = record { name = name; bytes = source; code = 0 }
 
 -- one source, in size
 abbrev pub IsOneSource : List (List ℕ) → Type 0

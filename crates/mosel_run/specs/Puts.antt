@@ -7,7 +7,7 @@ use Rattle.std.specs.Str.{bytes_eq}
 use Rattle.job_calls.specs.declared.call.Call.{Call}
 use Rattle.job_calls.specs.declared.call.Call.TheVariants as call
 use Rattle.job_calls.specs.declared.reply.Reply.{Reply}
-use Rattle.job_calls.specs.declared.reply.Reply.TheVariants.{Code, Unit as Acknowledged}
+use Rattle.job_calls.specs.declared.reply.Reply.TheVariants.{Code, Unit as UnitReply}
 use Rattle.job_calls.specs.declared.entry.Entry.{Entry}
 use Rattle.job_calls.specs.declared.entry.Listed.{Listed}
 use Rattle.job_calls.specs.Runs.{Opening, last_given}
@@ -39,7 +39,7 @@ plain_write name bytes = if starts_with nat_eq name (codes "shmem:") then None e
 abbrev pub put_of : List Listed → List (Option Image) → Call → Reply → Option Put
 put_of files images (call.Compile src dst) (Code code) =
     if nat_eq code 0 then Some record { name = dst; bytes = bytes_of_source files images src } else None
-put_of files images (call.Write name bytes) Acknowledged = plain_write name bytes
+put_of files images (call.Write name bytes) UnitReply = plain_write name bytes
 put_of files images (call.Open lanes budget params listed) reply = None
 put_of files images call.Claim reply = None
 put_of files images call.Quit reply = None

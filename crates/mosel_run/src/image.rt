@@ -1,7 +1,7 @@
 //! The image of an accepted source, and its name.
 ghost use Rattle.std.specs.Prelude.{◌≡◌, ◌≤◌, ◌<◌, ◌^◌, true, IfOk};
 ghost use Rattle.bim_code.specs.Code.{code_size};
-ghost use Rattle.bim_code.specs.Limits.{FitsFields};
+ghost use Rattle.bim_code.specs.Limits.{CountsInRange};
 ghost use Rattle.bim_code.specs.Rules.{KeepsRules};
 ghost use Rattle.bim_compile.specs.Means.{Means, NeverFails};
 ghost use Rattle.mos_meaning.specs.Sources.{model_of};
@@ -25,7 +25,7 @@ pub(crate) fn image_of(alloc: Global, tree: &Tree) -> Result<Image, NoMemory>
     ensures means { IfOk result (Means (model_of tree.now)) }
     ensures never_fails { IfOk result NeverFails }
     ensures rules { IfOk result KeepsRules }
-    ensures fields { IfOk result FitsFields }
+    ensures fields { IfOk result CountsInRange }
     ensures small { IfOk result (λ image. code_size image.code < 2 ^ 30) }
 {
     checked_models();

@@ -1,16 +1,16 @@
 //! The command `run`: its files, its job, and what comes of it.
 ghost use Rattle.std.specs.Prelude.{◌≡◌, ◌≤◌, ◌∷◌, [], IfOk, Some, true, length};
-ghost use Rattle.bim_code.specs.Limits.{FitsFields};
+ghost use Rattle.bim_code.specs.Limits.{CountsInRange};
 ghost use Rattle.bim_code.specs.Tables.{image_bytes};
 ghost use Rattle.hub_text.specs.ReportText.{report_text};
-ghost use Rattle.mos_words.specs.Fit.{IsFit};
+ghost use Rattle.mos_words.specs.Fit.{IsWithinLimits};
 ghost use Rattle.mos_text.specs.FileName.{is_source_name};
 ghost use Rattle.mos_text.specs.Limits.{source_limit};
-ghost use Rattle.mos_words.specs.declared.words.commands.Command.TheVariants.{Run as RunCommand};
+ghost use Rattle.mos_words.specs.declared.command_line.commands.Command.TheVariants.{Run as RunCommand};
 ghost use Rattle.lane_step.specs.Alone.{IsOwnEnd};
 ghost use Rattle.mosel_run.specs.Accepted.{IsAccepted, IsOnlyTree};
 ghost use Rattle.mosel_run.specs.Jobs.{OneThread};
-ghost use Rattle.mosel_run.specs.Making.{IsOneSource, IsStatusAtEnd, listed, run_request};
+ghost use Rattle.mosel_run.specs.Making.{IsOneSource, IsStatusAtEnd, listed_file, run_request};
 ghost use Rattle.mosel_run.specs.Puts.{image_name};
 ghost use Rattle.mosel_run.specs.Run.{IsRunAnswer, IsAnswerTo, IsReport, IsReported};
 ghost use Rattle.mosel_run.specs.declared.answer.Deed.TheVariants.{Write, Store};
@@ -43,7 +43,7 @@ pub(crate) fn answer_run<F: Folder>(
     budget: u32,
     folder: &mut F,
 ) -> Result<Answer, NoMemory>
-    requires { IsFit (RunCommand name lanes budget) }
+    requires { IsWithinLimits (RunCommand name lanes budget) }
     ensures answer { IfOk result (IsRunAnswer OneThread (run_request name lanes budget)
         (folder_of F.Folder folder.old) (folder_of F.Folder folder.new)) }
     ensures content { F.content folder.new ≡ F.content folder.old }
@@ -77,7 +77,7 @@ fn answer_sources(
     budget: u32,
     sources: &[Blob],
 ) -> Result<Answer, NoMemory>
-    requires fit { IsFit (RunCommand name.now lanes budget) }
+    requires fit { IsWithinLimits (RunCommand name.now lanes budget) }
     requires one { IsOneSource sources.now }
     ensures { IfOk result (IsAnswerTo OneThread (run_request name.now lanes budget) sources.now) }
 {
@@ -95,7 +95,7 @@ fn answer_source(
     budget: u32,
     source: &[u8],
 ) -> Result<Answer, NoMemory>
-    requires fit { IsFit (RunCommand name.now lanes budget) }
+    requires fit { IsWithinLimits (RunCommand name.now lanes budget) }
     requires small { length source.now ≤ source_limit }
     ensures { IfOk result
         (IsAnswerTo OneThread (run_request name.now lanes budget) (source.now ∷ [])) }
@@ -116,7 +116,7 @@ fn report(
     source: &[u8],
     tree: &Tree,
 ) -> Result<Answer, NoMemory>
-    requires fit { IsFit (RunCommand name.now lanes budget) }
+    requires fit { IsWithinLimits (RunCommand name.now lanes budget) }
     requires accepted { IsAccepted source.now tree.now }
     requires only { IsOnlyTree source.now tree.now }
     requires not_large { size_of_tree tree.now ≤ source_limit }
@@ -140,7 +140,7 @@ fn no_params(alloc: Global) -> Text
 
 /// The source, as the job lists it.
 fn files(alloc: Global, name: &Text, source: &[u8]) -> Result<Items<Listed>, NoMemory>
-    ensures { IfOk result (λ files. files ≡ listed name.now source.now ∷ []) }
+    ensures { IfOk result (λ files. files ≡ listed_file name.now source.now ∷ []) }
 {
     let name = name.copy(alloc)?;
     let bytes = SharedBlob::new(alloc, Blob::new(alloc, source)?)?;
@@ -155,7 +155,7 @@ fn files(alloc: Global, name: &Text, source: &[u8]) -> Result<Items<Listed>, NoM
 
 /// The image as a file to put.
 fn put_of_image(alloc: Global, name: &Text, image: Image) -> Result<Put, NoMemory>
-    requires fields { FitsFields image }
+    requires fields { CountsInRange image }
     requires source { is_source_name name.now ≡ true }
     ensures { IfOk result (λ put.
         put ≡ record { name = image_name name.now; bytes = image_bytes image }) }

@@ -5,7 +5,7 @@ use Rattle.std.specs.Prelude.{is_some, is_none, if◌then◌else◌, option_map}
 use Rattle.std.specs.List.{position_or_len}
 use Rattle.mos_text.specs.declared.scalar.Scalar.{Scalar}
 use Rattle.mos_names.specs.NameLists.{Name, place_of}
-use Rattle.run_state.specs.Parameters.{Parameter, Written, trimmed, written_of, value_like, and_then, given_by, given_behind, refused_value, refused_written, refused_item, first_name, refused_items}
+use Rattle.run_state.specs.Parameters.{Parameter, WrittenValue, trim, written_of, value_like, and_then, given_by, given_behind, refused_value, refused_written, refused_item, first_name, refused_items}
 
 -- what is written gives a value of the type of the parameter, or is refused for its name
 by_value : (name : Name) (place : ℕ) (o : Option Scalar) → is_some (if is_none o then Some name else None) ≡ is_none {T = ℕ × Scalar} (option_map (λ (v : Scalar). (place, v)) o)
@@ -13,7 +13,7 @@ by_value name place None = refl
 by_value name place (Some v) = refl
 
 -- the parameter is there, or not
-by_found : (name : Name) (place : ℕ) (written : Written) (o : Option Parameter)
+by_found : (name : Name) (place : ℕ) (written : WrittenValue) (o : Option Parameter)
     → is_some (refused_value name written o) ≡ is_none {T = ℕ × Scalar} (and_then o (λ (p : Parameter). option_map (λ (v : Scalar). (place, v)) (value_like p.default written)))
 by_found name place written None = refl
 by_found name place written (Some p) = by_value name place (value_like p.default written)
@@ -24,7 +24,7 @@ nothing_found A None = refl
 nothing_found A (Some p) = refl
 
 -- a value is written, or not
-by_written : (params : List Parameter) (name : Name) (o : Option Written)
+by_written : (params : List Parameter) (name : Name) (o : Option WrittenValue)
     → is_some (refused_written params name o)
     ≡ is_none {T = ℕ × Scalar} (and_then (slice_get params (place_of name (map (λ (p : Parameter). p.name) params))) (λ (p : Parameter).
     and_then o (λ written. option_map (λ (v : Scalar). (place_of name (map (λ (q : Parameter). q.name) params), v)) (value_like p.default written))))
@@ -41,7 +41,7 @@ by_equals false name refused given e = e
 item_refused : (params : List Parameter) (item : List ℕ) → is_some (refused_item params item) ≡ is_none (given_by params item)
 item_refused params item =
     let equals : ℕ = position_or_len (nat_eq 61) item in
-    by_equals (nat_eq equals (length item)) [] _ _ (by_written params (trimmed (take equals item)) (written_of (trimmed (drop (equals + 1) item))))
+    by_equals (nat_eq equals (length item)) [] _ _ (by_written params (trim (take equals item)) (written_of (trim (drop (equals + 1) item))))
 
 -- the first item that is refused decides
 by_first : (params : List Parameter) (values : List Scalar) (items : List (List ℕ)) (name : Option Name) (given : Option (ℕ × Scalar))

@@ -6,7 +6,7 @@ use Rattle.job_calls.specs.declared.call.Call.{Call}
 use Rattle.job_calls.specs.declared.reply.Reply.{Reply}
 use Rattle.job_calls.specs.declared.reply.Reply.TheVariants as reply
 use Rattle.run_state.specs.Stops.{Stop, Failed, Stopped, Asking, Stuck}
-use Rattle.run_state.specs.State.{World, Counts, Told, Took, Cut}
+use Rattle.run_state.specs.State.{World, Counts, Drawn, Draws, DrawStops}
 
 -- what an instruction or a form asks of the hub
 pub data Query : Type 0 where
@@ -46,24 +46,24 @@ abbrev pub with_call : Call → Counts → Counts
 with_call call counts = record counts { calls = counts.calls ++ call ∷ [] }
 
 -- a reply that goes on, or the stop that it is
-abbrev pub reply_or_stop : Option Stop → Reply → Counts → Told Reply
-reply_or_stop None r counts = Took r counts
-reply_or_stop (Some stop) r counts = Cut stop counts
+abbrev pub reply_or_stop : Option Stop → Reply → Counts → Drawn Reply
+reply_or_stop None r counts = Draws r counts
+reply_or_stop (Some stop) r counts = DrawStops stop counts
 
 -- what a call comes to, with the reply that is found
-abbrev pub replied : Option Reply → Call → Counts → Told Reply
-replied None call counts = Cut (Asking call) counts
-replied (Some r) call counts = reply_or_stop (stop_by r) r (with_call call counts)
+abbrev pub drawn_reply : Option Reply → Call → Counts → Drawn Reply
+drawn_reply None call counts = DrawStops (Asking call) counts
+drawn_reply (Some r) call counts = reply_or_stop (stop_by r) r (with_call call counts)
 
 -- the next reply is that behind as many as there were calls; where there is none the call is asked and
 -- is not among those that were answered
-abbrev pub ask : World → Call → Counts → Told Reply
-ask w call counts = replied (slice_get w.replies (length counts.calls)) call counts
+abbrev pub ask : World → Call → Counts → Drawn Reply
+ask w call counts = drawn_reply (slice_get w.replies (length counts.calls)) call counts
 
 -- a reply as the answer of a query
-abbrev pub as_answer : Told Reply → Told Answer
-as_answer (Took r counts) = Took (Replied r) counts
-as_answer (Cut stop counts) = Cut stop counts
+abbrev pub as_answer : Drawn Reply → Drawn Answer
+as_answer (Draws r counts) = Draws (Replied r) counts
+as_answer (DrawStops stop counts) = DrawStops stop counts
 
 -- what a reply brings of a pipe
 pub data Piece : Type 0 where
@@ -95,23 +95,23 @@ piece_in reply.Halt = NoPiece
 piece_in (reply.Fault kind) = NoPiece
 
 -- more bytes, where there are at most 1,048,576 then
-abbrev pub further : Bool → List ℕ → Counts → (List ℕ → Counts → Told Answer) → Told Answer
-further true bytes counts go = go bytes counts
-further false bytes counts go = Cut (Failed TooBig) counts
+abbrev pub drawn_bytes : Bool → List ℕ → Counts → (List ℕ → Counts → Drawn Answer) → Drawn Answer
+drawn_bytes true bytes counts go = go bytes counts
+drawn_bytes false bytes counts go = DrawStops (Failed TooBig) counts
 
 -- what a call that takes from a pipe comes to, and what is done with the bytes so far
-abbrev pub taken : Option Stop → Piece → List ℕ → Counts → (List ℕ → Counts → Told Answer) → Told Answer
-taken (Some stop) piece sofar counts go = Cut stop counts
-taken None (Part bytes) sofar counts go = further (nat_le (length (sofar ++ bytes)) 1048576) (sofar ++ bytes) counts go
-taken None Last sofar counts go = Took (Drained sofar) counts
-taken None NoPiece sofar counts go = Cut Stuck counts
+abbrev pub drawn_piece : Option Stop → Piece → List ℕ → Counts → (List ℕ → Counts → Drawn Answer) → Drawn Answer
+drawn_piece (Some stop) piece sofar counts go = DrawStops stop counts
+drawn_piece None (Part bytes) sofar counts go = drawn_bytes (nat_le (length (sofar ++ bytes)) 1048576) (sofar ++ bytes) counts go
+drawn_piece None Last sofar counts go = Draws (Drained sofar) counts
+drawn_piece None NoPiece sofar counts go = DrawStops Stuck counts
 
 -- with these replies left
-abbrev pub drain : Call → List Reply → List ℕ → Counts → Told Answer
-drain call [] sofar counts = Cut (Asking call) counts
-drain call (r ∷ rs) sofar counts = taken (stop_by r) (piece_in r) sofar (with_call call counts) (drain call rs)
+abbrev pub drain : Call → List Reply → List ℕ → Counts → Drawn Answer
+drain call [] sofar counts = DrawStops (Asking call) counts
+drain call (r ∷ rs) sofar counts = drawn_piece (stop_by r) (piece_in r) sofar (with_call call counts) (drain call rs)
 
 -- what a query comes to
-abbrev pub inquire : World → Query → Counts → Told Answer
+abbrev pub inquire : World → Query → Counts → Drawn Answer
 inquire w (Once call) counts = as_answer (ask w call counts)
 inquire w (UntilEnd call) counts = drain call (drop (length counts.calls) w.replies) [] counts

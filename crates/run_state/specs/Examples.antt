@@ -7,7 +7,7 @@ use Rattle.job_calls.specs.declared.call.Call.TheVariants as call
 use Rattle.job_calls.specs.declared.reply.Reply.TheVariants as reply
 use Rattle.mos_value.specs.Values.{One}
 use Rattle.run_state.specs.Stops.{Failed, Spent, Stopped, Asking}
-use Rattle.run_state.specs.State.{Took, Cut, tick}
+use Rattle.run_state.specs.State.{Draws, DrawStops, tick}
 use Rattle.run_state.specs.Calls.{ask, inquire, UntilEnd, Drained}
 use Rattle.run_state.specs.HubFunctions.{isqueueempty, send, HasValue, NoValue, NoReply, result_of_reply}
 use Rattle.run_state.specs.Parameters.{Parameter, given_values, refused_name}
@@ -45,10 +45,10 @@ abbrev pub Replies : Type 0
 Replies =
     map (λ replies. ask (record { replies = replies; budget = 0 }) call.Wait (record { calls = call.IsEmpty ∷ []; ticks = 3 }))
     ((reply.Flag true ∷ reply.Unit ∷ []) ∷ (reply.Flag true ∷ reply.Halt ∷ []) ∷ (reply.Flag true ∷ reply.Fault Busy ∷ []) ∷ (reply.Flag true ∷ []) ∷ [])
-    ≡ Took reply.Unit (record { calls = call.IsEmpty ∷ call.Wait ∷ []; ticks = 3 })
-    ∷ Cut Stopped (record { calls = call.IsEmpty ∷ call.Wait ∷ []; ticks = 3 })
-    ∷ Cut (Failed Busy) (record { calls = call.IsEmpty ∷ call.Wait ∷ []; ticks = 3 })
-    ∷ Cut (Asking call.Wait) (record { calls = call.IsEmpty ∷ []; ticks = 3 }) ∷ []
+    ≡ Draws reply.Unit (record { calls = call.IsEmpty ∷ call.Wait ∷ []; ticks = 3 })
+    ∷ DrawStops Stopped (record { calls = call.IsEmpty ∷ call.Wait ∷ []; ticks = 3 })
+    ∷ DrawStops (Failed Busy) (record { calls = call.IsEmpty ∷ call.Wait ∷ []; ticks = 3 })
+    ∷ DrawStops (Asking call.Wait) (record { calls = call.IsEmpty ∷ []; ticks = 3 }) ∷ []
 
 -- a function has the value of its reply, a procedure has none, and another reply is none to the call
 abbrev pub HubResults : Type 0
@@ -61,11 +61,11 @@ abbrev pub Drains : Type 0
 Drains =
     map (λ replies. inquire (record { replies = replies; budget = 0 }) (UntilEnd (call.PipeTake (codes "p"))) (record { calls = []; ticks = 0 }))
     ((reply.Bytes (1 ∷ 2 ∷ []) ∷ reply.Bytes (3 ∷ []) ∷ reply.PipeEnd ∷ []) ∷ (reply.Bytes (1 ∷ []) ∷ []) ∷ [])
-    ≡ Took (Drained (1 ∷ 2 ∷ 3 ∷ [])) (record { calls = call.PipeTake (codes "p") ∷ call.PipeTake (codes "p") ∷ call.PipeTake (codes "p") ∷ []; ticks = 0 })
-    ∷ Cut (Asking (call.PipeTake (codes "p"))) (record { calls = call.PipeTake (codes "p") ∷ []; ticks = 0 }) ∷ []
+    ≡ Draws (Drained (1 ∷ 2 ∷ 3 ∷ [])) (record { calls = call.PipeTake (codes "p") ∷ call.PipeTake (codes "p") ∷ call.PipeTake (codes "p") ∷ []; ticks = 0 })
+    ∷ DrawStops (Asking (call.PipeTake (codes "p"))) (record { calls = call.PipeTake (codes "p") ∷ []; ticks = 0 }) ∷ []
 
 -- the last tick of a budget, and one more
 abbrev pub Ticks : Type 0
 Ticks =
     map (λ taken. tick (record { replies = []; budget = 2 }) (record { calls = []; ticks = taken })) (1 ∷ 2 ∷ [])
-    ≡ Took tt (record { calls = []; ticks = 2 }) ∷ Cut Spent (record { calls = []; ticks = 2 }) ∷ []
+    ≡ Draws tt (record { calls = []; ticks = 2 }) ∷ DrawStops Spent (record { calls = []; ticks = 2 }) ∷ []

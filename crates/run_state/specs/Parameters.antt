@@ -29,8 +29,8 @@ skip_blanks [] = []
 skip_blanks (byte ∷ more) = if is_blank byte then skip_blanks more else byte ∷ more
 
 -- without the blanks at both ends
-abbrev pub trimmed : List ℕ → List ℕ
-trimmed text = reverse (skip_blanks (reverse (skip_blanks text)))
+abbrev pub trim : List ℕ → List ℕ
+trim text = reverse (skip_blanks (reverse (skip_blanks text)))
 
 -- a quote of either kind
 abbrev pub is_quote : ℕ → Bool
@@ -61,22 +61,22 @@ items_of text = items_from None [] text
 -- Values as they are written.
 
 -- with quotes around it, or without
-pub data Written : Type 0 where
-  Quoted : List ℕ → Written
-  Bare : List ℕ → Written
+pub data WrittenValue : Type 0 where
+  Quoted : List ℕ → WrittenValue
+  Bare : List ℕ → WrittenValue
 
 -- what stands behind an opening quote: that quote ends it, and stands in it nowhere else
-abbrev pub quoted : ℕ → List ℕ → Option Written
-quoted quote more =
+abbrev pub quoted_written : ℕ → List ℕ → Option WrittenValue
+quoted_written quote more =
     if nat_eq (position_or_len (nat_eq quote) more + 1) (length more)
     then Some (Quoted (take (length more - 1) more))
     else None
 
 -- a value as it is written, where it is one
-abbrev pub written_of : List ℕ → Option Written
+abbrev pub written_of : List ℕ → Option WrittenValue
 written_of [] = Some (Bare [])
 written_of (byte ∷ more) =
-    if is_quote byte then quoted byte more
+    if is_quote byte then quoted_written byte more
     else (if list_any is_quote more then None else Some (Bare (byte ∷ more)))
 
 -- decimal digits, of which the first were read
@@ -111,7 +111,7 @@ abbrev pub text_of : List ℕ → Option Scalar
 text_of text = if nat_le (length text) 1000000 then Some (Str text) else None
 
 -- the value that is written, of the type of the first one
-abbrev pub value_like : Scalar → Written → Option Scalar
+abbrev pub value_like : Scalar → WrittenValue → Option Scalar
 value_like (Int n) (Bare text) = fitting (signed_digits text)
 value_like (Truth b) (Bare text) = truth_of text
 value_like (Str t) (Bare text) = text_of text
@@ -132,10 +132,10 @@ and_then (Some x) go = go x
 abbrev pub given_by : List Parameter → List ℕ → Option (ℕ × Scalar)
 given_by params item =
     let equals = position_or_len (nat_eq 61) item in
-    let place = place_of (trimmed (take equals item)) (map (λ (p : Parameter). p.name) params) in
+    let place = place_of (trim (take equals item)) (map (λ (p : Parameter). p.name) params) in
     if nat_eq equals (length item) then None
     else and_then (slice_get params place) (λ (p : Parameter).
-    and_then (written_of (trimmed (drop (equals + 1) item))) (λ written. option_map (λ v. (place, v)) (value_like p.default written)))
+    and_then (written_of (trim (drop (equals + 1) item))) (λ written. option_map (λ v. (place, v)) (value_like p.default written)))
 
 -- the values behind some items; each counts from then on
 abbrev pub given_behind : List Parameter → List Scalar → List (List ℕ) → Option (List Scalar)
@@ -150,12 +150,12 @@ given_values params text = given_behind params (map (λ (p : Parameter). p.defau
 -- The name for which a text is refused.
 
 -- of an item that is written well, where the parameter is found
-abbrev pub refused_value : Name → Written → Option Parameter → Option Name
+abbrev pub refused_value : Name → WrittenValue → Option Parameter → Option Name
 refused_value name written None = Some name
 refused_value name written (Some p) = if is_none (value_like p.default written) then Some name else None
 
 -- of an item with this name; the empty one where its value is none at all
-abbrev pub refused_written : List Parameter → Name → Option Written → Option Name
+abbrev pub refused_written : List Parameter → Name → Option WrittenValue → Option Name
 refused_written params name None = Some []
 refused_written params name (Some written) =
     refused_value name written (slice_get params (place_of name (map (λ (p : Parameter). p.name) params)))
@@ -165,7 +165,7 @@ abbrev pub refused_item : List Parameter → List ℕ → Option Name
 refused_item params item =
     let equals = position_or_len (nat_eq 61) item in
     if nat_eq equals (length item) then Some []
-    else refused_written params (trimmed (take equals item)) (written_of (trimmed (drop (equals + 1) item)))
+    else refused_written params (trim (take equals item)) (written_of (trim (drop (equals + 1) item)))
 
 -- the first of these
 abbrev pub first_name : Option Name → Option Name → Option Name
@@ -195,5 +195,5 @@ with_values (slot ∷ slots) (value ∷ values) frame =
     if nat_lt slot (length frame) then with_values slots values (slice_set frame slot (One value)) else None
 
 -- a run whose parameter text is refused does nothing
-abbrev pub refused : Outcome
-refused = record { output = []; calls = []; ticks = 0; stop = Failed BadParam }
+abbrev pub refused_outcome : Outcome
+refused_outcome = record { output = []; calls = []; ticks = 0; stop = Failed BadParam }

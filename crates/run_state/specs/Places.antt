@@ -58,10 +58,10 @@ argument_places frame slot (ByValue value ∷ rest) = record { frame = frame; sl
 argument_places frame slot (ByPlace place ∷ rest) = place ∷ argument_places frame (slot + 1) rest
 
 -- the store of a routine that begins, and the store behind one that was left
-abbrev pub entered : List Argument → List (List Value) → List (List Value)
-entered slots store = map value_in slots ∷ store
+abbrev pub store_inside : List Argument → List (List Value) → List (List Value)
+store_inside slots store = map value_in slots ∷ store
 
 -- the store behind a routine that was left
-abbrev pub left : List (List Value) → List (List Value)
-left [] = []
-left (f ∷ fs) = fs
+abbrev pub store_behind : List (List Value) → List (List Value)
+store_behind [] = []
+store_behind (f ∷ fs) = fs

@@ -37,12 +37,12 @@ beginning values = record {
 }
 
 -- the same with another store, with other counts
-abbrev pub over : List (List Value) → State → State
-over store s = record s { memory = record s.memory { store = store } }
+abbrev pub with_store : List (List Value) → State → State
+with_store store s = record s { memory = record s.memory { store = store } }
 
 -- with other counts
-abbrev pub counting : Counts → State → State
-counting counts s = record s { counts = counts }
+abbrev pub with_counts : Counts → State → State
+with_counts counts s = record s { counts = counts }
 
 -- what is told of a run that stopped in this state
 abbrev pub outcome_of : Stop → State → Outcome
@@ -56,14 +56,14 @@ outcome_of stop s = record {
 -- What is done comes to a result, or stops the run.
 
 -- with the state behind it; a stop may have its line in the source
-pub data Out (A : Type 0) : Type 0 where
-  Gave : (x : A) (s : State) → Out A
-  Halts : (stop : Stop) (line : Option ℕ) (s : State) → Out A
+pub data Evaluation (A : Type 0) : Type 0 where
+  Yields : (x : A) (s : State) → Evaluation A
+  StopsWith : (stop : Stop) (line : Option ℕ) (s : State) → Evaluation A
 
 -- one thing, then what is done with its result
-abbrev pub bind : {A B : Type 0} → Out A → (A → State → Out B) → Out B
-bind (Gave x s) go = go x s
-bind (Halts stop line s) go = Halts stop line s
+abbrev pub bind : {A B : Type 0} → Evaluation A → (A → State → Evaluation B) → Evaluation B
+bind (Yields x s) go = go x s
+bind (StopsWith stop line s) go = StopsWith stop line s
 
 -- a stop that has no line yet has this one
 abbrev pub line_or : Option ℕ → ℕ → ℕ
@@ -71,50 +71,50 @@ line_or None line = line
 line_or (Some inner) line = inner
 
 -- what arises in the piece on this line
-abbrev pub on_line : {A : Type 0} → ℕ → Out A → Out A
-on_line line (Gave x s) = Gave x s
-on_line line (Halts stop inner s) = Halts stop (Some (line_or inner line)) s
+abbrev pub on_line : {A : Type 0} → ℕ → Evaluation A → Evaluation A
+on_line line (Yields x s) = Yields x s
+on_line line (StopsWith stop inner s) = StopsWith stop (Some (line_or inner line)) s
 
 -- what is there, or this stop
-abbrev pub or_stop : {A : Type 0} → Stop → Option A → State → Out A
-or_stop stop None s = Halts stop None s
-or_stop stop (Some x) s = Gave x s
+abbrev pub or_stop : {A : Type 0} → Stop → Option A → State → Evaluation A
+or_stop stop None s = StopsWith stop None s
+or_stop stop (Some x) s = Yields x s
 
 -- the answer of an operator
-abbrev pub answered : Result → State → Out Value
-answered (Gives value) s = Gave value s
-answered (Faults kind) s = Halts (Failed kind) None s
-answered Sticks s = Halts Stuck None s
+abbrev pub evaluation_of : Result → State → Evaluation Value
+evaluation_of (Gives value) s = Yields value s
+evaluation_of (Faults kind) s = StopsWith (Failed kind) None s
+evaluation_of Sticks s = StopsWith Stuck None s
 
 -- What is had of the world.
 
 -- it comes to a result, or stops the run, with the counts behind it
-pub data Told (A : Type 0) : Type 0 where
-  Took : (x : A) (counts : Counts) → Told A
-  Cut : (stop : Stop) (counts : Counts) → Told A
+pub data Drawn (A : Type 0) : Type 0 where
+  Draws : (x : A) (counts : Counts) → Drawn A
+  DrawStops : (stop : Stop) (counts : Counts) → Drawn A
 
 -- what is had of the world, with the state behind it
-abbrev pub had : {A : Type 0} → Told A → State → Out A
-had (Took x counts) s = Gave x (counting counts s)
-had (Cut stop counts) s = Halts stop None (counting counts s)
+abbrev pub on_drawn : {A : Type 0} → Drawn A → State → Evaluation A
+on_drawn (Draws x counts) s = Yields x (with_counts counts s)
+on_drawn (DrawStops stop counts) s = StopsWith stop None (with_counts counts s)
 
 -- a tick, if one is left
-abbrev pub tick_if : Bool → Counts → Told (Unit {0})
-tick_if true counts = Took tt (record counts { ticks = counts.ticks + 1 })
-tick_if false counts = Cut Spent counts
+abbrev pub tick_if : Bool → Counts → Drawn (Unit {0})
+tick_if true counts = Draws tt (record counts { ticks = counts.ticks + 1 })
+tick_if false counts = DrawStops Spent counts
 
 -- a tick, where one is left
-abbrev pub tick : World → Counts → Told (Unit {0})
+abbrev pub tick : World → Counts → Drawn (Unit {0})
 tick w counts = tick_if (nat_lt counts.ticks w.budget) counts
 
 -- What is written.
 
 -- a text goes to the output, which has at most 1,048,576 bytes, or nothing does
-abbrev pub write : List ℕ → State → Out (Unit {0})
+abbrev pub write : List ℕ → State → Evaluation (Unit {0})
 write text s =
     if nat_le (length s.memory.output + length text) 1048576
-    then Gave tt (record s { memory = record s.memory { output = s.memory.output ++ text } })
-    else Halts (Failed OutFull) None s
+    then Yields tt (record s { memory = record s.memory { output = s.memory.output ++ text } })
+    else StopsWith (Failed OutFull) None s
 
 -- a newline, where one is wanted
 abbrev pub line_end : Bool → List ℕ

@@ -1,5 +1,5 @@
 //! A job: how it is opened, and what its hub answers.
-use crate::words::{byte, call_of, number, some_number, text};
+use crate::call_words::{byte, call_of, number, some_number, text};
 use hub_core::{Held, Hub, can_open};
 use job_calls::{Call, Listed};
 use mos_text::{Blob, NoMemory, SharedBlob, Text};

@@ -3,9 +3,9 @@
 //! are.
 #![tactic(auto)]
 
+mod call_words;
 mod ends;
 mod job;
-mod words;
 
 use hub_core::Hub;
 use mos_text::NoMemory;

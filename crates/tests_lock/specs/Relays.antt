@@ -1,6 +1,6 @@
 -- What the calls of a relay mean: no lane comes twice in a row, and each call says how often its lane came.
 use Rattle.std.specs.Prelude.{◌≡◌, ℕ, ◌-◌, ◌^◌, List, length, Option, Some, slice_get}
-use Rattle.hub_lock.specs.Words.{entries_of}
+use Rattle.hub_lock.specs.LaneEntries.{entries_of}
 use Rattle.hub_lock.specs.Seats.{SeatState, first_entry}
 use Rattle.tests_lock.specs.declared.relay.Early.{Early}
 use Rattle.tests_lock.specs.declared.relay.Early.TheVariants.{NotYet, Full, NoMemory}

@@ -6,7 +6,7 @@ use Rattle.job_calls.specs.declared.entry.Entry.{Entry}
 use Rattle.job_calls.specs.Fitting.{exchange_of}
 use Rattle.job_calls.specs.Legal.{IsLegal}
 use Rattle.job_calls.specs.Runs.{finish_of}
-use Rattle.job_calls.specs.Words.{is_claimed, own_entries}
+use Rattle.job_calls.specs.Entries.{is_claimed, own_entries}
 use Rattle.job_laws.specs.Lanes.{OneLaneARun}
 use Rattle.hub_lock.specs.Seats.{SeatState}
 use Rattle.hub_lock.specs.Calls.{IsIn}

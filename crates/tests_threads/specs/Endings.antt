@@ -3,7 +3,7 @@ use Rattle.std.specs.Prelude.{◌≡◌, ℕ, true, List}
 use Rattle.job_calls.specs.declared.entry.Entry.{Entry}
 use Rattle.job_calls.specs.Fitting.{exchange_of}
 use Rattle.job_calls.specs.Runs.{finish_of}
-use Rattle.job_calls.specs.Words.{is_claimed}
+use Rattle.job_calls.specs.Entries.{is_claimed}
 use Rattle.hub_lock.specs.Seats.{SeatState}
 use Rattle.tests_threads.specs.Holding.{own}
 

@@ -7,7 +7,7 @@ use Rattle.job_calls.specs.declared.entry.Listed.{Listed}
 use Rattle.job_calls.specs.declared.reply.Reply.{Reply}
 use Rattle.job_calls.specs.declared.reply.Reply.TheVariants.{Opened}
 use Rattle.job_calls.specs.Fitting.{held_run, was_done, is_over, exchange_of, ends_fit, is_for_lane, may_claim, below_lanes}
-use Rattle.job_calls.specs.Words.{own_entries, is_finish}
+use Rattle.job_calls.specs.Entries.{own_entries, is_finish}
 use Rattle.hub_core.specs.Hubs.{entry_of}
 use Rattle.hub_core.specs.Stories.{opened_by}
 use Rattle.hub_lock.specs.Seats.{SeatState, first_entry, IsSeatOf, IsSameSeat, KeepState}

@@ -2,19 +2,19 @@
 ghost use Rattle.std.specs.Prelude.{◌≡◌, ◌<◌, ◌^◌, ◌++◌, OnOk};
 ghost use Rattle.bim_code.specs.Code.{code_bytes, code_size};
 
+use super::encode::{Encode, put_all};
 use super::numbers::put_u32;
-use super::spelled::{Spelled, put_all};
 use bim_code::{Instruction, Operands};
 use std::alloc::AllocError;
 
-impl Spelled for Instruction {
+impl Encode for Instruction {
     ghost use Rattle.bim_code.specs.Code.{instruction_bytes};
 
-    ghost spelling = { instruction_bytes };
+    ghost encoding = { instruction_bytes };
 
-    ghost Fits = { λ _. Unit {0} };
+    ghost InField = { λ _. Unit {0} };
 
-    fn put(&self, out: &mut Vec<u8>) -> Result<(), AllocError> {
+    fn write(&self, out: &mut Vec<u8>) -> Result<(), AllocError> {
         out.push(self.code())?;
         match self.operands() {
             Operands::None => Ok(()),

@@ -3,34 +3,34 @@ ghost use Rattle.std.specs.Prelude.{◌≡◌, ◌<◌, ◌^◌, ◌∷◌, ◌+
 ghost use Rattle.bim_code.specs.Bytes.{u16_bytes};
 ghost use Rattle.bim_code.specs.Tables.{array_bytes, form_number, result_number};
 
+use super::encode::{Encode, put_all, put_short_table};
 use super::numbers::{put_i32, put_u16, put_u32};
-use super::spelled::{Spelled, put_all, put_short_table};
 use bim_code::{Default, Field, Form, ImageType, Operand, Parameter, Point, Routine, Slot};
 use mos_text::Text;
 use std::alloc::AllocError;
 
-impl Spelled for u16 {
+impl Encode for u16 {
     ghost use Rattle.bim_code.specs.Bytes.{u16_bytes};
 
-    ghost spelling = { u16_bytes };
+    ghost encoding = { u16_bytes };
 
-    ghost Fits = { λ _. Unit {0} };
+    ghost InField = { λ _. Unit {0} };
 
-    fn put(&self, out: &mut Vec<u8>) -> Result<(), AllocError> {
+    fn write(&self, out: &mut Vec<u8>) -> Result<(), AllocError> {
         put_u16(out, *self)
     }
 }
 
 #[tactic(auto, unfolding(bim_code::specs::Tables::constant_bytes))]
-impl Spelled for Text {
+impl Encode for Text {
     ghost use Rattle.std.specs.Prelude.{◌<◌, ◌^◌, length};
     ghost use Rattle.bim_code.specs.Tables.{constant_bytes};
 
-    ghost spelling = { constant_bytes };
+    ghost encoding = { constant_bytes };
 
-    ghost Fits = { λ text. length text < 2 ^ 32 };
+    ghost InField = { λ text. length text < 2 ^ 32 };
 
-    fn put(&self, out: &mut Vec<u8>) -> Result<(), AllocError> {
+    fn write(&self, out: &mut Vec<u8>) -> Result<(), AllocError> {
         let bytes = self.as_bytes();
         put_u32(out, bytes.len() as u32)?;
         out.extend_from_slice(bytes)
@@ -38,29 +38,29 @@ impl Spelled for Text {
 }
 
 #[tactic(auto, unfolding(bim_code::specs::Tables::field_bytes))]
-impl Spelled for Field {
+impl Encode for Field {
     ghost use Rattle.bim_code.specs.Tables.{field_bytes};
 
-    ghost spelling = { field_bytes };
+    ghost encoding = { field_bytes };
 
-    ghost Fits = { λ _. Unit {0} };
+    ghost InField = { λ _. Unit {0} };
 
-    fn put(&self, out: &mut Vec<u8>) -> Result<(), AllocError> {
+    fn write(&self, out: &mut Vec<u8>) -> Result<(), AllocError> {
         put_u32(out, self.name)?;
         put_u16(out, self.typ)
     }
 }
 
 #[tactic(auto, unfolding(bim_code::specs::Tables::type_bytes))]
-impl Spelled for ImageType {
-    ghost use Rattle.bim_code.specs.Limits.{TypeFits};
+impl Encode for ImageType {
+    ghost use Rattle.bim_code.specs.Limits.{TypeInRange};
     ghost use Rattle.bim_code.specs.Tables.{type_bytes};
 
-    ghost spelling = { type_bytes };
+    ghost encoding = { type_bytes };
 
-    ghost Fits = { TypeFits };
+    ghost InField = { TypeInRange };
 
-    fn put(&self, out: &mut Vec<u8>) -> Result<(), AllocError> {
+    fn write(&self, out: &mut Vec<u8>) -> Result<(), AllocError> {
         match self {
             ImageType::Integer => out.push(1)?,
             ImageType::Boolean => out.push(2)?,
@@ -108,14 +108,14 @@ fn put_array(out: &mut Vec<u8>, dynamic: bool, indexes: &[u16], cell: u16) -> Re
 }
 
 #[tactic(auto, unfolding(bim_code::specs::Tables::default_bytes))]
-impl Spelled for Default {
+impl Encode for Default {
     ghost use Rattle.bim_code.specs.Tables.{default_bytes};
 
-    ghost spelling = { default_bytes };
+    ghost encoding = { default_bytes };
 
-    ghost Fits = { λ _. Unit {0} };
+    ghost InField = { λ _. Unit {0} };
 
-    fn put(&self, out: &mut Vec<u8>) -> Result<(), AllocError> {
+    fn write(&self, out: &mut Vec<u8>) -> Result<(), AllocError> {
         match *self {
             Default::Number(number) => {
                 out.push(1)?;
@@ -134,44 +134,44 @@ impl Spelled for Default {
 }
 
 #[tactic(auto, unfolding(bim_code::specs::Tables::parameter_bytes))]
-impl Spelled for Parameter {
+impl Encode for Parameter {
     ghost use Rattle.bim_code.specs.Tables.{parameter_bytes};
 
-    ghost spelling = { parameter_bytes };
+    ghost encoding = { parameter_bytes };
 
-    ghost Fits = { λ _. Unit {0} };
+    ghost InField = { λ _. Unit {0} };
 
-    fn put(&self, out: &mut Vec<u8>) -> Result<(), AllocError> {
+    fn write(&self, out: &mut Vec<u8>) -> Result<(), AllocError> {
         put_u32(out, self.name)?;
         put_u32(out, self.slot)?;
-        self.default.put(out)
+        self.default.write(out)
     }
 }
 
 #[tactic(auto, unfolding(bim_code::specs::Tables::slot_bytes))]
-impl Spelled for Slot {
+impl Encode for Slot {
     ghost use Rattle.bim_code.specs.Tables.{slot_bytes};
 
-    ghost spelling = { slot_bytes };
+    ghost encoding = { slot_bytes };
 
-    ghost Fits = { λ _. Unit {0} };
+    ghost InField = { λ _. Unit {0} };
 
-    fn put(&self, out: &mut Vec<u8>) -> Result<(), AllocError> {
+    fn write(&self, out: &mut Vec<u8>) -> Result<(), AllocError> {
         put_u16(out, self.typ)?;
         Ok(out.push(self.by_reference as u8)?)
     }
 }
 
 #[tactic(auto, unfolding(bim_code::specs::Tables::routine_bytes))]
-impl Spelled for Routine {
+impl Encode for Routine {
     ghost use Rattle.std.specs.Prelude.{◌<◌, ◌^◌, length};
     ghost use Rattle.bim_code.specs.Tables.{routine_bytes};
 
-    ghost spelling = { routine_bytes };
+    ghost encoding = { routine_bytes };
 
-    ghost Fits = { λ routine. length routine.slots < 2 ^ 16 };
+    ghost InField = { λ routine. length routine.slots < 2 ^ 16 };
 
-    fn put(&self, out: &mut Vec<u8>) -> Result<(), AllocError> {
+    fn write(&self, out: &mut Vec<u8>) -> Result<(), AllocError> {
         put_u32(out, self.address)?;
         put_u16(out, self.arguments)?;
         put_short_table(out, self.slots.as_slice())?;
@@ -190,14 +190,14 @@ fn result_number(result_type: Option<u16>) -> u16
 }
 
 #[tactic(auto, unfolding(bim_code::specs::Tables::operand_bytes))]
-impl Spelled for Operand {
+impl Encode for Operand {
     ghost use Rattle.bim_code.specs.Tables.{operand_bytes};
 
-    ghost spelling = { operand_bytes };
+    ghost encoding = { operand_bytes };
 
-    ghost Fits = { λ _. Unit {0} };
+    ghost InField = { λ _. Unit {0} };
 
-    fn put(&self, out: &mut Vec<u8>) -> Result<(), AllocError> {
+    fn write(&self, out: &mut Vec<u8>) -> Result<(), AllocError> {
         put_u16(out, self.typ)?;
         Ok(out.push(form_number(self.form))?)
     }
@@ -215,15 +215,15 @@ fn form_number(form: Form) -> u8
 }
 
 #[tactic(auto, unfolding(bim_code::specs::Tables::point_bytes))]
-impl Spelled for Point {
+impl Encode for Point {
     ghost use Rattle.std.specs.Prelude.{◌<◌, ◌^◌, length};
     ghost use Rattle.bim_code.specs.Tables.{point_bytes};
 
-    ghost spelling = { point_bytes };
+    ghost encoding = { point_bytes };
 
-    ghost Fits = { λ point. length point.stack < 2 ^ 16 };
+    ghost InField = { λ point. length point.stack < 2 ^ 16 };
 
-    fn put(&self, out: &mut Vec<u8>) -> Result<(), AllocError> {
+    fn write(&self, out: &mut Vec<u8>) -> Result<(), AllocError> {
         put_u32(out, self.address)?;
         put_short_table(out, self.stack.as_slice())
     }

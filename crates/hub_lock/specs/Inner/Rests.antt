@@ -3,7 +3,7 @@ use Rattle.std.specs.Prelude.{◌≡◌, ℕ, ◌<◌, [], length, Option}
 use Rattle.atomic_table.specs.Table.{Me}
 use Rattle.hub_lock.specs.declared.rule.Stage.TheVariants.{Idle}
 use Rattle.hub_lock.specs.declared.rule.View.{View}
-use Rattle.hub_lock.specs.Words.{HasNoneFrom}
+use Rattle.hub_lock.specs.LaneEntries.{HasNoneFrom}
 
 -- The seat has neither ticket nor turn, nor a slot. It has seen an entry, but lane 0's none of a lane whose seat is not made
 pub record IsAtRest {S E : Type 0} (lane_of : E → ℕ) (lane made : ℕ) (me : Me (Option S) (View E)) : Type 0 where

@@ -10,7 +10,7 @@ use Rattle.hub_lock.specs.declared.rule.Stage.{Stage}
 use Rattle.hub_lock.specs.declared.rule.Stage.TheVariants.{Idle, Waits, Holds, Spent}
 use Rattle.hub_lock.specs.declared.rule.Part.{Part}
 use Rattle.hub_lock.specs.declared.rule.View.{View}
-use Rattle.hub_lock.specs.Words.{entries_of, StartsWith, HasNoneFrom}
+use Rattle.hub_lock.specs.LaneEntries.{entries_of, StartsWith, HasNoneFrom}
 use Rattle.hub_lock.specs.Marks.{times, IsOrder, IsMarkOf}
 
 -- a spent seat was joined into lane 0's

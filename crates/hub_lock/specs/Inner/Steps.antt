@@ -6,7 +6,7 @@ use Rattle.hub_lock.specs.declared.rule.Stage.{Stage}
 use Rattle.hub_lock.specs.declared.rule.Stage.TheVariants.{Idle, Waits, Holds, Spent}
 use Rattle.hub_lock.specs.declared.rule.Part.{Part}
 use Rattle.hub_lock.specs.declared.rule.View.{View}
-use Rattle.hub_lock.specs.Words.{entries_of, HasNoneFrom}
+use Rattle.hub_lock.specs.LaneEntries.{entries_of, HasNoneFrom}
 use Rattle.hub_lock.specs.Marks.{mark}
 
 module _ {E : Type 0} where

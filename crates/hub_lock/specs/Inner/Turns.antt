@@ -4,7 +4,7 @@ use Rattle.atomic_table.specs.declared.shared.Seat.{Seat}
 use Rattle.hub_lock.specs.declared.mark.Mark.{Mark}
 use Rattle.hub_lock.specs.declared.rule.Stage.TheVariants.{Holds}
 use Rattle.hub_lock.specs.declared.rule.View.{View}
-use Rattle.hub_lock.specs.Words.{entries_of, StartsWith, HasNoneFrom}
+use Rattle.hub_lock.specs.LaneEntries.{entries_of, StartsWith, HasNoneFrom}
 use Rattle.hub_lock.specs.Marks.{IsOrder, mark}
 use Rattle.hub_lock.specs.Inner.Rule.{Joined, HasMarks, turns_of, times_of}
 use Rattle.hub_lock.specs.Inner.Steps.{after_look}

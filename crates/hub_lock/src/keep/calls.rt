@@ -1,6 +1,6 @@
 //! How a lock begins, and how a lane calls the story under it.
 ghost use Rattle.std.specs.Prelude.{◌≡◌, ◌+◌, ◌<◌, ◌≤◌, [], length, All, None, Some, IfOk, IfErr};
-ghost use Rattle.hub_lock.specs.Words.{StartsWith};
+ghost use Rattle.hub_lock.specs.LaneEntries.{StartsWith};
 ghost use Rattle.hub_lock.specs.Seats.{seen, marks, turns, lane, seats_made, most_lanes, IsSeatOf, IsSameSeat};
 ghost use Rattle.hub_lock.specs.Calls.{IsAllowed, HasActed, HasHeld};
 

@@ -2,7 +2,7 @@
 ghost use Rattle.std.specs.Prelude.{◌≡◌, ◌++◌, flat_map, OnOk};
 ghost use Rattle.hub_text.specs.CallText.{bytes_text, call_text, compile_text, end_text, file_text, open_text, receiver_text, run_text, send_text, way_text};
 
-use super::words::{put_hex, put_number, put_quoted, put_with_number, put_with_quoted};
+use super::fields::{put_hex, put_number, put_quoted, put_with_number, put_with_quoted};
 use job_calls::{Call, End, Listed, Way};
 use std::alloc::AllocError;
 

@@ -2,7 +2,7 @@
 ghost use Rattle.std.specs.Prelude.{◌≡◌, ◌++◌, OnOk};
 ghost use Rattle.hub_text.specs.ReplyText.{reply_text};
 
-use super::words::{put_hex, put_number, put_with_number};
+use super::fields::{put_hex, put_number, put_with_number};
 use job_calls::Reply;
 use std::alloc::AllocError;
 

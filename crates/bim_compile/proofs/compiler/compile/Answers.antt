@@ -3,10 +3,10 @@ use Rattle.std.proofs.Common.{◌≡◌, ◌≤◌, ◌*◌, ◌+◌, ◌∙◌,
 use Rattle.std.specs.Prelude.{IfOk, OnOk}
 use Rattle.job_calls.specs.declared.call.Call.{Call}
 use Rattle.job_calls.specs.declared.reply.Reply.{Reply}
-use Rattle.job_calls.specs.Replies.{AllFit}
+use Rattle.job_calls.specs.Replies.{AllCanAnswer}
 use Rattle.bim_code.specs.declared.image.Image.{Image}
 use Rattle.bim_code.specs.Code.{code_size}
-use Rattle.bim_code.specs.Limits.{FitsFields}
+use Rattle.bim_code.specs.Limits.{CountsInRange}
 use Rattle.bim_code.specs.Rules.{KeepsRules}
 use Rattle.mos_text.specs.declared.no_memory.NoMemory.{NoMemory}
 use Rattle.run_state.specs.Stops.{Outcome}
@@ -54,7 +54,7 @@ returns-clause-means c =
 
 -- without calls there are no replies that could not fit
 without_calls : (replies : List Reply) (o : Outcome) → o.calls ≡ [] → TookFitting replies o
-without_calls replies o e = subst (λ (calls : List Call). AllFit calls (take (length calls) replies)) (sym e) tt
+without_calls replies o e = subst (λ (calls : List Call). AllCanAnswer calls (take (length calls) replies)) (sym e) tt
 
 -- what means a model that is never stuck and never lost is neither
 never_fails : (model : Block) (image : Image) → Means (program_of model) image → NeverStuck (program_of model) → NeverLost (program_of model) → CallsNothing (program_of model)
@@ -96,7 +96,7 @@ returns-clause-rules c =
 pub returns-clause-fields : goal.returns-clause-fields
 returns-clause-fields c =
     let model = statements_of c.args.tree.now in
-    of_small FitsFields model c.build.result (λ small. fits_fields model c.requires.can_compile.not_large (texts_short_block model small))
+    of_small CountsInRange model c.build.result (λ small. fits_fields model c.requires.can_compile.not_large (texts_short_block model small))
     c.build.ensures.built c.build.ensures.small
 
 pub returns-clause-few : goal.returns-clause-few

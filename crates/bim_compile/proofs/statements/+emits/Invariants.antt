@@ -1,27 +1,27 @@
 -- what was made so far, with what is still to come, is the whole
 use Rattle.std.proofs.Common.{drop}
-use Rattle.mos_meaning.specs.Sources.{block_of, branches_of, effect}
-use Rattle.bim_compile.specs.Built.{AreBuiltBranches, IsBuiltBlock, choice_of}
-use Rattle.bim_compile.specs.Parts.{HasRoom, branches_part, block_part}
+use Rattle.mos_meaning.specs.Sources.{block_of, arms_of, core_of}
+use Rattle.bim_compile.specs.Built.{AreBuiltArms, IsBuiltBlock, arms_in}
+use Rattle.bim_compile.specs.Parts.{HasRoom, arms_part, block_part}
 use Rattle.bim_compile.proofs.StillEmits.{StillEmits}
 use Rattle.bim_compile.proofs.statements.+emits.Given as goal
 
-abbrev pub invariant-emit_branches-loop-arm : goal.invariant-emit_branches-loop-arm
-invariant-emit_branches-loop-arm l =
-    let rest = branches_of (drop l.arm-index l.arm-items) l.otherwise in
-    let part = branches_part l.names l.end l.exits rest in
+abbrev pub invariant-emit_arms-loop-arm : goal.invariant-emit_arms-loop-arm
+invariant-emit_arms-loop-arm l =
+    let rest = arms_of (drop l.arm-index l.arm-items) l.otherwise in
+    let part = arms_part l.names l.end l.targets rest in
     record {
-      built : AreBuiltBranches rest;
+      built : AreBuiltArms rest;
       room : HasRoom l.names part l.draft;
-      emits : StillEmits part l.draft (branches_part l.names l.end l.exits (choice_of (effect l.statement))) l.initial.draft;
+      emits : StillEmits part l.draft (arms_part l.names l.end l.targets (arms_in (core_of l.statement))) l.initial.draft;
     }
 
 abbrev pub invariant-emit_block-loop-statement : goal.invariant-emit_block-loop-statement
 invariant-emit_block-loop-statement l =
     let rest = block_of (drop l.statement-index l.all) in
-    let part = block_part l.names l.exits rest in
+    let part = block_part l.names l.targets rest in
     record {
       built : IsBuiltBlock rest;
       room : HasRoom l.names part l.draft;
-      emits : StillEmits part l.draft (block_part l.names l.exits (block_of l.all)) l.initial.draft;
+      emits : StillEmits part l.draft (block_part l.names l.targets (block_of l.all)) l.initial.draft;
     }

@@ -8,13 +8,13 @@ pub returns-then-left-eq0 : goal.returns-then-left-eq0
 returns-then-left-eq0 c =
     let so_far = c.loop-i.invariant in
     let none = c.if-left-eq0.true in
-    sym (arrival-here c.args.r c.args.journal.now c.loop-i.i c.args.number c.index-journal-i.result c.loop-i-test.true c.index-journal-i.is
+    sym (arrival-here c.args.run_number c.args.journal.now c.loop-i.i c.args.number c.index-journal-i.result c.loop-i-test.true c.index-journal-i.is
     (omega (arith, so_far, none)) (sym c.comes_to-comes.ensures ∙ c.if-comes.true))
 
 pub loop-i-preserved : goal.loop-i-preserved
 loop-i-preserved c =
-    let more = length-arrivals-take c.args.r c.args.journal.now c.loop-i.i (c.loop-i.i + 1) c.index-journal-i.result c.loop-i-test.true c.index-journal-i.is (omega arith) in
-    let one : c.one_if-left.result ≡ (if comes_to c.args.r (at c.args.journal.now c.loop-i.i c.index-journal-i.result) then 1 else 0) =
+    let more = length-arrivals-take c.args.run_number c.args.journal.now c.loop-i.i (c.loop-i.i + 1) c.index-journal-i.result c.loop-i-test.true c.index-journal-i.is (omega arith) in
+    let one : c.one_if-left.result ≡ (if comes_to c.args.run_number (at c.args.journal.now c.loop-i.i c.index-journal-i.result) then 1 else 0) =
     c.one_if-left.ensures ∙ ap (λ b. if b then 1 else 0) c.comes_to-comes.ensures in
     let some = enough c.comes_to-comes.result c.one_if-left.result c.loop-i.left c.one_if-left.ensures c.else-comes.either in
     let so_far = c.loop-i.invariant in
@@ -23,5 +23,5 @@ loop-i-preserved c =
 pub returns : goal.returns
 returns c =
     let so_far = c.loop-i.invariant in
-    let whole = ap (λ xs. length (arrivals c.args.r xs)) (take_all c.loop-i.i c.args.journal.now c.loop-i-test.false) in
-    sym (no_arrival c.args.r c.args.journal.now c.args.number (omega (arith, so_far, whole)))
+    let whole = ap (λ xs. length (arrivals c.args.run_number xs)) (take_all c.loop-i.i c.args.journal.now c.loop-i-test.false) in
+    sym (no_arrival c.args.run_number c.args.journal.now c.args.number (omega (arith, so_far, whole)))

@@ -4,4 +4,4 @@ use Rattle.job_calls.specs.Events.{arrivals}
 use Rattle.hub_words.proofs.events.arrival_at.Given as goal
 
 abbrev pub invariant-loop-i : goal.invariant-loop-i
-invariant-loop-i l = l.left + length (arrivals l.r (take l.i l.journal)) ≡ l.number
+invariant-loop-i l = l.left + length (arrivals l.run_number (take l.i l.journal)) ≡ l.number

@@ -7,7 +7,7 @@ use Rattle.std.proofs.lemmas.List.Folds.{fold-map}
 use Rattle.std.specs.Iterator.Adapters.{filter_callee}
 use Rattle.job_calls.specs.declared.entry.Entry.{Entry}
 use Rattle.job_calls.specs.Fitting.{holds_after}
-use Rattle.job_calls.specs.Words.{is_run, own_entries}
+use Rattle.job_calls.specs.Entries.{is_run, own_entries}
 use Rattle.hub_words.proofs.Scans.{filter_twice}
 use Rattle.hub_words.proofs.fitting.holds.Goals as goal
 

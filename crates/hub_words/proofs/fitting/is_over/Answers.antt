@@ -7,7 +7,7 @@ use Rattle.std.proofs.lemmas.Iterator.Search.{any_from_yields_List}
 use Rattle.std.specs.List.{list_any}
 use Rattle.std.specs.Iterator.Adapters.{filter_callee}
 use Rattle.job_calls.specs.declared.entry.Entry.{Entry}
-use Rattle.job_calls.specs.Words.{is_run, is_last, own_entries}
+use Rattle.job_calls.specs.Entries.{is_run, is_last, own_entries}
 use Rattle.hub_words.proofs.Scans.{any-map, filter_twice}
 use Rattle.hub_words.proofs.fitting.is_over.Goals as goal
 

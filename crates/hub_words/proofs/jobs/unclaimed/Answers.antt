@@ -3,5 +3,5 @@ use Rattle.std.proofs.Common.{◌∙◌, rules, arith}
 use Rattle.hub_words.proofs.Unclaimed.{passed}
 use Rattle.hub_words.proofs.jobs.unclaimed.Goals as goal
 
-pub loop-k-preserved : goal.loop-k-preserved
-loop-k-preserved c = passed c.args.journal.now c.loop-k.k _ (omega arith) (search rules) ∙ c.loop-k.invariant
+pub loop-run_number-preserved : goal.loop-run_number-preserved
+loop-run_number-preserved c = passed c.args.journal.now c.loop-run_number.run_number _ (omega arith) (search rules) ∙ c.loop-run_number.invariant

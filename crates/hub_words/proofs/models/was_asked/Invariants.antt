@@ -6,4 +6,4 @@ use Rattle.job_calls.specs.Moments.{moments}
 use Rattle.hub_words.proofs.models.was_asked.Given as goal
 
 abbrev pub invariant-loop-i : goal.invariant-loop-i
-invariant-loop-i l = list_any (asks l.k) (moments (take l.i l.journal)) ≡ false
+invariant-loop-i l = list_any (asks l.run_number) (moments (take l.i l.journal)) ≡ false

@@ -3,7 +3,7 @@ use Rattle.mos_expr.specs.Machine as spec
 use Rattle.mos_expr.proofs.machine.place.Given as goal
 
 abbrev pub invariant-loop-alloc : goal.invariant-loop-alloc
-invariant-loop-alloc l = spec.placed l.op l.x (spec.stack_of l.stack.items) ≡ spec.placed l.op l.initial.x (spec.stack_of l.initial.stack.items)
+invariant-loop-alloc l = spec.place_operator l.op l.operand (spec.stack_of l.stack.items) ≡ spec.place_operator l.op l.initial.operand (spec.stack_of l.initial.stack.items)
 
 abbrev pub decreases-loop-alloc : goal.decreases-loop-alloc
 decreases-loop-alloc l = length l.stack.items

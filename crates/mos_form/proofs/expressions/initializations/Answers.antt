@@ -1,12 +1,12 @@
 use Rattle.std.proofs.Common.{refl}
 use Rattle.mos_expr.specs.Grammar.{height, tree, IsGrouped, spell}
-use Rattle.mos_tree.specs.declared.form.Form.TheVariants as f
-use Rattle.mos_tree.specs.declared.form.PieceKind.TheVariants as m
+use Rattle.mos_tree.specs.declared.form.Form.TheVariants as form_kind
+use Rattle.mos_tree.specs.declared.form.PieceKind.TheVariants as piece_kind
 use Rattle.mos_form.proofs.Spelled.{spelled_ok, spelled_err}
 use Rattle.mos_form.proofs.expressions.initializations.Goals as goal
 
 pub returns-in-Ok : goal.returns-in-Ok
-returns-in-Ok c = spelled_ok IsGrouped spell tree height c.args.words.now (f.Initializations c.args.direction) c.in-Ok.name c.in-Ok.ensures
+returns-in-Ok c = spelled_ok IsGrouped spell tree height c.args.words.now (form_kind.Initializations c.args.direction) c.in-Ok.name c.in-Ok.ensures
 
 pub returns-in-Err : goal.returns-in-Err
-returns-in-Err c = spelled_err IsGrouped spell tree height c.args.words.now (f.Initializations c.args.direction) m.Initializations (λ t. refl) c.in-Err.fault c.in-Err.ensures c.refused.result c.refused.ensures
+returns-in-Err c = spelled_err IsGrouped spell tree height c.args.words.now (form_kind.Initializations c.args.direction) piece_kind.Initializations (λ t. refl) c.in-Err.fault c.in-Err.ensures c.refused.result c.refused.ensures

@@ -4,7 +4,7 @@ use Rattle.std.specs.Option.{option_copied}
 use Rattle.std.proofs.lemmas.Option.{slice_get_within}
 use Rattle.std.proofs.lemmas.Bool.Decides.{nat_tests}
 use Rattle.mos_names.specs.NameLists.{place_of}
-use Rattle.run_state.specs.Parameters.{and_then, trimmed, written_of, value_like}
+use Rattle.run_state.specs.Parameters.{and_then, trim, written_of, value_like}
 use Rattle.mos_vm.specs.Givens.{names_of}
 use Rattle.mos_vm.proofs.TextParts.{utf8_behind, all_behind}
 use Rattle.mos_vm.proofs.GivenItems.{put_by}
@@ -29,7 +29,7 @@ returns-in-Some-2-clause-put c =
     let formals = c.args.formals.now in
     let equals = c.position-equals.result in
     let apart : nat_eq equals (length item) ≡ false = grind (arith, nat_tests, c.if-equals-item.false) in
-    let written = c.trimmed-in-Some.ensures.value ∙ ap trimmed (all_behind item (equals + 1)) in
+    let written = c.trimmed-in-Some.ensures.value ∙ ap trim (all_behind item (equals + 1)) in
     let value = ap (λ text. and_then (written_of text) (value_like c.in-Some.formal.now.default)) (sym written)
     ∙ ap (λ like. and_then (written_of c.trimmed-in-Some.result.now) (value_like like)) (sym c.default.ensures)
     ∙ sym c.in_ok-value-in-Some.ensures ∙ c.in-Some-2.is in

@@ -2,7 +2,7 @@
 use Rattle.std.proofs.Common.{◌≡◌, ◌<◌, ◌+◌, ap, sym, ◌∙◌, None, Some, arith}
 use Rattle.bim_code.specs.Code.{instruction_at}
 use Rattle.bim_machine.specs.Courses.{most_steps}
-use Rattle.mos_vm.specs.declared.stop.Stop.TheVariants as vm
+use Rattle.mos_vm.specs.declared.stop.Stop.TheVariants as stop_kind
 use Rattle.mos_vm.specs.declared.stop.Control.TheVariants.{Goes, Jumps, Halts}
 use Rattle.mos_vm.specs.ByAddress.{target}
 use Rattle.mos_vm.specs.Running.{machine_at}
@@ -46,7 +46,7 @@ returns-in_default c =
     let none = found_there image _ now.address None (c.deref.ensures.value ∙ now.invariant.code) (sym c.found_at.ensures ∙ c.in_default.is) in
     let few = still_few image c.args.budget c.args.machine now.steps now.address now.machine laws.stays_over c.requires.over now.invariant.stands in
     let over = stuck_on image c.args.budget c.args.machine now.steps now.address now.machine laws.step_by_step now.invariant.stands none in
-    is_run image c.args.budget c.args.machine now.steps now.address vm.Stuck now.machine c.ended.result laws.stays_over few over c.ended.ensures
+    is_run image c.args.budget c.args.machine now.steps now.address stop_kind.Stuck now.machine c.ended.result laws.stays_over few over c.ended.ensures
 
 pub returns-in-Halts : goal.returns-in-Halts
 returns-in-Halts c =

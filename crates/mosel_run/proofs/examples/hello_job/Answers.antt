@@ -1,7 +1,7 @@
 -- by computing; that the journal is legal is an example of its own
 use Rattle.std.proofs.Common.{◌≡◌, ℕ, zero, suc, ◌<◌, true, refl, arith, rules}
 use Rattle.job_calls.specs.HelloJournal.{hello_entries}
-use Rattle.job_calls.specs.Words.{own_entries, is_finished}
+use Rattle.job_calls.specs.Entries.{own_entries, is_finished}
 use Rattle.job_laws.specs.Lanes.{EndsDone}
 use Rattle.mosel_run.proofs.examples.hello_job.Goals as goal
 

@@ -1,5 +1,5 @@
 use Rattle.std.proofs.Common.{◌≡◌, ℕ, [], sym, subst}
-use Rattle.hub_lock.specs.Words.{entries_of, StartsWith}
+use Rattle.hub_lock.specs.LaneEntries.{entries_of, StartsWith}
 use Rattle.hub_lock.specs.Seats.{SeatState, first_entry, own_list}
 use Rattle.hub_lock.specs.Calls.{HasActed, HasHeld}
 use Rattle.hub_lock.proofs.Turns.{allowed_with}

@@ -1,9 +1,0 @@
-use Rattle.std.proofs.Common.{◌≡◌, map, length}
-use Rattle.mos_scan.specs.Words as spec
-use Rattle.mos_scan.proofs.word.look_up.Given as goal
-
-abbrev pub invariant-loop-table : goal.invariant-loop-table
-invariant-loop-table l = spec.look_up (map (λ k. (k.0.now, k.1)) l.table) l.word ≡ spec.look_up (map (λ k. (k.0.now, k.1)) l.initial.table) l.word
-
-abbrev pub decreases-loop-table : goal.decreases-loop-table
-decreases-loop-table l = length l.table

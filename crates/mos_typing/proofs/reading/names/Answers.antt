@@ -1,5 +1,0 @@
-use Rattle.mos_typing.proofs.Listed.{names_answer}
-use Rattle.mos_typing.proofs.reading.names.Goals as goal
-
-pub returns : goal.returns
-returns c = names_answer c.args.words.now c.names_of_words.result c.names_of_words.ensures
