@@ -17,8 +17,9 @@ use Rattle.bim_machine.specs.Machine.{At, Work, Here, On, push, settle}
 use Rattle.bim_machine.specs.Instructions.{on_some, act_by_result, global, truth_of_operand, comparison_of}
 use Rattle.bim_machine.specs.Courses.{site_of}
 use Rattle.mos_meaning.specs.Syntax.{Own, Model, Expression, number, text, truth, variable, index, apply, range_of, sum_over, invoke, ask_hub, unbuilt}
-use Rattle.mos_meaning.specs.Values.{Names, Env, Routine, load_result, value_of}
+use Rattle.mos_meaning.specs.Values.{Env, Routine, load_result, value_of}
 use Rattle.bim_compile.specs.Built.{IsBuilt}
+use Rattle.bim_compile.specs.Contexts.{Context}
 use Rattle.bim_compile.specs.Compiled.{at_line, texts_in, operator_code, comparison_code, expression_code, expression_end}
 use Rattle.bim_compile.proofs.Standing.{HasAt, HasTexts, text_parts, cut}
 use Rattle.bim_compile.proofs.EndLemmas.{expression_after}
@@ -75,31 +76,31 @@ apply_runs operator f g rf rg h work s store st =
     then_ _ _ (rf work s store st) (λ x s1 store1 st1.
     then_ _ _ (rg (push x work) s1 store1 st1) (λ y s2 store2 st2. operates operator x y s2 store2 st2 h))
 
-pub expression_runs : {image : Image} {w : World} {k : Known} {here : Here} (call : Routine) (names : Names) (env : Env) (e : Expression) (line c at : ℕ)
-    → IsBuilt e → HasAt image.code at (expression_code names.model line c e) → HasTexts image.constants c (texts_in e)
-    → Computes image w k here at (expression_end at e) (value_of w call names e env)
-expression_runs call names env (number n) line c at built h t work s store st = instruct (PushInt n) h.0 (gave (One (Int n)) s store st)
-expression_runs {image = image} {w = w} {k = k} {here = here} call names env (text bytes) line c at built h t work s store st =
+pub expression_runs : {image : Image} {w : World} {k : Known} {here : Here} (call : Routine) (context : Context) (env : Env) (e : Expression) (line c at : ℕ)
+    → IsBuilt e → HasAt image.code at (expression_code context line c e) → HasTexts image.constants c (texts_in e)
+    → Computes image w k here at (expression_end at e) (value_of w call context.names e env)
+expression_runs call context env (number n) line c at built h t work s store st = instruct (PushInt n) h.0 (gave (One (Int n)) s store st)
+expression_runs {image = image} {w = w} {k = k} {here = here} call context env (text bytes) line c at built h t work s store st =
     instruct (PushText c) h.0
     (subst (λ (o : Option (List ℕ)). Lands image w k (λ v s1. At (at + 5) (push v work) here s1) (settle image w (on_some o (λ found. act_by_result (how.text found) work)) (site_of (PushText c) at) here (with_store store s)) (evaluation_of (how.text bytes) s)) (sym t.0)
     (answer_lands (how.text bytes) (site_of (PushText c) at) s store st))
-expression_runs {image = image} {w = w} {k = k} {here = here} call names env (truth b) line c at built h t work s store st =
+expression_runs {image = image} {w = w} {k = k} {here = here} call context env (truth b) line c at built h t work s store st =
     instruct (PushBool (from_bool b)) h.0
-    (subst (λ (o : Option Bool). Lands image w k (λ v s1. At (at + 5) (push v work) here s1) (settle image w (on_some o (λ found. On (push (One (Truth found)) work))) (site_of (PushBool (from_bool b)) at) here (with_store store s)) (value_of w call names (truth b) env s)) (sym (truth_is b))
+    (subst (λ (o : Option Bool). Lands image w k (λ v s1. At (at + 5) (push v work) here s1) (settle image w (on_some o (λ found. On (push (One (Truth found)) work))) (site_of (PushBool (from_bool b)) at) here (with_store store s)) (value_of w call context.names (truth b) env s)) (sym (truth_is b))
     (gave (One (Truth b)) s store st))
-expression_runs call names env (variable Model n) line c at built h t work s store st = load_runs (place_of n names.model) at h.0 work s store st
-expression_runs call names env (variable Own n) line c at built h t work s store st = absurd built
-expression_runs {image = image} call names env (apply operator a b) line c at built h t work s store st =
+expression_runs call context env (variable Model n) line c at built h t work s store st = load_runs (place_of n context.names.model) at h.0 work s store st
+expression_runs call context env (variable Own n) line c at built h t work s store st = absurd built
+expression_runs {image = image} call context env (apply operator a b) line c at built h t work s store st =
     let l : ℕ = c + length (texts_in a) in
     let middle : ℕ = expression_end at a in
     let last : ℕ = expression_end middle b in
-    let cuts = cut image.code at middle (expression_code names.model line c a) (expression_code names.model line l b ++ at_line line (operator_code operator) ∷ []) (expression_after names.model line c at a) h in
-    let ends = cut image.code middle last (expression_code names.model line l b) (at_line line (operator_code operator) ∷ []) (expression_after names.model line l middle b) cuts.1 in
+    let cuts = cut image.code at middle (expression_code context line c a) (expression_code context line l b ++ at_line line (operator_code operator) ∷ []) (expression_after context line c at a) h in
+    let ends = cut image.code middle last (expression_code context line l b) (at_line line (operator_code operator) ∷ []) (expression_after context line l middle b) cuts.1 in
     let texts = text_parts image.constants c (texts_in a) (texts_in b) t in
-    apply_runs operator _ _ (expression_runs call names env a line c at built.0 cuts.0 texts.0) (expression_runs call names env b line l middle built.1 ends.0 texts.1) ends.1.0 work s store st
-expression_runs call names env (index n) line c at built h t work s store st = absurd built
-expression_runs call names env (range_of a b) line c at built h t work s store st = absurd built
-expression_runs call names env (sum_over i set condition body) line c at built h t work s store st = absurd built
-expression_runs call names env (invoke routine all) line c at built h t work s store st = absurd built
-expression_runs call names env (ask_hub function all) line c at built h t work s store st = absurd built
-expression_runs call names env unbuilt line c at built h t work s store st = absurd built
+    apply_runs operator _ _ (expression_runs call context env a line c at built.0 cuts.0 texts.0) (expression_runs call context env b line l middle built.1 ends.0 texts.1) ends.1.0 work s store st
+expression_runs call context env (index n) line c at built h t work s store st = absurd built
+expression_runs call context env (range_of a b) line c at built h t work s store st = absurd built
+expression_runs call context env (sum_over i set condition body) line c at built h t work s store st = absurd built
+expression_runs call context env (invoke routine all) line c at built h t work s store st = absurd built
+expression_runs call context env (ask_hub function all) line c at built h t work s store st = absurd built
+expression_runs call context env unbuilt line c at built h t work s store st = absurd built

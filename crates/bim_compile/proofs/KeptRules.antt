@@ -20,6 +20,7 @@ use Rattle.mos_meaning.specs.Sources.{variables_of}
 use Rattle.mos_meaning.specs.Working.{AllWork}
 use Rattle.bim_compile.specs.declared.draft.Labelled.{Labelled}
 use Rattle.bim_compile.specs.InSize.{IsInSize}
+use Rattle.bim_compile.specs.Contexts.{context_of}
 use Rattle.bim_compile.specs.Compiled.{at_line, instructions, texts_in_block, block_code, block_end, types_of, labelled_of, image_of}
 use Rattle.bim_compile.proofs.Standing.{whole, cut}
 use Rattle.bim_compile.proofs.EndLemmas.{block_after}
@@ -31,19 +32,19 @@ use Rattle.bim_compile.proofs.SizeLemmas.{texts_few_block, block_within}
 all_right : (model : Block) → AllWork (variables_of model) model → IsInSize model → AreRight (image_of model) 0 (labelled_of model)
 all_right model works in_size =
     let image = image_of model in
-    let names = variables_of model in
+    let context = context_of model in
     let end : ℕ = block_end 0 model in
     let last : List Labelled = at_line 0 (PushInt (pos 0)) ∷ at_line 0 End ∷ [] in
-    let body = block_code names 0 0 end end model in
-    let cuts = cut image.code 0 end body last (block_after names 0 0 end end model) (whole (labelled_of model)) in
+    let body = block_code context 0 0 end end model in
+    let cuts = cut image.code 0 end body last (block_after context 0 0 end end model) (whole (labelled_of model)) in
     let within = block_within 0 model in
     let size = in_size.size in
     let few = texts_few_block model in
-    let wide : length image.globals ≡ length names = length-replicate (length names) 0 in
+    let wide : length image.globals ≡ length context.names.model = length-replicate (length context.names.model) 0 in
     let small : FitsSigned w32 (pos 0) = search rules in
     let begun : IsBegun image.code end = (PushInt (pos 0), cuts.1.0) in
-    right_append image 0 end body last (block_after names 0 0 end end model)
-    (block_right image names 0 0 end end model (record { slots = omega (arith, wide); texts = omega (arith, few, size) }) works in_size.small (omega arith) cuts.0 (record {
+    right_append image 0 end body last (block_after context 0 0 end end model)
+    (block_right image context 0 0 end end model (record { slots = omega (arith, wide); texts = omega (arith, few, size) }) works in_size.small (omega arith) cuts.0 (record {
       end_begun = begun;
       out_begun = begun;
       next_begun = begun;
@@ -87,14 +88,14 @@ named_well : (image : Image) (at address : ℕ) (named : Option ℕ) → named �
 named_well image at address None e h = cc
 named_well image at address (Some other) e h = let same : other ≡ address = cc in subst (λ x. NamesWell image.code at x) same h
 
-code_of : (model : Block) → (image_of model).code ≡ instructions (block_code (variables_of model) 0 0 (block_end 0 model) (block_end 0 model) model) ++ (PushInt (pos 0) ∷ End ∷ [])
+code_of : (model : Block) → (image_of model).code ≡ instructions (block_code (context_of model) 0 0 (block_end 0 model) (block_end 0 model) model) ++ (PushInt (pos 0) ∷ End ∷ [])
 code_of model =
-    map-append (λ (l : Labelled). l.instruction) (block_code (variables_of model) 0 0 (block_end 0 model) (block_end 0 model) model) (at_line 0 (PushInt (pos 0)) ∷ at_line 0 End ∷ [])
+    map-append (λ (l : Labelled). l.instruction) (block_code (context_of model) 0 0 (block_end 0 model) (block_end 0 model) model) (at_line 0 (PushInt (pos 0)) ∷ at_line 0 End ∷ [])
 
 leaves_last : (model : Block) → LeavesLast (image_of model).code
 leaves_last model =
     subst LeavesLast (sym (code_of model))
-    (leaves_append (instructions (block_code (variables_of model) 0 0 (block_end 0 model) (block_end 0 model) model)) (PushInt (pos 0)) (End ∷ []) refl)
+    (leaves_append (instructions (block_code (context_of model) 0 0 (block_end 0 model) (block_end 0 model) model)) (PushInt (pos 0)) (End ∷ []) refl)
 
 -- code that is not empty begins at 0
 begins : (is : List Instruction) → LeavesLast is → IsBegun is 0

@@ -19,6 +19,7 @@ use Rattle.mos_meaning.specs.Syntax.{Own, Model, Scope, Expression, number, text
 use Rattle.mos_meaning.specs.Working.{IsVariable, IsNumeric, IsShown, IsCondition, AreShown, Works, ArmsWork, AllWork}
 use Rattle.bim_compile.specs.declared.draft.Labelled.{Labelled}
 use Rattle.bim_compile.specs.InSize.{IsSmall, AreSmall, IsSmallStatement, AreSmallArms, IsSmallBlock}
+use Rattle.bim_compile.specs.Contexts.{Context}
 use Rattle.bim_compile.specs.Compiled.{at_line, instructions, texts_in, texts_in_all, texts_in_statement, texts_in_arms, texts_in_block, operator_code, expression_code, expression_end, arguments_code, arguments_end, statement_code, statement_end, arms_code, arms_end, block_code, block_end}
 use Rattle.bim_compile.proofs.Standing.{HasAt, after, cut}
 use Rattle.bim_compile.proofs.EndLemmas.{expression_after, arguments_after, statement_after, block_after, arms_after}
@@ -117,69 +118,69 @@ pub record Tables (image : Image) (names : List Name) : Type 0 where
   pub slots : length names ≤ length image.globals
   pub texts : length image.constants < 2 ^ 32
 
-applied_right : (image : Image) (names : List Name) (line k at : ℕ) (operator : Operator) (a b : Expression)
-    → AreRight image at (expression_code names line k a) → AreRight image (expression_end at a) (expression_code names line (k + length (texts_in a)) b)
-    → AreRight image at (expression_code names line k (apply operator a b))
-applied_right image names line k at operator a b h l =
+applied_right : (image : Image) (context : Context) (line k at : ℕ) (operator : Operator) (a b : Expression)
+    → AreRight image at (expression_code context line k a) → AreRight image (expression_end at a) (expression_code context line (k + length (texts_in a)) b)
+    → AreRight image at (expression_code context line k (apply operator a b))
+applied_right image context line k at operator a b h l =
     let m : ℕ = k + length (texts_in a) in
     let middle : ℕ = expression_end at a in
-    right_append image at middle (expression_code names line k a) (expression_code names line m b ++ at_line line (operator_code operator) ∷ []) (expression_after names line k at a) h
-    (right_append image middle (expression_end middle b) (expression_code names line m b) (at_line line (operator_code operator) ∷ []) (expression_after names line m middle b) l
+    right_append image at middle (expression_code context line k a) (expression_code context line m b ++ at_line line (operator_code operator) ∷ []) (expression_after context line k at a) h
+    (right_append image middle (expression_end middle b) (expression_code context line m b) (at_line line (operator_code operator) ∷ []) (expression_after context line m middle b) l
     (operator_right image (expression_end middle b) line operator))
 
-numeric_right : (image : Image) (names : List Name) (line k at : ℕ) (e : Expression) → Tables image names → IsNumeric names e → IsSmall e → AreRight image at (expression_code names line k e)
-numeric_right image names line k at (number n) tables h small = ((small, tt), tt)
-numeric_right image names line k at (variable scope n) tables h small = ((slot_within names scope n _ h tables.slots, tt), tt)
-numeric_right image names line k at (apply operator a b) tables h small =
-    applied_right image names line k at operator a b (numeric_right image names line k at a tables h.1 small.0) (numeric_right image names line (k + length (texts_in a)) (expression_end at a) b tables h.2 small.1)
-numeric_right image names line k at (text t) tables h small = absurd h
-numeric_right image names line k at (truth b) tables h small = absurd h
-numeric_right image names line k at (index n) tables h small = absurd h
-numeric_right image names line k at (range_of a b) tables h small = absurd h
-numeric_right image names line k at (sum_over i set condition body) tables h small = absurd h
-numeric_right image names line k at (invoke routine all) tables h small = absurd h
-numeric_right image names line k at (ask_hub function all) tables h small = absurd h
-numeric_right image names line k at unbuilt tables h small = absurd h
+numeric_right : (image : Image) (context : Context) (line k at : ℕ) (e : Expression) → Tables image context.names.model → IsNumeric context.names.model e → IsSmall e → AreRight image at (expression_code context line k e)
+numeric_right image context line k at (number n) tables h small = ((small, tt), tt)
+numeric_right image context line k at (variable scope n) tables h small = ((slot_within context.names.model scope n _ h tables.slots, tt), tt)
+numeric_right image context line k at (apply operator a b) tables h small =
+    applied_right image context line k at operator a b (numeric_right image context line k at a tables h.1 small.0) (numeric_right image context line (k + length (texts_in a)) (expression_end at a) b tables h.2 small.1)
+numeric_right image context line k at (text t) tables h small = absurd h
+numeric_right image context line k at (truth b) tables h small = absurd h
+numeric_right image context line k at (index n) tables h small = absurd h
+numeric_right image context line k at (range_of a b) tables h small = absurd h
+numeric_right image context line k at (sum_over i set condition body) tables h small = absurd h
+numeric_right image context line k at (invoke routine all) tables h small = absurd h
+numeric_right image context line k at (ask_hub function all) tables h small = absurd h
+numeric_right image context line k at unbuilt tables h small = absurd h
 
-condition_right : (image : Image) (names : List Name) (line k at : ℕ) (e : Expression) → Tables image names → IsCondition names e → IsSmall e → AreRight image at (expression_code names line k e)
-condition_right image names line k at (truth b) tables h small = ((truth_within b, tt), tt)
-condition_right image names line k at (apply (compare how) a b) tables h small =
-    applied_right image names line k at (compare how) a b (numeric_right image names line k at a tables h.0 small.0) (numeric_right image names line (k + length (texts_in a)) (expression_end at a) b tables h.1 small.1)
-condition_right image names line k at (apply sum a b) tables h small = absurd h
-condition_right image names line k at (apply difference a b) tables h small = absurd h
-condition_right image names line k at (number n) tables h small = absurd h
-condition_right image names line k at (variable scope n) tables h small = absurd h
-condition_right image names line k at (text t) tables h small = absurd h
-condition_right image names line k at (index n) tables h small = absurd h
-condition_right image names line k at (range_of a b) tables h small = absurd h
-condition_right image names line k at (sum_over i set condition body) tables h small = absurd h
-condition_right image names line k at (invoke routine all) tables h small = absurd h
-condition_right image names line k at (ask_hub function all) tables h small = absurd h
-condition_right image names line k at unbuilt tables h small = absurd h
+condition_right : (image : Image) (context : Context) (line k at : ℕ) (e : Expression) → Tables image context.names.model → IsCondition context.names.model e → IsSmall e → AreRight image at (expression_code context line k e)
+condition_right image context line k at (truth b) tables h small = ((truth_within b, tt), tt)
+condition_right image context line k at (apply (compare how) a b) tables h small =
+    applied_right image context line k at (compare how) a b (numeric_right image context line k at a tables h.0 small.0) (numeric_right image context line (k + length (texts_in a)) (expression_end at a) b tables h.1 small.1)
+condition_right image context line k at (apply sum a b) tables h small = absurd h
+condition_right image context line k at (apply difference a b) tables h small = absurd h
+condition_right image context line k at (number n) tables h small = absurd h
+condition_right image context line k at (variable scope n) tables h small = absurd h
+condition_right image context line k at (text t) tables h small = absurd h
+condition_right image context line k at (index n) tables h small = absurd h
+condition_right image context line k at (range_of a b) tables h small = absurd h
+condition_right image context line k at (sum_over i set condition body) tables h small = absurd h
+condition_right image context line k at (invoke routine all) tables h small = absurd h
+condition_right image context line k at (ask_hub function all) tables h small = absurd h
+condition_right image context line k at unbuilt tables h small = absurd h
 
-shown_right : (image : Image) (names : List Name) (line k at : ℕ) (e : Expression) → Tables image names → IsShown names e → IsSmall e → k + length (texts_in e) ≤ length image.constants
-    → AreRight image at (expression_code names line k e)
-shown_right image names line k at (text t) tables h small few = ((omega (arith, few), tt), tt)
-shown_right image names line k at (number n) tables h small few = numeric_right image names line k at (number n) tables h small
-shown_right image names line k at (variable scope n) tables h small few = numeric_right image names line k at (variable scope n) tables h small
-shown_right image names line k at (apply operator a b) tables h small few = numeric_right image names line k at (apply operator a b) tables h small
-shown_right image names line k at (truth b) tables h small few = absurd h
-shown_right image names line k at (index n) tables h small few = absurd h
-shown_right image names line k at (range_of a b) tables h small few = absurd h
-shown_right image names line k at (sum_over i set condition body) tables h small few = absurd h
-shown_right image names line k at (invoke routine all) tables h small few = absurd h
-shown_right image names line k at (ask_hub function all) tables h small few = absurd h
-shown_right image names line k at unbuilt tables h small few = absurd h
+shown_right : (image : Image) (context : Context) (line k at : ℕ) (e : Expression) → Tables image context.names.model → IsShown context.names.model e → IsSmall e → k + length (texts_in e) ≤ length image.constants
+    → AreRight image at (expression_code context line k e)
+shown_right image context line k at (text t) tables h small few = ((omega (arith, few), tt), tt)
+shown_right image context line k at (number n) tables h small few = numeric_right image context line k at (number n) tables h small
+shown_right image context line k at (variable scope n) tables h small few = numeric_right image context line k at (variable scope n) tables h small
+shown_right image context line k at (apply operator a b) tables h small few = numeric_right image context line k at (apply operator a b) tables h small
+shown_right image context line k at (truth b) tables h small few = absurd h
+shown_right image context line k at (index n) tables h small few = absurd h
+shown_right image context line k at (range_of a b) tables h small few = absurd h
+shown_right image context line k at (sum_over i set condition body) tables h small few = absurd h
+shown_right image context line k at (invoke routine all) tables h small few = absurd h
+shown_right image context line k at (ask_hub function all) tables h small few = absurd h
+shown_right image context line k at unbuilt tables h small few = absurd h
 
-arguments_right : (image : Image) (names : List Name) (line k at : ℕ) (all : Shown) → Tables image names → AreShown names all → AreSmall all → k + length (texts_in_all all) ≤ length image.constants
-    → AreRight image at (arguments_code names line k all)
-arguments_right image names line k at nothing_shown tables h small few = tt
-arguments_right image names line k at (shown_then e es) tables h small few =
+arguments_right : (image : Image) (context : Context) (line k at : ℕ) (all : Shown) → Tables image context.names.model → AreShown context.names.model all → AreSmall all → k + length (texts_in_all all) ≤ length image.constants
+    → AreRight image at (arguments_code context line k all)
+arguments_right image context line k at nothing_shown tables h small few = tt
+arguments_right image context line k at (shown_then e es) tables h small few =
     let l = length-append (texts_in e) (texts_in_all es) in
     let middle : ℕ = expression_end at e in
-    right_append image at middle (expression_code names line k e) (at_line line Show ∷ at_line line Write ∷ arguments_code names line (k + length (texts_in e)) es) (expression_after names line k at e)
-    (shown_right image names line k at e tables h.0 small.0 (omega (arith, few, l)))
-    ((tt, tt), ((tt, tt), arguments_right image names line (k + length (texts_in e)) (middle + 1 + 1) es tables h.1 small.1 (omega (arith, few, l))))
+    right_append image at middle (expression_code context line k e) (at_line line Show ∷ at_line line Write ∷ arguments_code context line (k + length (texts_in e)) es) (expression_after context line k at e)
+    (shown_right image context line k at e tables h.0 small.0 (omega (arith, few, l)))
+    ((tt, tt), ((tt, tt), arguments_right image context line (k + length (texts_in e)) (middle + 1 + 1) es tables h.1 small.1 (omega (arith, few, l))))
 
 change_right : (image : Image) (at line slot : ℕ) (operator : Operator) → slot < length image.globals
     → AreRight image at (at_line line (LoadGlobal slot) ∷ at_line line Swap ∷ at_line line (operator_code operator) ∷ at_line line (StoreGlobal slot) ∷ [])
@@ -198,54 +199,54 @@ pub record TargetsBegin (image : Image) (end out next : ℕ) : Type 0 where
   pub next_fits : next < 2 ^ 32
 
 mutual
-  statement_right : (image : Image) (names : List Name) (k at out next : ℕ) (e : CoreStatement) → Tables image names → Works names e → IsSmallStatement e
-      → k + length (texts_in_statement e) ≤ length image.constants → HasAt image.code at (statement_code names k at out next e) → TargetsBegin image (statement_end at e) out next
-      → AreRight image at (statement_code names k at out next e)
-  statement_right image names k at out next (assign line scope n e) tables works small few h x = (
+  statement_right : (image : Image) (context : Context) (k at out next : ℕ) (e : CoreStatement) → Tables image context.names.model → Works context.names.model e → IsSmallStatement e
+      → k + length (texts_in_statement e) ≤ length image.constants → HasAt image.code at (statement_code context k at out next e) → TargetsBegin image (statement_end at e) out next
+      → AreRight image at (statement_code context k at out next e)
+  statement_right image context k at out next (assign line scope n e) tables works small few h x = (
     (tt, tt),
-    right_append image (at + 1) (expression_end (at + 1) e) (expression_code names line k e) (at_line line (StoreGlobal (place_of n names)) ∷ [])
-        (expression_after names line k (at + 1) e) (numeric_right image names line k (at + 1) e tables works.1 small)
-        ((slot_within names scope n _ works.0 tables.slots, tt), tt),
+    right_append image (at + 1) (expression_end (at + 1) e) (expression_code context line k e) (at_line line (StoreGlobal (place_of n context.names.model)) ∷ [])
+        (expression_after context line k (at + 1) e) (numeric_right image context line k (at + 1) e tables works.1 small)
+        ((slot_within context.names.model scope n _ works.0 tables.slots, tt), tt),
   )
-  statement_right image names k at out next (change line operator scope n e) tables works small few h x = (
+  statement_right image context k at out next (change line operator scope n e) tables works small few h x = (
     (tt, tt),
-    right_append image (at + 1) (expression_end (at + 1) e) (expression_code names line k e)
-        (at_line line (LoadGlobal (place_of n names)) ∷ at_line line Swap ∷ at_line line (operator_code operator) ∷ at_line line (StoreGlobal (place_of n names)) ∷ [])
-        (expression_after names line k (at + 1) e) (numeric_right image names line k (at + 1) e tables works.2 small)
-        (change_right image (expression_end (at + 1) e) line (place_of n names) operator (slot_within names scope n _ works.1 tables.slots)),
+    right_append image (at + 1) (expression_end (at + 1) e) (expression_code context line k e)
+        (at_line line (LoadGlobal (place_of n context.names.model)) ∷ at_line line Swap ∷ at_line line (operator_code operator) ∷ at_line line (StoreGlobal (place_of n context.names.model)) ∷ [])
+        (expression_after context line k (at + 1) e) (numeric_right image context line k (at + 1) e tables works.2 small)
+        (change_right image (expression_end (at + 1) e) line (place_of n context.names.model) operator (slot_within context.names.model scope n _ works.1 tables.slots)),
   )
-  statement_right image names k at out next (write line newline all) tables works small few h x = (
+  statement_right image context k at out next (write line newline all) tables works small few h x = (
     (tt, tt),
-    right_append image (at + 1) (arguments_end (at + 1) all) (arguments_code names line k all) (at_line line (PushBool (from_bool newline)) ∷ at_line line Line ∷ [])
-        (arguments_after names line k (at + 1) all) (arguments_right image names line k (at + 1) all tables works small few)
+    right_append image (at + 1) (arguments_end (at + 1) all) (arguments_code context line k all) (at_line line (PushBool (from_bool newline)) ∷ at_line line Line ∷ [])
+        (arguments_after context line k (at + 1) all) (arguments_right image context line k (at + 1) all tables works small few)
         ((truth_within newline, tt), ((tt, tt), tt)),
   )
-  statement_right image names k at out next (perform line routine all) tables works small few h x = absurd works
-  statement_right image names k at out next (tell_hub line function all) tables works small few h x = absurd works
-  statement_right image names k at out next (if_ line all) tables works small few h x =
-      ((tt, tt), arms_right image names k (at + 1) out next all tables works small few h.1 x)
-  statement_right image names k at out next (while_ line e body) tables works small few h x =
+  statement_right image context k at out next (perform line routine all) tables works small few h x = absurd works
+  statement_right image context k at out next (tell_hub line function all) tables works small few h x = absurd works
+  statement_right image context k at out next (if_ line all) tables works small few h x =
+      ((tt, tt), arms_right image context k (at + 1) out next all tables works small few h.1 x)
+  statement_right image context k at out next (while_ line e body) tables works small few h x =
       let pass : ℕ = at + 1 + 5 in
       let test : ℕ = statement_end (pass + 1) body in
       let last : ℕ = expression_end test e in
       let l : ℕ = k + length (texts_in_statement body) in
-      let inner = statement_code names k (pass + 1) (last + 5) test body in
-      let behind = expression_code names line l e ++ at_line line (JumpIf pass) ∷ [] in
-      let cuts = cut image.code (pass + 1) test inner behind (statement_after names k (pass + 1) (last + 5) test body) h.1.1.1 in
-      let ends = cut image.code test last (expression_code names line l e) (at_line line (JumpIf pass) ∷ []) (expression_after names line l test e) cuts.1 in
+      let inner = statement_code context k (pass + 1) (last + 5) test body in
+      let behind = expression_code context line l e ++ at_line line (JumpIf pass) ∷ [] in
+      let cuts = cut image.code (pass + 1) test inner behind (statement_after context k (pass + 1) (last + 5) test body) h.1.1.1 in
+      let ends = cut image.code test last (expression_code context line l e) (at_line line (JumpIf pass) ∷ []) (expression_after context line l test e) cuts.1 in
       let both = length-append (texts_in_statement body) (texts_in e) in
       let above = statement_above (pass + 1) body in
       let later = expression_above test e in
       let out_ahead = x.out_ahead in
       let out_fits = x.out_fits in
-      let test_begun : IsBegun image.code test = starts image.code test last (expression_code names line l e) ends.0 (expression_after names line l test e) (JumpIf pass, ends.1.0) in (
+      let test_begun : IsBegun image.code test = starts image.code test last (expression_code context line l e) ends.0 (expression_after context line l test e) (JumpIf pass, ends.1.0) in (
         (tt, tt),
         (
           (omega (arith, later, out_ahead, out_fits), ahead image.code (at + 1) test test_begun (omega (arith, above))),
           (
             (tt, tt),
-            right_append image (pass + 1) test inner behind (statement_after names k (pass + 1) (last + 5) test body)
-                (statement_right image names k (pass + 1) (last + 5) test body tables works.1 small.1 (omega (arith, few, both)) cuts.0 (record {
+            right_append image (pass + 1) test inner behind (statement_after context k (pass + 1) (last + 5) test body)
+                (statement_right image context k (pass + 1) (last + 5) test body tables works.1 small.1 (omega (arith, few, both)) cuts.0 (record {
                   end_begun = test_begun;
                   out_begun = x.end_begun;
                   next_begun = test_begun;
@@ -254,24 +255,24 @@ mutual
                   out_fits = omega (arith, out_ahead, out_fits);
                   next_fits = omega (arith, later, out_ahead, out_fits);
                 }))
-                (right_append image test last (expression_code names line l e) (at_line line (JumpIf pass) ∷ []) (expression_after names line l test e)
-                (condition_right image names line l test e tables works.0 small.0)
+                (right_append image test last (expression_code context line l e) (at_line line (JumpIf pass) ∷ []) (expression_after context line l test e)
+                (condition_right image context line l test e tables works.0 small.0)
                 ((omega (arith, above, later, out_ahead, out_fits), ((Tick, h.1.1.0), λ t. h.1.1.0)), tt)),
           ),
         ),
       )
-  statement_right image names k at out next (do_ all) tables works small few h x = block_right image names k at out next all tables works small few h x
-  statement_right image names k at out next (break_ line) tables works small few h x =
+  statement_right image context k at out next (do_ all) tables works small few h x = block_right image context k at out next all tables works small few h x
+  statement_right image context k at out next (break_ line) tables works small few h x =
       let further = x.out_ahead in ((tt, tt), ((x.out_fits, ahead image.code (at + 1) out x.out_begun (omega (arith, further))), tt))
-  statement_right image names k at out next (next_ line) tables works small few h x =
+  statement_right image context k at out next (next_ line) tables works small few h x =
       let further = x.next_ahead in ((tt, tt), ((x.next_fits, ahead image.code (at + 1) next x.next_begun (omega (arith, further))), tt))
-  statement_right image names k at out next unbuilt_statement tables works small few h x = absurd works
+  statement_right image context k at out next unbuilt_statement tables works small few h x = absurd works
 
-  arms_right : (image : Image) (names : List Name) (k at out next : ℕ) (all : Arms) → Tables image names → ArmsWork names all → AreSmallArms all
-      → k + length (texts_in_arms all) ≤ length image.constants → HasAt image.code at (arms_code names k at (arms_end at all) out next all) → TargetsBegin image (arms_end at all) out next
-      → AreRight image at (arms_code names k at (arms_end at all) out next all)
-  arms_right image names k at out next (else_ all) tables works small few h x = block_right image names k at out next all tables works small few h x
-  arms_right image names k at out next (elif line e all rest) tables works small few h x =
+  arms_right : (image : Image) (context : Context) (k at out next : ℕ) (all : Arms) → Tables image context.names.model → ArmsWork context.names.model all → AreSmallArms all
+      → k + length (texts_in_arms all) ≤ length image.constants → HasAt image.code at (arms_code context k at (arms_end at all) out next all) → TargetsBegin image (arms_end at all) out next
+      → AreRight image at (arms_code context k at (arms_end at all) out next all)
+  arms_right image context k at out next (else_ all) tables works small few h x = block_right image context k at out next all tables works small few h x
+  arms_right image context k at out next (elif line e all rest) tables works small few h x =
       let middle : ℕ = expression_end at e in
       let body : ℕ = middle + 5 in
       let jump : ℕ = block_end body all in
@@ -279,10 +280,10 @@ mutual
       let end : ℕ = arms_end other rest in
       let l : ℕ = k + length (texts_in e) in
       let m : ℕ = l + length (texts_in_block all) in
-      let others = arms_code names m other end out next rest in
-      let inner = block_code names l body out next all in
-      let cuts = cut image.code at middle (expression_code names line k e) (at_line line (JumpNot other) ∷ (inner ++ at_line line (Jump end) ∷ others)) (expression_after names line k at e) h in
-      let ends = cut image.code body jump inner (at_line line (Jump end) ∷ others) (block_after names l body out next all) cuts.1.1 in
+      let others = arms_code context m other end out next rest in
+      let inner = block_code context l body out next all in
+      let cuts = cut image.code at middle (expression_code context line k e) (at_line line (JumpNot other) ∷ (inner ++ at_line line (Jump end) ∷ others)) (expression_after context line k at e) h in
+      let ends = cut image.code body jump inner (at_line line (Jump end) ∷ others) (block_after context l body out next all) cuts.1.1 in
       let above = block_above body all in
       let more = arms_above other rest in
       let one_way = length-append (texts_in e) (texts_in_block all ++ texts_in_arms rest) in
@@ -290,12 +291,12 @@ mutual
       let out_ahead = x.out_ahead in
       let next_ahead = x.next_ahead in
       let out_fits = x.out_fits in
-      let other_begun : IsBegun image.code other = starts image.code other end others ends.1.1 (arms_after names m other end out next rest) x.end_begun in
-      right_append image at middle (expression_code names line k e) (at_line line (JumpNot other) ∷ (inner ++ at_line line (Jump end) ∷ others)) (expression_after names line k at e)
-      (condition_right image names line k at e tables works.0 small.0) (
+      let other_begun : IsBegun image.code other = starts image.code other end others ends.1.1 (arms_after context m other end out next rest) x.end_begun in
+      right_append image at middle (expression_code context line k e) (at_line line (JumpNot other) ∷ (inner ++ at_line line (Jump end) ∷ others)) (expression_after context line k at e)
+      (condition_right image context line k at e tables works.0 small.0) (
         (omega (arith, more, out_ahead, out_fits), ahead image.code middle other other_begun (omega (arith, above))),
-        right_append image body jump inner (at_line line (Jump end) ∷ others) (block_after names l body out next all)
-            (block_right image names l body out next all tables works.1 small.1 (omega (arith, few, one_way, other_way)) ends.0 (record {
+        right_append image body jump inner (at_line line (Jump end) ∷ others) (block_after context l body out next all)
+            (block_right image context l body out next all tables works.1 small.1 (omega (arith, few, one_way, other_way)) ends.0 (record {
               end_begun = (Jump end, ends.1.0);
               out_begun = x.out_begun;
               next_begun = x.next_begun;
@@ -305,26 +306,26 @@ mutual
               next_fits = x.next_fits;
             })) (
               (omega (arith, out_ahead, out_fits), ahead image.code jump end x.end_begun (omega (arith, more))),
-              arms_right image names m other out next rest tables works.2 small.2 (omega (arith, few, one_way, other_way)) ends.1.1 x,
+              arms_right image context m other out next rest tables works.2 small.2 (omega (arith, few, one_way, other_way)) ends.1.1 x,
             ),
       )
 
-  pub block_right : (image : Image) (names : List Name) (k at out next : ℕ) (all : Block) → Tables image names → AllWork names all → IsSmallBlock all
-      → k + length (texts_in_block all) ≤ length image.constants → HasAt image.code at (block_code names k at out next all) → TargetsBegin image (block_end at all) out next
-      → AreRight image at (block_code names k at out next all)
-  block_right image names k at out next no_statement tables works small few h x = tt
-  block_right image names k at out next (statement_then e rest) tables works small few h x =
+  pub block_right : (image : Image) (context : Context) (k at out next : ℕ) (all : Block) → Tables image context.names.model → AllWork context.names.model all → IsSmallBlock all
+      → k + length (texts_in_block all) ≤ length image.constants → HasAt image.code at (block_code context k at out next all) → TargetsBegin image (block_end at all) out next
+      → AreRight image at (block_code context k at out next all)
+  block_right image context k at out next no_statement tables works small few h x = tt
+  block_right image context k at out next (statement_then e rest) tables works small few h x =
       let l : ℕ = k + length (texts_in_statement e) in
       let middle : ℕ = statement_end at e in
-      let rest_code = block_code names l middle out next rest in
-      let cuts = cut image.code at middle (statement_code names k at out next e) rest_code (statement_after names k at out next e) h in
+      let rest_code = block_code context l middle out next rest in
+      let cuts = cut image.code at middle (statement_code context k at out next e) rest_code (statement_after context k at out next e) h in
       let above = block_above middle rest in
       let both = length-append (texts_in_statement e) (texts_in_block rest) in
       let out_ahead = x.out_ahead in
       let next_ahead = x.next_ahead in
-      right_append image at middle (statement_code names k at out next e) rest_code (statement_after names k at out next e)
-      (statement_right image names k at out next e tables works.0 small.0 (omega (arith, few, both)) cuts.0 (record {
-        end_begun = starts image.code middle (block_end middle rest) rest_code cuts.1 (block_after names l middle out next rest) x.end_begun;
+      right_append image at middle (statement_code context k at out next e) rest_code (statement_after context k at out next e)
+      (statement_right image context k at out next e tables works.0 small.0 (omega (arith, few, both)) cuts.0 (record {
+        end_begun = starts image.code middle (block_end middle rest) rest_code cuts.1 (block_after context l middle out next rest) x.end_begun;
         out_begun = x.out_begun;
         next_begun = x.next_begun;
         out_ahead = omega (arith, above, out_ahead);
@@ -332,7 +333,7 @@ mutual
         out_fits = x.out_fits;
         next_fits = x.next_fits;
       }))
-      (block_right image names l middle out next rest tables works.1 small.1 (omega (arith, few, both)) cuts.1 x)
+      (block_right image context l middle out next rest tables works.1 small.1 (omega (arith, few, both)) cuts.1 x)
 
 -- what is found in right code is right
 pub right_found : (image : Image) (at : ℕ) (is : List Labelled) → AreRight image at is → (address : ℕ) (i : Instruction)

@@ -17,6 +17,7 @@ use Rattle.mos_value.specs.Answers.{Operator}
 use Rattle.mos_meaning.specs.Syntax.{Expression, number, text, truth, variable, index, apply, range_of, sum_over, invoke, ask_hub, unbuilt, Shown, nothing_shown, shown_then, CoreStatement, assign, change, write, perform, tell_hub, if_, while_, do_, break_, next_, unbuilt_statement, Arms, else_, elif, Block, no_statement, statement_then}
 use Rattle.mos_meaning.specs.Sources.{names_after, names_in_arms, names_from, variables_of}
 use Rattle.bim_compile.specs.declared.draft.Labelled.{Labelled}
+use Rattle.bim_compile.specs.Contexts.{Context, context_of}
 use Rattle.bim_compile.specs.Compiled.{at_line, instructions, labelled_of, expression_code, arguments_code, statement_code, arms_code, operator_code, texts_in, texts_in_all, texts_in_statement, texts_in_arms, texts_in_block, expression_end, arguments_end, statement_end, arms_end, block_code, block_end, types_of, image_of}
 use Rattle.bim_compile.proofs.Standing.{after, after-append}
 use Rattle.bim_compile.proofs.EndLemmas.{block_after}
@@ -169,10 +170,10 @@ mutual
 pub code_within : (model : Block) → code_size (image_of model).code ≤ 13 * size_of_block model + 6
 code_within model =
     let end : ℕ = block_end 0 model in
-    let body = block_code (variables_of model) 0 0 end end model in
+    let body = block_code (context_of model) 0 0 end end model in
     let last : List Labelled = at_line 0 (PushInt (pos 0)) ∷ at_line 0 End ∷ [] in
     let whole = after-append 0 body last in
-    let inner = block_after (variables_of model) 0 0 end end model in
+    let inner = block_after (context_of model) 0 0 end end model in
     let size = size_after 0 (labelled_of model) in
     let behind = size_after (after 0 body) last in
     let within = block_within 0 model in
@@ -212,114 +213,114 @@ fits_fields model small short = record {
 operator_length : (line : ℕ) (operator : Operator) → length (at_line line (operator_code operator) ∷ []) ≡ 1
 operator_length line operator = refl
 
-expression_length : (names : List Name) (line k : ℕ) (e : Expression) → length (expression_code names line k e) ≤ size_of e
-expression_length names line k (number n) = omega arith
-expression_length names line k (text t) = omega arith
-expression_length names line k (truth b) = omega arith
-expression_length names line k (variable scope n) = omega arith
-expression_length names line k (apply operator a b) =
+expression_length : (context : Context) (line k : ℕ) (e : Expression) → length (expression_code context line k e) ≤ size_of e
+expression_length context line k (number n) = omega arith
+expression_length context line k (text t) = omega arith
+expression_length context line k (truth b) = omega arith
+expression_length context line k (variable scope n) = omega arith
+expression_length context line k (apply operator a b) =
     let l : ℕ = k + length (texts_in a) in
     omega (
       arith,
-      length-append (expression_code names line k a) (expression_code names line l b ++ at_line line (operator_code operator) ∷ []),
-      length-append (expression_code names line l b) (at_line line (operator_code operator) ∷ []),
-      expression_length names line k a,
-      expression_length names line l b,
+      length-append (expression_code context line k a) (expression_code context line l b ++ at_line line (operator_code operator) ∷ []),
+      length-append (expression_code context line l b) (at_line line (operator_code operator) ∷ []),
+      expression_length context line k a,
+      expression_length context line l b,
     )
-expression_length names line k (index n) = omega arith
-expression_length names line k (range_of a b) = omega arith
-expression_length names line k (sum_over i set condition body) = omega arith
-expression_length names line k (invoke routine all) = omega arith
-expression_length names line k (ask_hub function all) = omega arith
-expression_length names line k unbuilt = omega arith
+expression_length context line k (index n) = omega arith
+expression_length context line k (range_of a b) = omega arith
+expression_length context line k (sum_over i set condition body) = omega arith
+expression_length context line k (invoke routine all) = omega arith
+expression_length context line k (ask_hub function all) = omega arith
+expression_length context line k unbuilt = omega arith
 
-arguments_length : (names : List Name) (line k : ℕ) (all : Shown) → length (arguments_code names line k all) ≤ 3 * size_of_all all
-arguments_length names line k nothing_shown = omega arith
-arguments_length names line k (shown_then e es) =
+arguments_length : (context : Context) (line k : ℕ) (all : Shown) → length (arguments_code context line k all) ≤ 3 * size_of_all all
+arguments_length context line k nothing_shown = omega arith
+arguments_length context line k (shown_then e es) =
     let l : ℕ = k + length (texts_in e) in
     omega (
       arith,
-      length-append (expression_code names line k e) (at_line line Show ∷ at_line line Write ∷ arguments_code names line l es),
-      expression_length names line k e,
+      length-append (expression_code context line k e) (at_line line Show ∷ at_line line Write ∷ arguments_code context line l es),
+      expression_length context line k e,
       some_size e,
-      arguments_length names line l es,
+      arguments_length context line l es,
     )
 
 mutual
-  statement_length : (names : List Name) (k at out next : ℕ) (e : CoreStatement) → length (statement_code names k at out next e) ≤ 5 * size_of_core e
-  statement_length names k at out next (assign line scope n e) =
+  statement_length : (context : Context) (k at out next : ℕ) (e : CoreStatement) → length (statement_code context k at out next e) ≤ 5 * size_of_core e
+  statement_length context k at out next (assign line scope n e) =
       omega (
         arith,
-        length-append (expression_code names line k e) (at_line line (StoreGlobal (place_of n names)) ∷ []),
-        expression_length names line k e,
+        length-append (expression_code context line k e) (at_line line (StoreGlobal (place_of n context.names.model)) ∷ []),
+        expression_length context line k e,
       )
-  statement_length names k at out next (change line operator scope n e) =
+  statement_length context k at out next (change line operator scope n e) =
       omega (
         arith,
-        length-append (expression_code names line k e) (at_line line (LoadGlobal (place_of n names)) ∷ at_line line Swap ∷ at_line line (operator_code operator) ∷ at_line line (StoreGlobal (place_of n names)) ∷ []),
-        expression_length names line k e,
+        length-append (expression_code context line k e) (at_line line (LoadGlobal (place_of n context.names.model)) ∷ at_line line Swap ∷ at_line line (operator_code operator) ∷ at_line line (StoreGlobal (place_of n context.names.model)) ∷ []),
+        expression_length context line k e,
       )
-  statement_length names k at out next (write line newline all) =
+  statement_length context k at out next (write line newline all) =
       omega (
         arith,
-        length-append (arguments_code names line k all) (at_line line (PushBool (from_bool newline)) ∷ at_line line Line ∷ []),
-        arguments_length names line k all,
+        length-append (arguments_code context line k all) (at_line line (PushBool (from_bool newline)) ∷ at_line line Line ∷ []),
+        arguments_length context line k all,
       )
-  statement_length names k at out next (if_ line all) = omega (arith, arms_length names k (at + 1) (arms_end (at + 1) all) out next all)
-  statement_length names k at out next (while_ line e body) =
+  statement_length context k at out next (if_ line all) = omega (arith, arms_length context k (at + 1) (arms_end (at + 1) all) out next all)
+  statement_length context k at out next (while_ line e body) =
       let pass : ℕ = at + 1 + 5 in
       let test : ℕ = statement_end (pass + 1) body in
       let l : ℕ = k + length (texts_in_statement body) in
       omega (
         arith,
-        length-append (statement_code names k (pass + 1) (expression_end test e + 5) test body) (expression_code names line l e ++ at_line line (JumpIf pass) ∷ []),
-        length-append (expression_code names line l e) (at_line line (JumpIf pass) ∷ []),
-        statement_length names k (pass + 1) (expression_end test e + 5) test body,
-        expression_length names line l e,
+        length-append (statement_code context k (pass + 1) (expression_end test e + 5) test body) (expression_code context line l e ++ at_line line (JumpIf pass) ∷ []),
+        length-append (expression_code context line l e) (at_line line (JumpIf pass) ∷ []),
+        statement_length context k (pass + 1) (expression_end test e + 5) test body,
+        expression_length context line l e,
       )
-  statement_length names k at out next (do_ all) = omega (arith, block_length names k at out next all)
-  statement_length names k at out next (break_ line) = omega arith
-  statement_length names k at out next (next_ line) = omega arith
-  statement_length names k at out next (perform line routine all) = omega arith
-  statement_length names k at out next (tell_hub line function all) = omega arith
-  statement_length names k at out next unbuilt_statement = omega arith
+  statement_length context k at out next (do_ all) = omega (arith, block_length context k at out next all)
+  statement_length context k at out next (break_ line) = omega arith
+  statement_length context k at out next (next_ line) = omega arith
+  statement_length context k at out next (perform line routine all) = omega arith
+  statement_length context k at out next (tell_hub line function all) = omega arith
+  statement_length context k at out next unbuilt_statement = omega arith
 
-  arms_length : (names : List Name) (k at end out next : ℕ) (all : Arms) → length (arms_code names k at end out next all) ≤ 5 * size_of_arms all
-  arms_length names k at end out next (else_ all) = block_length names k at out next all
-  arms_length names k at end out next (elif line e all rest) =
+  arms_length : (context : Context) (k at end out next : ℕ) (all : Arms) → length (arms_code context k at end out next all) ≤ 5 * size_of_arms all
+  arms_length context k at end out next (else_ all) = block_length context k at out next all
+  arms_length context k at end out next (elif line e all rest) =
       let body : ℕ = expression_end at e + 5 in
       let other : ℕ = block_end body all + 5 in
       let l : ℕ = k + length (texts_in e) in
       let m : ℕ = l + length (texts_in_block all) in
-      let others = at_line line (Jump end) ∷ arms_code names m other end out next rest in
+      let others = at_line line (Jump end) ∷ arms_code context m other end out next rest in
       omega (
         arith,
-        length-append (expression_code names line k e) (at_line line (JumpNot other) ∷ (block_code names l body out next all ++ others)),
-        length-append (block_code names l body out next all) others,
-        expression_length names line k e,
-        block_length names l body out next all,
-        arms_length names m other end out next rest,
+        length-append (expression_code context line k e) (at_line line (JumpNot other) ∷ (block_code context l body out next all ++ others)),
+        length-append (block_code context l body out next all) others,
+        expression_length context line k e,
+        block_length context l body out next all,
+        arms_length context m other end out next rest,
       )
 
-  block_length : (names : List Name) (k at out next : ℕ) (all : Block) → length (block_code names k at out next all) ≤ 5 * size_of_block all
-  block_length names k at out next no_statement = omega arith
-  block_length names k at out next (statement_then e rest) =
+  block_length : (context : Context) (k at out next : ℕ) (all : Block) → length (block_code context k at out next all) ≤ 5 * size_of_block all
+  block_length context k at out next no_statement = omega arith
+  block_length context k at out next (statement_then e rest) =
       let l : ℕ = k + length (texts_in_statement e) in
       omega (
         arith,
-        length-append (statement_code names k at out next e) (block_code names l (statement_end at e) out next rest),
-        statement_length names k at out next e,
-        block_length names l (statement_end at e) out next rest,
+        length-append (statement_code context k at out next e) (block_code context l (statement_end at e) out next rest),
+        statement_length context k at out next e,
+        block_length context l (statement_end at e) out next rest,
       )
 
 -- the instructions of a model's image
 pub few_instructions : (model : Block) → length (image_of model).code ≤ 5 * size_of_block model + 2
 few_instructions model =
     let end : ℕ = block_end 0 model in
-    let body = block_code (variables_of model) 0 0 end end model in
+    let body = block_code (context_of model) 0 0 end end model in
     let last : List Labelled = at_line 0 (PushInt (pos 0)) ∷ at_line 0 End ∷ [] in
     let same : length (instructions (body ++ last)) ≡ length (body ++ last) = length-map (body ++ last) (λ (l : Labelled). l.instruction) in
-    omega (arith, same, length-append body last, block_length (variables_of model) 0 0 end end model)
+    omega (arith, same, length-append body last, block_length (context_of model) 0 0 end end model)
 
 -- the texts of a small model are short
 texts_short : (e : Expression) → IsSmall e → All (λ t. length t < 2 ^ 32) (texts_in e)

@@ -18,9 +18,10 @@ use Rattle.bim_machine.specs.Machine.{Machine, At, Work, Here, On, push, settle}
 use Rattle.bim_machine.specs.Instructions.{on_some, global}
 use Rattle.bim_machine.specs.Courses.{site_of}
 use Rattle.mos_meaning.specs.Syntax.{Own, Model, Shown, nothing_shown, shown_then, CoreStatement, assign, change, write, perform, tell_hub, if_, while_, do_, break_, next_, unbuilt_statement, Arms, else_, elif, Block, no_statement, statement_then}
-use Rattle.mos_meaning.specs.Values.{Names, Env, Routine, ticking, value_of}
+use Rattle.mos_meaning.specs.Values.{Env, Routine, ticking, value_of}
 use Rattle.mos_meaning.specs.Effects.{Completion, Normal, ByBreak, ByNext, store_result, assign_result, change_result, on_text, write_result, after_pass, passes, after_statement, effect_of, effect_of_arms, effects_of}
 use Rattle.bim_compile.specs.Built.{AreBuilt, IsBuiltStatement, AreBuiltArms, IsBuiltBlock}
+use Rattle.bim_compile.specs.Contexts.{Context}
 use Rattle.bim_compile.specs.Compiled.{at_line, texts_in, texts_in_all, texts_in_statement, texts_in_arms, texts_in_block, operator_code, expression_code, expression_end, arguments_code, arguments_end, statement_code, statement_end, arms_code, arms_end, block_code, block_end}
 use Rattle.bim_compile.proofs.Standing.{HasAt, HasTexts, text_parts, cut}
 use Rattle.bim_compile.proofs.EndLemmas.{expression_after, arguments_after, statement_after, block_after}
@@ -99,23 +100,23 @@ text_lands : {image : Image} {w : World} {k : Known} {here : Here} {to : Complet
 text_lands (One (Str t)) at held stack s store go st h p = instruct Write h (p t)
 text_lands v at held stack s store go st h p = instruct Write h (halts Stuck None s store at st)
 
-arguments_run : {image : Image} {w : World} {k : Known} {here : Here} {out next : ℕ} (call : Routine) (names : Names) (env : Env) (newline : Bool) (all : Shown) (line c at : ℕ) (held : List ℕ)
+arguments_run : {image : Image} {w : World} {k : Known} {here : Here} {out next : ℕ} (call : Routine) (context : Context) (env : Env) (newline : Bool) (all : Shown) (line c at : ℕ) (held : List ℕ)
     (stack : List Operand) (s : State) (store : List (List Value)) → Stores k s.memory.store store
-    → AreBuilt all → HasAt image.code at (arguments_code names.model line c all)
+    → AreBuilt all → HasAt image.code at (arguments_code context line c all)
     → HasAt image.code (arguments_end at all) (at_line line (PushBool (from_bool newline)) ∷ at_line line Line ∷ [])
     → HasTexts image.constants c (texts_in_all all)
-    → Lands image w k (λ flow s1. At (leading (arguments_end at all + 5 + 1) out next flow) (bare stack) here s1) (At at (holding stack held) here (with_store store s)) (write_result w call names newline all env held s)
-arguments_run call names env newline nothing_shown line c at held stack s store st built h last t = newline_lands line newline held at stack s store st last
-arguments_run {image = image} call names env newline (shown_then e es) line c at held stack s store st built h last t =
+    → Lands image w k (λ flow s1. At (leading (arguments_end at all + 5 + 1) out next flow) (bare stack) here s1) (At at (holding stack held) here (with_store store s)) (write_result w call context.names newline all env held s)
+arguments_run call context env newline nothing_shown line c at held stack s store st built h last t = newline_lands line newline held at stack s store st last
+arguments_run {image = image} call context env newline (shown_then e es) line c at held stack s store st built h last t =
     let l : ℕ = c + length (texts_in e) in
     let middle : ℕ = expression_end at e in
-    let cuts = cut image.code at middle (expression_code names.model line c e) (at_line line Show ∷ at_line line Write ∷ arguments_code names.model line l es) (expression_after names.model line c at e) h in
+    let cuts = cut image.code at middle (expression_code context line c e) (at_line line Show ∷ at_line line Write ∷ arguments_code context line l es) (expression_after context line c at e) h in
     let texts = text_parts image.constants c (texts_in e) (texts_in_all es) t in
-    then_ _ _ (expression_runs call names env e line c at built.0 cuts.0 texts.0 (holding stack held) s store st) (λ v s1 store1 st1.
+    then_ _ _ (expression_runs call context env e line c at built.0 cuts.0 texts.0 (holding stack held) s store st) (λ v s1 store1 st1.
     instruct Show cuts.1.0
     (then_ _ _ (answer_lands {work = holding stack held} (answer show (v ∷ [])) (site_of Show middle) s1 store1 st1) (λ form s2 store2 st2.
     text_lands form (middle + 1) held stack s2 store2 _ st2 cuts.1.1.0 (λ bytes.
-    arguments_run call names env newline es line l (middle + 1 + 1) (held ++ bytes) stack s2 store2 st2 built.1 cuts.1.1.1 last texts.1))))
+    arguments_run call context env newline es line l (middle + 1 + 1) (held ++ bytes) stack s2 store2 st2 built.1 cuts.1.1.1 last texts.1))))
 
 -- Loops and blocks.
 
@@ -168,59 +169,59 @@ begins : {image : Image} {w : World} {k : Known} {here : Here} {at end out next 
 begins line g h r stack s store st = marked line _ (then_tick s store g st h (λ s1 st1. r stack s1 store st1))
 
 mutual
-  pub statement_runs : {image : Image} {w : World} {k : Known} {here : Here} (call : Routine) (names : Names) (env : Env) (e : CoreStatement) (c at out next : ℕ)
-      → IsBuiltStatement e → HasAt image.code at (statement_code names.model c at out next e) → HasTexts image.constants c (texts_in_statement e)
-      → Runs image w k here at (statement_end at e) out next (effect_of w call names e env)
-  statement_runs {image = image} call names env (assign line Model n e) c at out next built h t =
+  pub statement_runs : {image : Image} {w : World} {k : Known} {here : Here} (call : Routine) (context : Context) (env : Env) (e : CoreStatement) (c at out next : ℕ)
+      → IsBuiltStatement e → HasAt image.code at (statement_code context c at out next e) → HasTexts image.constants c (texts_in_statement e)
+      → Runs image w k here at (statement_end at e) out next (effect_of w call context.names e env)
+  statement_runs {image = image} call context env (assign line Model n e) c at out next built h t =
       let last : ℕ = expression_end (at + 1) e in
-      let cuts = cut image.code (at + 1) last (expression_code names.model line c e) (at_line line (StoreGlobal (place_of n names.model)) ∷ []) (expression_after names.model line c (at + 1) e) h.1 in
+      let cuts = cut image.code (at + 1) last (expression_code context line c e) (at_line line (StoreGlobal (place_of n context.names.model)) ∷ []) (expression_after context line c (at + 1) e) h.1 in
       begins line _ h.0 (λ stack s store st.
-      then_ _ _ (expression_runs call names env e line c (at + 1) built.1 cuts.0 t (bare stack) s store st) (λ v s1 store1 st1.
-      assign_runs (place_of n names.model) last v stack s1 store1 st1 cuts.1.0))
-  statement_runs call names env (assign line Own n e) c at out next built h t = absurd built.0
-  statement_runs {image = image} call names env (change line operator Model n e) c at out next built h t =
+      then_ _ _ (expression_runs call context env e line c (at + 1) built.1 cuts.0 t (bare stack) s store st) (λ v s1 store1 st1.
+      assign_runs (place_of n context.names.model) last v stack s1 store1 st1 cuts.1.0))
+  statement_runs call context env (assign line Own n e) c at out next built h t = absurd built.0
+  statement_runs {image = image} call context env (change line operator Model n e) c at out next built h t =
       let last : ℕ = expression_end (at + 1) e in
-      let slot : ℕ = place_of n names.model in
-      let cuts = cut image.code (at + 1) last (expression_code names.model line c e)
+      let slot : ℕ = place_of n context.names.model in
+      let cuts = cut image.code (at + 1) last (expression_code context line c e)
       (at_line line (LoadGlobal slot) ∷ at_line line Swap ∷ at_line line (operator_code operator) ∷ at_line line (StoreGlobal slot) ∷ [])
-      (expression_after names.model line c (at + 1) e) h.1 in
+      (expression_after context line c (at + 1) e) h.1 in
       begins line _ h.0 (λ stack s store st.
-      then_ _ _ (expression_runs call names env e line c (at + 1) built.1 cuts.0 t (bare stack) s store st) (λ v s1 store1 st1.
+      then_ _ _ (expression_runs call context env e line c (at + 1) built.1 cuts.0 t (bare stack) s store st) (λ v s1 store1 st1.
       change_runs operator line slot last v stack s1 store1 st1 cuts.1 (changed_last image.code operator line slot last cuts.1)))
-  statement_runs call names env (change line operator Own n e) c at out next built h t = absurd built.0
-  statement_runs {image = image} call names env (write line newline all) c at out next built h t =
+  statement_runs call context env (change line operator Own n e) c at out next built h t = absurd built.0
+  statement_runs {image = image} call context env (write line newline all) c at out next built h t =
       let last : ℕ = arguments_end (at + 1) all in
-      let cuts = cut image.code (at + 1) last (arguments_code names.model line c all) (at_line line (PushBool (from_bool newline)) ∷ at_line line Line ∷ []) (arguments_after names.model line c (at + 1) all) h.1 in
-      begins line _ h.0 (λ stack s store st. arguments_run call names env newline all line c (at + 1) [] stack s store st built cuts.0 cuts.1 t)
-  statement_runs call names env (perform line routine all) c at out next built h t = absurd built
-  statement_runs call names env (tell_hub line function all) c at out next built h t = absurd built
-  statement_runs call names env (if_ line all) c at out next built h t =
-      begins line _ h.0 (arms_run call names env all c (at + 1) out next built h.1 t)
-  statement_runs {image = image} {w = w} call names env (while_ line e body) c at out next built h t =
+      let cuts = cut image.code (at + 1) last (arguments_code context line c all) (at_line line (PushBool (from_bool newline)) ∷ at_line line Line ∷ []) (arguments_after context line c (at + 1) all) h.1 in
+      begins line _ h.0 (λ stack s store st. arguments_run call context env newline all line c (at + 1) [] stack s store st built cuts.0 cuts.1 t)
+  statement_runs call context env (perform line routine all) c at out next built h t = absurd built
+  statement_runs call context env (tell_hub line function all) c at out next built h t = absurd built
+  statement_runs call context env (if_ line all) c at out next built h t =
+      begins line _ h.0 (arms_run call context env all c (at + 1) out next built h.1 t)
+  statement_runs {image = image} {w = w} call context env (while_ line e body) c at out next built h t =
       let pass : ℕ = at + 1 + 5 in
       let test : ℕ = statement_end (pass + 1) body in
       let last : ℕ = expression_end test e in
       let l : ℕ = c + length (texts_in_statement body) in
-      let inner = statement_code names.model c (pass + 1) (last + 5) test body in
-      let cuts = cut image.code (pass + 1) test inner (expression_code names.model line l e ++ at_line line (JumpIf pass) ∷ []) (statement_after names.model c (pass + 1) (last + 5) test body) h.1.1.1 in
-      let ends = cut image.code test last (expression_code names.model line l e) (at_line line (JumpIf pass) ∷ []) (expression_after names.model line l test e) cuts.1 in
+      let inner = statement_code context c (pass + 1) (last + 5) test body in
+      let cuts = cut image.code (pass + 1) test inner (expression_code context line l e ++ at_line line (JumpIf pass) ∷ []) (statement_after context c (pass + 1) (last + 5) test body) h.1.1.1 in
+      let ends = cut image.code test last (expression_code context line l e) (at_line line (JumpIf pass) ∷ []) (expression_after context line l test e) cuts.1 in
       let texts = text_parts image.constants c (texts_in_statement body) (texts_in e) t in
       begins line _ h.0 (λ stack s store st.
       instruct (Jump test) h.1.0
-      (passes_run (value_of w call names e env) (effect_of w call names body env) (expression_runs call names env e line l test built.0 ends.0 texts.1) ends.1.0 h.1.1.0
-      (statement_runs call names env body c (pass + 1) (last + 5) test built.1 cuts.0 texts.0) (suc (w.budget - s.counts.ticks)) stack s store st))
-  statement_runs call names env (do_ all) c at out next built h t = block_runs call names env all c at out next built h t
-  statement_runs call names env (break_ line) c at out next built h t =
+      (passes_run (value_of w call context.names e env) (effect_of w call context.names body env) (expression_runs call context env e line l test built.0 ends.0 texts.1) ends.1.0 h.1.1.0
+      (statement_runs call context env body c (pass + 1) (last + 5) test built.1 cuts.0 texts.0) (suc (w.budget - s.counts.ticks)) stack s store st))
+  statement_runs call context env (do_ all) c at out next built h t = block_runs call context env all c at out next built h t
+  statement_runs call context env (break_ line) c at out next built h t =
       begins line _ h.0 (λ stack s store st. instruct (Jump out) h.1.0 (gave ByBreak s store st))
-  statement_runs call names env (next_ line) c at out next built h t =
+  statement_runs call context env (next_ line) c at out next built h t =
       begins line _ h.0 (λ stack s store st. instruct (Jump next) h.1.0 (gave ByNext s store st))
-  statement_runs call names env unbuilt_statement c at out next built h t = absurd built
+  statement_runs call context env unbuilt_statement c at out next built h t = absurd built
 
-  pub arms_run : {image : Image} {w : World} {k : Known} {here : Here} (call : Routine) (names : Names) (env : Env) (all : Arms) (c at out next : ℕ)
-      → AreBuiltArms all → HasAt image.code at (arms_code names.model c at (arms_end at all) out next all) → HasTexts image.constants c (texts_in_arms all)
-      → Runs image w k here at (arms_end at all) out next (effect_of_arms w call names all env)
-  arms_run call names env (else_ all) c at out next built h t = block_runs call names env all c at out next built h t
-  arms_run {image = image} call names env (elif line e all rest) c at out next built h t =
+  pub arms_run : {image : Image} {w : World} {k : Known} {here : Here} (call : Routine) (context : Context) (env : Env) (all : Arms) (c at out next : ℕ)
+      → AreBuiltArms all → HasAt image.code at (arms_code context c at (arms_end at all) out next all) → HasTexts image.constants c (texts_in_arms all)
+      → Runs image w k here at (arms_end at all) out next (effect_of_arms w call context.names all env)
+  arms_run call context env (else_ all) c at out next built h t = block_runs call context env all c at out next built h t
+  arms_run {image = image} call context env (elif line e all rest) c at out next built h t =
       let middle : ℕ = expression_end at e in
       let body : ℕ = middle + 5 in
       let jump : ℕ = block_end body all in
@@ -228,27 +229,27 @@ mutual
       let end : ℕ = arms_end other rest in
       let l : ℕ = c + length (texts_in e) in
       let m : ℕ = l + length (texts_in_block all) in
-      let later = at_line line (Jump end) ∷ arms_code names.model m other end out next rest in
-      let inner = block_code names.model l body out next all in
-      let cuts = cut image.code at middle (expression_code names.model line c e) (at_line line (JumpNot other) ∷ (inner ++ later)) (expression_after names.model line c at e) h in
-      let ends = cut image.code body jump inner later (block_after names.model l body out next all) cuts.1.1 in
+      let later = at_line line (Jump end) ∷ arms_code context m other end out next rest in
+      let inner = block_code context l body out next all in
+      let cuts = cut image.code at middle (expression_code context line c e) (at_line line (JumpNot other) ∷ (inner ++ later)) (expression_after context line c at e) h in
+      let ends = cut image.code body jump inner later (block_after context l body out next all) cuts.1.1 in
       let texts = text_parts image.constants c (texts_in e) (texts_in_block all ++ texts_in_arms rest) t in
       let others = text_parts image.constants l (texts_in_block all) (texts_in_arms rest) texts.1 in
       λ stack s store st.
-      then_ _ _ (marked line _ (expression_runs call names env e line c at built.0 cuts.0 texts.0 (bare stack) s store st)) (λ v s1 store1 st1.
+      then_ _ _ (marked line _ (expression_runs call context env e line c at built.0 cuts.0 texts.0 (bare stack) s store st)) (λ v s1 store1 st1.
       then_not v s1 store1 _ _ st1 cuts.1.0
-      (jump_runs _ ends.1.0 (block_runs call names env all l body out next built.1 ends.0 others.0) stack s1 store1 st1)
-      (arms_run call names env rest m other out next built.2 ends.1.1 others.1 stack s1 store1 st1))
+      (jump_runs _ ends.1.0 (block_runs call context env all l body out next built.1 ends.0 others.0) stack s1 store1 st1)
+      (arms_run call context env rest m other out next built.2 ends.1.1 others.1 stack s1 store1 st1))
 
-  pub block_runs : {image : Image} {w : World} {k : Known} {here : Here} (call : Routine) (names : Names) (env : Env) (all : Block) (c at out next : ℕ)
-      → IsBuiltBlock all → HasAt image.code at (block_code names.model c at out next all) → HasTexts image.constants c (texts_in_block all)
-      → Runs image w k here at (block_end at all) out next (effects_of w call names all env)
-  block_runs call names env no_statement c at out next built h t = λ stack s store st. gave Normal s store st
-  block_runs {image = image} call names env (statement_then e rest) c at out next built h t =
+  pub block_runs : {image : Image} {w : World} {k : Known} {here : Here} (call : Routine) (context : Context) (env : Env) (all : Block) (c at out next : ℕ)
+      → IsBuiltBlock all → HasAt image.code at (block_code context c at out next all) → HasTexts image.constants c (texts_in_block all)
+      → Runs image w k here at (block_end at all) out next (effects_of w call context.names all env)
+  block_runs call context env no_statement c at out next built h t = λ stack s store st. gave Normal s store st
+  block_runs {image = image} call context env (statement_then e rest) c at out next built h t =
       let l : ℕ = c + length (texts_in_statement e) in
       let middle : ℕ = statement_end at e in
-      let cuts = cut image.code at middle (statement_code names.model c at out next e) (block_code names.model l middle out next rest) (statement_after names.model c at out next e) h in
+      let cuts = cut image.code at middle (statement_code context c at out next e) (block_code context l middle out next rest) (statement_after context c at out next e) h in
       let texts = text_parts image.constants c (texts_in_statement e) (texts_in_block rest) t in
       λ stack s store st.
-      then_ _ _ (statement_runs call names env e c at out next built.0 cuts.0 texts.0 stack s store st) (λ flow s1 store1 st1.
-      then_rest flow stack s1 store1 _ st1 (block_runs call names env rest l middle out next built.1 cuts.1 texts.1 stack s1 store1 st1))
+      then_ _ _ (statement_runs call context env e c at out next built.0 cuts.0 texts.0 stack s store st) (λ flow s1 store1 st1.
+      then_rest flow stack s1 store1 _ st1 (block_runs call context env rest l middle out next built.1 cuts.1 texts.1 stack s1 store1 st1))

@@ -6,7 +6,9 @@ use Rattle.std.specs.Prelude.{if◌then◌else◌, option_map}
 use Rattle.std.proofs.lemmas.Bool.Decides.{nat_tests}
 use Rattle.std.proofs.lemmas.List.{length-set, set-append_left}
 use Rattle.mos_value.specs.Values.{Value, Place}
+use Rattle.run_state.specs.State.{model_frame}
 use Rattle.run_state.specs.Places.{load, load_in, put, put_in, put_slot, store_behind}
+use Rattle.bim_machine.specs.Laws.{IsPrefix}
 
 -- what is known of the part that runs: how many slots the meaning's newest frame has, the values that
 -- stand behind these for a while, how many slots there are behind those, and of the older frames how
@@ -40,6 +42,17 @@ Extends b a = (hs : List (List Value)) × (b ≡ joined a hs)
 
 pub extends : {k : Known} {a b : List (List Value)} → Stores k a b → Extends b a
 extends {k = k} st = ((k.kept ++ st.rest) ∷ k.olds, st.is)
+
+frame_joined : (a hs : List (List Value)) → IsPrefix (model_frame a) (model_frame (joined a hs))
+frame_joined [] hs = record { rest = []; is = refl }
+frame_joined (f ∷ []) hs = record { rest = newest hs; is = refl }
+frame_joined (f ∷ g ∷ fs) hs = frame_joined (g ∷ fs) (store_behind hs)
+
+-- the model's frame begins the machine's
+pub frame_extends : (a b : List (List Value)) → Extends b a → IsPrefix (model_frame a) (model_frame b)
+frame_extends a b e =
+    let p = frame_joined a e.0 in
+    record { rest = p.rest; is = ap model_frame e.1 ∙ p.is }
 
 length_joined : (a hs : List (List Value)) → length (joined a hs) ≡ length a
 length_joined [] hs = refl

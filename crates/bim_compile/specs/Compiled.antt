@@ -16,6 +16,7 @@ use Rattle.mos_value.specs.Answers as how
 use Rattle.mos_meaning.specs.Syntax.{Expression, number, text, truth, variable, apply, Shown, nothing_shown, shown_then, CoreStatement, assign, change, write, perform, tell_hub, if_, while_, do_, break_, next_, unbuilt_statement, Arms, else_, elif, Block, no_statement, statement_then}
 use Rattle.mos_meaning.specs.Sources.{variables_of}
 use Rattle.bim_compile.specs.declared.draft.Labelled.{Labelled}
+use Rattle.bim_compile.specs.Contexts.{Context, context_of}
 
 -- an instruction of the piece on this line
 abbrev pub at_line : ℕ → Instruction → Labelled
@@ -74,21 +75,21 @@ operator_code (how.compare comparison) = Compare (comparison_code comparison)
 
 -- the code of a form, where `k` constants stand before those of the form; it leaves the value of an
 -- expression on the stack
-abbrev pub expression_code : List Name → (line k : ℕ) → Expression → List Labelled
-expression_code names line k (number n) = at_line line (PushInt n) ∷ []
-expression_code names line k (text t) = at_line line (PushText k) ∷ []
-expression_code names line k (truth b) = at_line line (PushBool (from_bool b)) ∷ []
-expression_code names line k (variable scope n) = at_line line (LoadGlobal (place_of n names)) ∷ []
-expression_code names line k (apply operator a b) =
-    expression_code names line k a ++ (expression_code names line (k + length (texts_in a)) b ++ at_line line (operator_code operator) ∷ [])
-expression_code names line k _ = []
+abbrev pub expression_code : Context → (line k : ℕ) → Expression → List Labelled
+expression_code context line k (number n) = at_line line (PushInt n) ∷ []
+expression_code context line k (text t) = at_line line (PushText k) ∷ []
+expression_code context line k (truth b) = at_line line (PushBool (from_bool b)) ∷ []
+expression_code context line k (variable scope n) = at_line line (LoadGlobal (place_of n context.names.model)) ∷ []
+expression_code context line k (apply operator a b) =
+    expression_code context line k a ++ (expression_code context line (k + length (texts_in a)) b ++ at_line line (operator_code operator) ∷ [])
+expression_code context line k _ = []
 
 -- each argument is evaluated, printed and held
-abbrev pub arguments_code : List Name → (line k : ℕ) → Shown → List Labelled
-arguments_code names line k nothing_shown = []
-arguments_code names line k (shown_then e es) =
-    expression_code names line k e
-    ++ (at_line line Show ∷ at_line line Write ∷ arguments_code names line (k + length (texts_in e)) es)
+abbrev pub arguments_code : Context → (line k : ℕ) → Shown → List Labelled
+arguments_code context line k nothing_shown = []
+arguments_code context line k (shown_then e es) =
+    expression_code context line k e
+    ++ (at_line line Show ∷ at_line line Write ∷ arguments_code context line (k + length (texts_in e)) es)
 
 -- the address behind the code of a form that begins at `at`
 
@@ -135,46 +136,46 @@ abbrev mutual
 -- tests behind its body, and each pass begins with the tick to which the test jumps back.
 abbrev mutual
   -- of one statement
-  pub statement_code : List Name → ℕ → (at out next : ℕ) → CoreStatement → List Labelled
-  statement_code names k at out next (assign line scope n e) =
-      at_line line Tick ∷ (expression_code names line k e ++ at_line line (StoreGlobal (place_of n names)) ∷ [])
-  statement_code names k at out next (change line operator scope n e) =
+  pub statement_code : Context → ℕ → (at out next : ℕ) → CoreStatement → List Labelled
+  statement_code context k at out next (assign line scope n e) =
+      at_line line Tick ∷ (expression_code context line k e ++ at_line line (StoreGlobal (place_of n context.names.model)) ∷ [])
+  statement_code context k at out next (change line operator scope n e) =
       at_line line Tick
-      ∷ (expression_code names line k e
-      ++ at_line line (LoadGlobal (place_of n names)) ∷ at_line line Swap ∷ at_line line (operator_code operator) ∷ at_line line (StoreGlobal (place_of n names)) ∷ [])
-  statement_code names k at out next (write line newline all) =
-      at_line line Tick ∷ (arguments_code names line k all ++ at_line line (PushBool (from_bool newline)) ∷ at_line line Line ∷ [])
-  statement_code names k at out next (if_ line all) =
-      at_line line Tick ∷ arms_code names k (at + 1) (arms_end (at + 1) all) out next all
-  statement_code names k at out next (while_ line e body) =
+      ∷ (expression_code context line k e
+      ++ at_line line (LoadGlobal (place_of n context.names.model)) ∷ at_line line Swap ∷ at_line line (operator_code operator) ∷ at_line line (StoreGlobal (place_of n context.names.model)) ∷ [])
+  statement_code context k at out next (write line newline all) =
+      at_line line Tick ∷ (arguments_code context line k all ++ at_line line (PushBool (from_bool newline)) ∷ at_line line Line ∷ [])
+  statement_code context k at out next (if_ line all) =
+      at_line line Tick ∷ arms_code context k (at + 1) (arms_end (at + 1) all) out next all
+  statement_code context k at out next (while_ line e body) =
       let pass : ℕ = at + 1 + 5 in
       let test : ℕ = statement_end (pass + 1) body in
       at_line line Tick ∷ at_line line (Jump test) ∷ at_line line Tick
-      ∷ (statement_code names k (pass + 1) (expression_end test e + 5) test body
-      ++ (expression_code names line (k + length (texts_in_statement body)) e ++ at_line line (JumpIf pass) ∷ []))
-  statement_code names k at out next (do_ all) = block_code names k at out next all
-  statement_code names k at out next (break_ line) = at_line line Tick ∷ at_line line (Jump out) ∷ []
-  statement_code names k at out next (next_ line) = at_line line Tick ∷ at_line line (Jump next) ∷ []
-  statement_code names k at out next (perform line routine all) = []
-  statement_code names k at out next (tell_hub line function all) = []
-  statement_code names k at out next unbuilt_statement = []
+      ∷ (statement_code context k (pass + 1) (expression_end test e + 5) test body
+      ++ (expression_code context line (k + length (texts_in_statement body)) e ++ at_line line (JumpIf pass) ∷ []))
+  statement_code context k at out next (do_ all) = block_code context k at out next all
+  statement_code context k at out next (break_ line) = at_line line Tick ∷ at_line line (Jump out) ∷ []
+  statement_code context k at out next (next_ line) = at_line line Tick ∷ at_line line (Jump next) ∷ []
+  statement_code context k at out next (perform line routine all) = []
+  statement_code context k at out next (tell_hub line function all) = []
+  statement_code context k at out next unbuilt_statement = []
 
   -- `end` is the address behind the whole `if`
-  pub arms_code : List Name → ℕ → (at end out next : ℕ) → Arms → List Labelled
-  arms_code names k at end out next (else_ all) = block_code names k at out next all
-  arms_code names k at end out next (elif line e all rest) =
+  pub arms_code : Context → ℕ → (at end out next : ℕ) → Arms → List Labelled
+  arms_code context k at end out next (else_ all) = block_code context k at out next all
+  arms_code context k at end out next (elif line e all rest) =
       let body : ℕ = expression_end at e + 5 in
       let other : ℕ = block_end body all + 5 in
       let l : ℕ = k + length (texts_in e) in
-      expression_code names line k e
-      ++ at_line line (JumpNot other) ∷ (block_code names l body out next all
-      ++ at_line line (Jump end) ∷ arms_code names (l + length (texts_in_block all)) other end out next rest)
+      expression_code context line k e
+      ++ at_line line (JumpNot other) ∷ (block_code context l body out next all
+      ++ at_line line (Jump end) ∷ arms_code context (l + length (texts_in_block all)) other end out next rest)
 
   -- of the statements of a block
-  pub block_code : List Name → ℕ → (at out next : ℕ) → Block → List Labelled
-  block_code names k at out next no_statement = []
-  block_code names k at out next (statement_then e rest) =
-      statement_code names k at out next e ++ block_code names (k + length (texts_in_statement e)) (statement_end at e) out next rest
+  pub block_code : Context → ℕ → (at out next : ℕ) → Block → List Labelled
+  block_code context k at out next no_statement = []
+  block_code context k at out next (statement_then e rest) =
+      statement_code context k at out next e ++ block_code context (k + length (texts_in_statement e)) (statement_end at e) out next rest
 
 -- a variable is an integer; without variables no type is needed
 abbrev pub types_of : List Name → List ImageType
@@ -184,20 +185,24 @@ types_of (n ∷ names) = Integer ∷ []
 -- the end of the text ends the run with code 0
 abbrev pub labelled_of : Block → List Labelled
 labelled_of model =
-    block_code (variables_of model) 0 0 (block_end 0 model) (block_end 0 model) model ++ (at_line 0 (PushInt (pos 0)) ∷ at_line 0 End ∷ [])
+    block_code (context_of model) 0 0 (block_end 0 model) (block_end 0 model) model ++ (at_line 0 (PushInt (pos 0)) ∷ at_line 0 End ∷ [])
 
 -- instructions without their lines
 abbrev pub instructions : List Labelled → List Instruction
 instructions labelled = map (λ (l : Labelled). l.instruction) labelled
 
--- the whole image
-abbrev pub image_of : Block → Image
-image_of model = record {
-  constants = texts_in_block model;
-  types = types_of (variables_of model);
+-- an image of code over these variables and texts
+abbrev pub image_over : List Name → List (List ℕ) → List Labelled → Image
+image_over names texts labelled = record {
+  constants = texts;
+  types = types_of names;
   params = [];
-  globals = replicate (length (variables_of model)) 0;
+  globals = replicate (length names) 0;
   routines = [];
   points = [];
-  code = instructions (labelled_of model);
+  code = instructions labelled;
 }
+
+-- the whole image
+abbrev pub image_of : Block → Image
+image_of model = image_over (variables_of model) (texts_in_block model) (labelled_of model)

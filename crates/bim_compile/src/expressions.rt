@@ -6,9 +6,9 @@ ghost use Rattle.bim_compile.specs.Built.{IsBuilt};
 ghost use Rattle.bim_compile.specs.Compiled.{operator_code};
 ghost use Rattle.bim_compile.specs.Parts.{HasRoom, Emits, expression_part};
 
+use crate::context::Context;
 use crate::draft::Draft;
 use bim_code::{Comparison, Instruction};
-use mos_names::Names;
 use mos_text::NoMemory;
 use mos_tree::{BinaryOperator, Expr};
 use std::alloc::Global;
@@ -17,27 +17,24 @@ use std::alloc::Global;
 pub(crate) fn emit_expression(
     alloc: Global,
     draft: &mut Draft,
-    names: &Names<'_>,
+    context: &Context<'_>,
     line: u32,
     written: &Expr,
 ) -> Result<(), NoMemory>
     requires built { IsBuilt (expression written.now) }
-    requires room { HasRoom names.now
-        (expression_part names.now line (expression written.now)) draft.old }
-    ensures { OnOk result (Emits (expression_part names.now line (expression written.now))
+    requires room { HasRoom context.now
+        (expression_part context.now line (expression written.now)) draft.old }
+    ensures { OnOk result (Emits (expression_part context.now line (expression written.now))
         draft.old draft.new) }
 {
     match written {
         Expr::Integer(number) => draft.put(line, Instruction::PushInt(*number)),
         Expr::Truth(truth) => draft.put(line, Instruction::PushBool(*truth as u32)),
         Expr::Text(text) => draft.put_text(alloc, line, text.text()),
-        Expr::Name(name) => draft.put(
-            line,
-            Instruction::LoadGlobal(names.place(name.text()) as u32),
-        ),
+        Expr::Name(name) => draft.put(line, Instruction::LoadGlobal(context.slot(name.text()))),
         Expr::Binary(operator, left, right) => {
-            emit_expression(alloc, draft, names, line, left.get())?;
-            emit_expression(alloc, draft, names, line, right.get())?;
+            emit_expression(alloc, draft, context, line, left.get())?;
+            emit_expression(alloc, draft, context, line, right.get())?;
             match instruction_of(*operator) {
                 Some(instruction) => draft.put(line, instruction),
                 None => unreachable!(),

@@ -5,6 +5,7 @@
 #![tactic(auto)]
 
 mod compiler;
+mod context;
 mod draft;
 mod ends;
 mod examples;

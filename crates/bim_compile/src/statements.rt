@@ -7,11 +7,11 @@ ghost use Rattle.bim_compile.specs.Built.{IsBuilt, AreBuilt, IsBuiltStatement, A
 ghost use Rattle.bim_compile.specs.Compiled.{at_line};
 ghost use Rattle.bim_compile.specs.Parts.{HasRoom, Emits, test_part, arguments_part, statement_part, closed_part, arms_part, block_part};
 
+use crate::context::Context;
 use crate::draft::{Draft, JumpTargets};
 use crate::ends::{end_of_block, end_of_expression, end_of_statement};
 use crate::expressions::emit_expression;
 use bim_code::Instruction;
-use mos_names::Names;
 use mos_text::NoMemory;
 use mos_tree::{Assignment, Expr, Reference, Statement, Top};
 use std::alloc::Global;
@@ -20,18 +20,18 @@ use std::alloc::Global;
 pub(crate) fn emit_tops(
     alloc: Global,
     draft: &mut Draft,
-    names: &Names<'_>,
+    context: &Context<'_>,
     targets: JumpTargets,
     tops: &[Top],
 ) -> Result<(), NoMemory>
     requires built { IsBuiltBlock (block (map core_of_top tops.now)) }
-    requires room { HasRoom names.now
-        (block_part names.now targets (block (map core_of_top tops.now))) draft.old }
-    ensures { OnOk result (Emits (block_part names.now targets (block (map core_of_top tops.now)))
+    requires room { HasRoom context.now
+        (block_part context.now targets (block (map core_of_top tops.now))) draft.old }
+    ensures { OnOk result (Emits (block_part context.now targets (block (map core_of_top tops.now)))
         draft.old draft.new) }
 {
     for top in tops {
-        emit_top(alloc, draft, names, targets, top)?;
+        emit_top(alloc, draft, context, targets, top)?;
     }
     Ok(())
 }
@@ -39,18 +39,18 @@ pub(crate) fn emit_tops(
 fn emit_top(
     alloc: Global,
     draft: &mut Draft,
-    names: &Names<'_>,
+    context: &Context<'_>,
     targets: JumpTargets,
     top: &Top,
 ) -> Result<(), NoMemory>
     requires built { IsBuiltStatement (core_of_top top.now) }
-    requires room { HasRoom names.now (statement_part names.now targets (core_of_top top.now))
+    requires room { HasRoom context.now (statement_part context.now targets (core_of_top top.now))
         draft.old }
-    ensures { OnOk result (Emits (statement_part names.now targets (core_of_top top.now))
+    ensures { OnOk result (Emits (statement_part context.now targets (core_of_top top.now))
         draft.old draft.new) }
 {
     match top {
-        Top::Statement(statement) => emit_statement(alloc, draft, names, targets, statement),
+        Top::Statement(statement) => emit_statement(alloc, draft, context, targets, statement),
         _ => unreachable!(),
     }
 }
@@ -59,14 +59,14 @@ fn emit_top(
 fn emit_statement(
     alloc: Global,
     draft: &mut Draft,
-    names: &Names<'_>,
+    context: &Context<'_>,
     targets: JumpTargets,
     statement: &Statement,
 ) -> Result<(), NoMemory>
     requires built { IsBuiltStatement (core_of statement.now) }
-    requires room { HasRoom names.now
-        (statement_part names.now targets (core_of statement.now)) draft.old }
-    ensures { OnOk result (Emits (statement_part names.now targets (core_of statement.now))
+    requires room { HasRoom context.now
+        (statement_part context.now targets (core_of statement.now)) draft.old }
+    ensures { OnOk result (Emits (statement_part context.now targets (core_of statement.now))
         draft.old draft.new) }
 {
     match statement {
@@ -75,22 +75,22 @@ fn emit_statement(
             target,
             operator,
             value,
-        } => emit_assignment(alloc, draft, names, *line, target, *operator, value),
+        } => emit_assignment(alloc, draft, context, *line, target, *operator, value),
         Statement::Call {
             line,
             name,
             arguments,
         } => {
             let newline = name.as_str() == "writeln";
-            emit_write(alloc, draft, names, *line, newline, arguments.as_slice())
+            emit_write(alloc, draft, context, *line, newline, arguments.as_slice())
         }
         Statement::If { line, .. } => {
             let end = end_of_statement(draft.at, statement);
             draft.put(*line, Instruction::Tick)?;
-            emit_arms(alloc, draft, names, end, targets, statement)
+            emit_arms(alloc, draft, context, end, targets, statement)
         }
-        Statement::While { .. } => emit_loop(alloc, draft, names, targets, statement),
-        Statement::Do { body, .. } => emit_block(alloc, draft, names, targets, body.as_slice()),
+        Statement::While { .. } => emit_loop(alloc, draft, context, targets, statement),
+        Statement::Do { body, .. } => emit_block(alloc, draft, context, targets, body.as_slice()),
         Statement::Break { line } => {
             draft.put_all(
                 *line,
@@ -112,17 +112,17 @@ fn emit_statement(
 fn emit_arms(
     alloc: Global,
     draft: &mut Draft,
-    names: &Names<'_>,
+    context: &Context<'_>,
     end: u32,
     targets: JumpTargets,
     statement: &Statement,
 ) -> Result<(), NoMemory>
     requires choice { IsIf (core_of statement.now) }
     requires built { AreBuiltArms (arms_in (core_of statement.now)) }
-    requires room { HasRoom names.now
-        (arms_part names.now end targets (arms_in (core_of statement.now))) draft.old }
+    requires room { HasRoom context.now
+        (arms_part context.now end targets (arms_in (core_of statement.now))) draft.old }
     ensures { OnOk result (Emits
-        (arms_part names.now end targets (arms_in (core_of statement.now)))
+        (arms_part context.now end targets (arms_in (core_of statement.now)))
         draft.old draft.new) }
 {
     let Statement::If {
@@ -134,13 +134,13 @@ fn emit_arms(
         unreachable!()
     };
     for arm in arms.as_slice() {
-        emit_expression(alloc, draft, names, arm.line, &arm.condition)?;
+        emit_expression(alloc, draft, context, arm.line, &arm.condition)?;
         let other = end_of_block(draft.at + 5, arm.body.as_slice()) + 5;
         draft.put(arm.line, Instruction::JumpNot(other))?;
-        emit_block(alloc, draft, names, targets, arm.body.as_slice())?;
+        emit_block(alloc, draft, context, targets, arm.body.as_slice())?;
         draft.put(arm.line, Instruction::Jump(end))?;
     }
-    emit_block(alloc, draft, names, targets, otherwise.as_slice())
+    emit_block(alloc, draft, context, targets, otherwise.as_slice())
 }
 
 /// Adds the code of a `while`.
@@ -148,15 +148,15 @@ fn emit_arms(
 fn emit_loop(
     alloc: Global,
     draft: &mut Draft,
-    names: &Names<'_>,
+    context: &Context<'_>,
     targets: JumpTargets,
     statement: &Statement,
 ) -> Result<(), NoMemory>
     requires repeats { IsLoop (core_of statement.now) }
     requires built { IsBuiltStatement (core_of statement.now) }
-    requires room { HasRoom names.now (statement_part names.now targets (core_of statement.now))
+    requires room { HasRoom context.now (statement_part context.now targets (core_of statement.now))
         draft.old }
-    ensures { OnOk result (Emits (statement_part names.now targets (core_of statement.now))
+    ensures { OnOk result (Emits (statement_part context.now targets (core_of statement.now))
         draft.old draft.new) }
 {
     let Statement::While {
@@ -174,14 +174,14 @@ fn emit_loop(
     emit_statement(
         alloc,
         draft,
-        names,
+        context,
         JumpTargets {
             break_: out,
             next_: test,
         },
         body.get(),
     )?;
-    emit_test(alloc, draft, names, *line, condition, pass)?;
+    emit_test(alloc, draft, context, *line, condition, pass)?;
     Ok(())
 }
 
@@ -202,18 +202,18 @@ fn emit_loop_entry(draft: &mut Draft, line: u32, test: u32) -> Result<(), NoMemo
 fn emit_test(
     alloc: Global,
     draft: &mut Draft,
-    names: &Names<'_>,
+    context: &Context<'_>,
     line: u32,
     condition: &Expr,
     pass: u32,
 ) -> Result<(), NoMemory>
     requires built { IsBuilt (expression condition.now) }
-    requires room { HasRoom names.now
-        (test_part names.now line pass (expression condition.now)) draft.old }
-    ensures { OnOk result (Emits (test_part names.now line pass (expression condition.now))
+    requires room { HasRoom context.now
+        (test_part context.now line pass (expression condition.now)) draft.old }
+    ensures { OnOk result (Emits (test_part context.now line pass (expression condition.now))
         draft.old draft.new) }
 {
-    emit_expression(alloc, draft, names, line, condition)?;
+    emit_expression(alloc, draft, context, line, condition)?;
     draft.put(line, Instruction::JumpIf(pass))
 }
 
@@ -221,17 +221,18 @@ fn emit_test(
 fn emit_block(
     alloc: Global,
     draft: &mut Draft,
-    names: &Names<'_>,
+    context: &Context<'_>,
     targets: JumpTargets,
     all: &[Statement],
 ) -> Result<(), NoMemory>
     requires built { IsBuiltBlock (block_of all.now) }
-    requires room { HasRoom names.now (block_part names.now targets (block_of all.now)) draft.old }
-    ensures { OnOk result (Emits (block_part names.now targets (block_of all.now))
+    requires room { HasRoom context.now (block_part context.now targets (block_of all.now))
+        draft.old }
+    ensures { OnOk result (Emits (block_part context.now targets (block_of all.now))
         draft.old draft.new) }
 {
     for statement in all {
-        emit_statement(alloc, draft, names, targets, statement)?;
+        emit_statement(alloc, draft, context, targets, statement)?;
     }
     Ok(())
 }
@@ -240,20 +241,21 @@ fn emit_block(
 fn emit_write(
     alloc: Global,
     draft: &mut Draft,
-    names: &Names<'_>,
+    context: &Context<'_>,
     line: u32,
     newline: bool,
     all: &[Expr],
 ) -> Result<(), NoMemory>
     requires built { AreBuilt (shown_of (map expression all.now)) }
-    requires room { HasRoom names.now
-        (closed_part names.now (write line newline (shown_of (map expression all.now)))) draft.old }
+    requires room { HasRoom context.now
+        (closed_part context.now (write line newline (shown_of (map expression all.now))))
+        draft.old }
     ensures { OnOk result (Emits
-        (closed_part names.now (write line newline (shown_of (map expression all.now))))
+        (closed_part context.now (write line newline (shown_of (map expression all.now))))
         draft.old draft.new) }
 {
     draft.put(line, Instruction::Tick)?;
-    emit_arguments(alloc, draft, names, line, all)?;
+    emit_arguments(alloc, draft, context, line, all)?;
     draft.put(line, Instruction::PushBool(newline as u32))?;
     draft.put(line, Instruction::Line)
 }
@@ -261,18 +263,18 @@ fn emit_write(
 fn emit_arguments(
     alloc: Global,
     draft: &mut Draft,
-    names: &Names<'_>,
+    context: &Context<'_>,
     line: u32,
     all: &[Expr],
 ) -> Result<(), NoMemory>
     requires built { AreBuilt (shown_of (map expression all.now)) }
-    requires room { HasRoom names.now
-        (arguments_part names.now line (shown_of (map expression all.now))) draft.old }
+    requires room { HasRoom context.now
+        (arguments_part context.now line (shown_of (map expression all.now))) draft.old }
     ensures { OnOk result (Emits
-        (arguments_part names.now line (shown_of (map expression all.now))) draft.old draft.new) }
+        (arguments_part context.now line (shown_of (map expression all.now))) draft.old draft.new) }
 {
     for written in all {
-        emit_expression(alloc, draft, names, line, written)?;
+        emit_expression(alloc, draft, context, line, written)?;
         draft.put(line, Instruction::Show)?;
         draft.put(line, Instruction::Write)?;
     }
@@ -283,24 +285,24 @@ fn emit_arguments(
 fn emit_assignment(
     alloc: Global,
     draft: &mut Draft,
-    names: &Names<'_>,
+    context: &Context<'_>,
     line: u32,
     target: &Reference,
     operator: Assignment,
     value: &Expr,
 ) -> Result<(), NoMemory>
     requires built { IsBuiltStatement (assignment line target.now operator (expression value.now)) }
-    requires room { HasRoom names.now (closed_part names.now
+    requires room { HasRoom context.now (closed_part context.now
         (assignment line target.now operator (expression value.now))) draft.old }
-    ensures { OnOk result (Emits (closed_part names.now
+    ensures { OnOk result (Emits (closed_part context.now
         (assignment line target.now operator (expression value.now))) draft.old draft.new) }
 {
     let Reference::Name(name) = target else {
         unreachable!()
     };
-    let slot = names.place(name.text()) as u32;
+    let slot = context.slot(name.text());
     draft.put(line, Instruction::Tick)?;
-    emit_expression(alloc, draft, names, line, value)?;
+    emit_expression(alloc, draft, context, line, value)?;
     match operator {
         Assignment::Set => {}
         Assignment::Add => emit_change(draft, line, slot, Instruction::Add)?,

@@ -8,8 +8,8 @@ use Rattle.bim_code.specs.Rows.{width, named_address}
 use Rattle.bim_code.specs.Code.{instruction_at}
 use Rattle.mos_value.specs.Values.{Value}
 use Rattle.run_state.specs.Stops.{Stuck, Outcome, Course}
-use Rattle.run_state.specs.State.{World, State, beginning, outcome_of}
-use Rattle.run_state.specs.Parameters.{refused_outcome}
+use Rattle.run_state.specs.State.{World, State, beginning, outcome_of, final_outcome, globals_at}
+use Rattle.run_state.specs.Parameters.{refused_run}
 use Rattle.bim_machine.specs.Starts.{Beginning, Refused, Broken, Begins, beginning_of}
 use Rattle.bim_machine.specs.Machine.{Work, Here, Machine, At, Halted, Site, idle, settle}
 use Rattle.bim_machine.specs.Instructions.{act}
@@ -66,7 +66,7 @@ course_at p = record { outcome = outcome_at p.machine; steps = p.steps }
 
 -- the course from a beginning
 abbrev pub course_from : Image → World → Beginning → Course
-course_from image w Refused = record { outcome = refused_outcome; steps = 0 }
+course_from image w Refused = record { outcome = final_outcome refused_run; steps = 0 }
 course_from image w Broken = record { outcome = outcome_of Stuck (beginning []); steps = 0 }
 course_from image w (Begins values) = course_at (run image w (most_steps image w.budget) 0 (start values))
 
@@ -74,3 +74,21 @@ course_from image w (Begins values) = course_at (run image w (most_steps image w
 -- ticks: these are over by then, and the course of another image may be cut there
 abbrev pub course_of : Image → List ℕ → List Reply → ℕ → Course
 course_of image text replies budget = course_from image (record { replies = replies; budget = budget }) (beginning_of image text)
+
+-- Globals.
+
+-- the values of the globals of a machine that is out of ticks, in the order of their slots; behind another end
+-- there are none
+abbrev pub machine_globals : Machine → List Value
+machine_globals (Halted stop address s) = globals_at stop s
+machine_globals (At address work here s) = []
+
+-- of the course from a beginning
+abbrev pub globals_from : Image → World → Beginning → List Value
+globals_from image w Refused = []
+globals_from image w Broken = []
+globals_from image w (Begins values) = machine_globals (run image w (most_steps image w.budget) 0 (start values)).machine
+
+-- of the course of an image
+abbrev pub globals_of : Image → List ℕ → List Reply → ℕ → List Value
+globals_of image text replies budget = globals_from image (record { replies = replies; budget = budget }) (beginning_of image text)

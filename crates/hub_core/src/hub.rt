@@ -43,6 +43,7 @@ impl Hub {
     ghost use Rattle.job_laws.specs.Laws.{KeepsLaws};
     ghost use Rattle.hub_core.specs.Hubs.{journal_of, spare_of, opened_with, first_journal, with_entry};
     ghost use Rattle.hub_core.specs.Hubs.{MayMake, IsAnswered, FitsRun, StopsRun, IsHeldBack, LacksMemory};
+    ghost use Rattle.hub_core.specs.Serving.{Serves};
 
     /// A hub whose journal is the `Open` alone.
     pub fn new(
@@ -150,15 +151,8 @@ impl Hub {
     /// Answers the call, and puts it with its reply at the end of the journal.
     fn serve(&mut self, lane: u32, run: Option<u32>, call: Call) -> Result<Acted, Held>
         requires { MayMake (journal_of self.old) lane run call }
-        ensures answered { IfOk result (λ acted. IsAnswered (journal_of self.old) lane run call acted.reply) }
-        ensures put { IfOk result (λ acted. journal_of self.new ≡ with_entry (journal_of self.old) lane run call acted.reply) }
-        ensures place { IfOk result (λ acted. acted.place.0 ≡ length (journal_of self.old)) }
-        ensures held { IfErr result (λ held. IsHeldBack (journal_of self.old) lane run call held) }
+        ensures serves { Serves self.old self.new lane run call result }
         ensures room { IfErr result (λ held. LacksMemory (spare_of self.old) call held) }
-        ensures stays { OnErr result (journal_of self.new ≡ journal_of self.old) }
-        ensures legal { IsLegal (journal_of self.new) }
-        ensures spare { spare_of self.old ≤ spare_of self.new + 1 }
-        ensures kept { OnErr result (spare_of self.old ≤ spare_of self.new) }
     {
         laws::few_entries();
         laws::few_files();
@@ -174,15 +168,8 @@ impl Hub {
     fn put(&mut self, lane: u32, run: Option<u32>, call: Call, reply: Reply) -> Result<Acted, Held>
         requires fit { MayMake (journal_of self.old) lane run call }
         requires answer { IsAnswered (journal_of self.old) lane run call reply }
-        ensures answered { IfOk result (λ acted. IsAnswered (journal_of self.old) lane run call acted.reply) }
-        ensures put { IfOk result (λ acted. journal_of self.new ≡ with_entry (journal_of self.old) lane run call acted.reply) }
-        ensures place { IfOk result (λ acted. acted.place.0 ≡ length (journal_of self.old)) }
-        ensures held { IfErr result (λ held. IsHeldBack (journal_of self.old) lane run call held) }
+        ensures serves { Serves self.old self.new lane run call result }
         ensures room { 1 ≤ spare_of self.old → IsTrue (is_plain reply) → IsOk result }
-        ensures stays { OnErr result (journal_of self.new ≡ journal_of self.old) }
-        ensures legal { IsLegal (journal_of self.new) }
-        ensures spare { spare_of self.old ≤ spare_of self.new + 1 }
-        ensures kept { OnErr result (spare_of self.old ≤ spare_of self.new) }
     {
         laws::few_entries();
         laws::grows();

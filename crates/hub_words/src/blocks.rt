@@ -36,7 +36,7 @@ fn bytes_written(call: &Call) -> Option<&SharedBlob>
 }
 
 /// What the entry at this place wrote.
-fn written_at(place: usize, journal: &[Entry]) -> Option<(u32, &SharedBlob)>
+pub fn written_at(place: usize, journal: &[Entry]) -> Option<(u32, &SharedBlob)>
     requires { place < 2 ^ 31 }
     ensures { MatchOption result (blocks.written_at place journal.now ≡ None)
         (λ w. IsWritten (blocks.written_at place journal.now) w.0 w.1.now) }

@@ -135,7 +135,7 @@ fn event_of(place: u32, call: &Call) -> Option<Event>
 }
 
 /// The event at this place.
-fn event_at(place: u32, journal: &[Entry]) -> Option<Event>
+pub fn event_at(place: u32, journal: &[Entry]) -> Option<Event>
     ensures { option_map event_value result ≡ events.event_at place journal.now }
 {
     match journal.get(place as usize) {

@@ -85,7 +85,7 @@ fn place_in(name: &Text, files: &[Listed]) -> Option<usize>
 }
 
 /// The place of the listed file of this name.
-pub(crate) fn file_at(name: &Text, journal: &[Entry]) -> Option<u32>
+pub fn file_at(name: &Text, journal: &[Entry]) -> Option<u32>
     requires { length (listing.files_of journal.now) < 2 ^ 31 }
     ensures { result ≡ listing.file_at name.now journal.now }
 {

@@ -17,5 +17,10 @@ mod runs;
 mod scanning;
 mod weights;
 
-pub use events::{Event, exit_code};
+pub use blocks::written_at;
+pub use events::{Event, event_at, exit_code};
+pub use files::file_at;
 pub use lookups::Lookups;
+pub use models::compiled_to;
+pub use runs::{params_opened, params_started};
+pub use weights::{FULL_WEIGHT, is_full_with, less_call};

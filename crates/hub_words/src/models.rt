@@ -15,7 +15,7 @@ use job_calls::{Call, End, Entry, Reply};
 use mos_text::Text;
 
 /// The source that the call compiled to the file, if its image was made.
-fn compiled_to<'a>(file: &Text, call: &'a Call, reply: &Reply) -> Option<&'a Text>
+pub fn compiled_to<'a>(file: &Text, call: &'a Call, reply: &Reply) -> Option<&'a Text>
     ensures { option_copied result ≡ models.compiled_to file.now call.now reply.now }
 {
     match (call, reply) {

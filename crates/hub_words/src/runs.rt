@@ -33,19 +33,19 @@ fn source_of_model(model_number: u32, journal: &[Entry]) -> Option<u32>
     last_given(journal, |e| loaded_source(model_number, &e.reply))
 }
 
-/// The source that this entry starts this run of.
-fn source_started(run_number: u32, before: &[Entry], entry: &Entry) -> Option<u32>
+/// Where this entry starts this run: the source of its model, if that was loaded before.
+fn source_started(run_number: u32, before: &[Entry], entry: &Entry) -> Option<Option<u32>>
     ensures { result ≡ runs.source_started run_number
         (record { before = before.now; entry = entry.now }) }
 {
     match model_started(run_number, entry) {
         None => None,
-        Some(model) => source_of_model(model, before),
+        Some(model) => Some(source_of_model(model, before)),
     }
 }
 
-/// The source that this run was last started of.
-fn source_of_start(run_number: u32, journal: &[Entry]) -> Option<u32>
+/// What the last start of this run says of its source, if there is a start.
+fn source_of_start(run_number: u32, journal: &[Entry]) -> Option<Option<u32>>
     ensures { result ≡ runs.last_given (runs.source_started run_number) (moments journal.now) }
 {
     let mut found = None;
@@ -60,13 +60,13 @@ pub(crate) fn source_of(run_number: u32, journal: &[Entry]) -> Option<u32>
     ensures { result ≡ runs.source_of run_number journal.now }
 {
     if run_number > 0 {
-        return source_of_start(run_number, journal);
+        return source_of_start(run_number, journal).unwrap_or(None);
     }
     Some(0)
 }
 
 /// The parameter text that this entry starts this run with.
-fn params_started(run_number: u32, entry: &Entry) -> Option<&Text>
+pub fn params_started(run_number: u32, entry: &Entry) -> Option<&Text>
     ensures { option_copied result ≡ option_map
         (λ start. start.params) (runs.start_of_run run_number entry.now) }
 {
@@ -76,7 +76,8 @@ fn params_started(run_number: u32, entry: &Entry) -> Option<&Text>
     }
 }
 
-fn params_opened(call: &Call) -> Option<&Text>
+/// The parameter text that the job is opened with.
+pub fn params_opened(call: &Call) -> Option<&Text>
     ensures { option_copied result ≡ option_map (λ o. o.params) (runs.opening_of call.now) }
 {
     match call {

@@ -1,5 +1,6 @@
 //! Whether a journal is full.
-ghost use Rattle.std.specs.Prelude.{◌≡◌, ℕ, ◌-◌, ◌+◌, length};
+ghost use Rattle.std.specs.Prelude.{◌≡◌, ℕ, ◌-◌, ◌+◌, List, length};
+ghost use Rattle.job_calls.specs.declared.entry.Entry.{Entry};
 ghost use Rattle.job_calls.specs.Weights as weights;
 ghost use Rattle.job_calls.specs.Answers as answers;
 
@@ -7,7 +8,8 @@ use job_calls::{Call, Entry};
 
 const ENTRIES: usize = 1_000_000;
 
-const WEIGHT: usize = 268_435_456;
+/// One byte more than the calls of a journal may weigh.
+pub const FULL_WEIGHT: usize = 268_435_457;
 
 /// What is left of the room for some bytes.
 fn less(room: usize, bytes: &[u8]) -> usize
@@ -17,7 +19,7 @@ fn less(room: usize, bytes: &[u8]) -> usize
 }
 
 /// What is left of the room for the bytes of calls.
-fn less_call(room: usize, call: &Call) -> usize
+pub fn less_call(room: usize, call: &Call) -> usize
     ensures { result ≡ room - weights.call_weight call.now }
 {
     match call {
@@ -55,9 +57,17 @@ fn less_calls(room: usize, journal: &[Entry]) -> usize
         .fold(room, |left, e| less_call(left, &e.call))
 }
 
+/// The same of a journal with so many entries, which may weigh so much more, less one byte.
+pub fn is_full_with(count: usize, left: usize, call: &Call) -> bool
+    ensures { (journal : List Entry) → count ≡ length journal
+        → left ≡ 268435457 - weights.weight journal → result ≡ answers.is_full journal call.now }
+{
+    count >= ENTRIES || less_call(left, call) == 0
+}
+
 /// The journal takes no further call of a run, or none of this weight.
 pub(crate) fn is_full(journal: &[Entry], call: &Call) -> bool
     ensures { result ≡ answers.is_full journal.now call.now }
 {
-    journal.len() >= ENTRIES || less_call(less_calls(WEIGHT + 1, journal), call) == 0
+    is_full_with(journal.len(), less_calls(FULL_WEIGHT, journal), call)
 }

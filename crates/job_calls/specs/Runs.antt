@@ -1,7 +1,7 @@
 -- The runs of a journal: where each comes from, what it called, what it was answered, how it ended.
 -- A journal that is not legal may say a thing of a run more than once: then the last counts.
 
-use Rattle.std.specs.Prelude.{ℕ, zero, suc, ◌&&◌, not, List, [], ◌∷◌, Option, Some, None, nat_eq, filter, map, if◌then◌else◌, option_map, option_and_then}
+use Rattle.std.specs.Prelude.{ℕ, zero, suc, ◌&&◌, not, List, [], ◌∷◌, Option, Some, None, nat_eq, filter, map, if◌then◌else◌, option_map, option_and_then, unwrap_or}
 use Rattle.job_calls.specs.declared.call.Call.{Call}
 use Rattle.job_calls.specs.declared.call.Call.TheVariants.{Open, Finish, Run}
 use Rattle.job_calls.specs.declared.end.End.{End}
@@ -70,15 +70,15 @@ loaded_source m _ = None
 abbrev pub source_of_model : ℕ → List Entry → Option ℕ
 source_of_model model journal = last_given (λ e. loaded_source model e.reply) journal
 
--- the source of the model that this entry starts as run k: as it is loaded by the entries before
-abbrev pub source_started : ℕ → Moment → Option ℕ
-source_started k m =
-    option_and_then (λ start. source_of_model start.model m.before) (start_of_run k m.entry)
+-- where this entry starts run k: the source of its model, if the entries before loaded that
+abbrev pub source_started : ℕ → Moment → Option (Option ℕ)
+source_started k m = option_map (λ start. source_of_model start.model m.before) (start_of_run k m.entry)
 
--- the place, in the list of files, of the source of run k
+-- the place, in the list of files, of the source of run k; a run whose last start is of a model that was not
+-- loaded has none
 abbrev pub source_of : ℕ → List Entry → Option ℕ
 source_of zero journal = Some 0
-source_of (suc k) journal = last_given (source_started (suc k)) (moments journal)
+source_of (suc k) journal = unwrap_or (last_given (source_started (suc k)) (moments journal)) None
 
 -- the parameter text of run k
 abbrev pub params_of : ℕ → List Entry → Option (List ℕ)

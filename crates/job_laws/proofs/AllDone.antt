@@ -48,7 +48,7 @@ record IsDoneNow (log : List Entry) (lane : ℕ) (call : Call) (reply : Reply) :
 done_now : (log : List Entry) (lane : ℕ) (run : Option ℕ) (call : Call) (reply : Reply) → Entering log lane run call reply → is_done reply ≡ true
     → IsDoneNow log lane call reply
 done_now log lane _ _ _ (enter.claims k source params none q s p) d = absurd (false_true d)
-done_now log lane _ _ _ (enter.told_done not_done none q is) d = record { none = q; ended = is; free = none; starts = refl }
+done_now log lane _ _ _ (enter.done_entry not_done none q is) d = record { none = q; ended = is; free = none; starts = refl }
 done_now log lane _ _ _ enter.quits d = absurd (false_true d)
 done_now log lane _ _ _ (enter.finishes run end held) d = absurd (false_true d)
 done_now log lane _ _ _ (enter.acts run call reply held fresh fit for_run no_finish answered) d =
@@ -78,7 +78,7 @@ holds_on : (log : List Entry) (lane : ℕ) (run : Option ℕ) (call : Call) (rep
     → held_run (own_entries lane log) ≡ Some k
     → ((is_run k run && is_finish call) ≡ true) ⊎ (held_after (held_run (own_entries lane log)) call reply ≡ Some k)
 holds_on log lane _ _ _ (enter.claims r source params none q s p) k held = none_some k (sym none ∙ held)
-holds_on log lane _ _ _ (enter.told_done not_done none q is) k held = none_some k (sym none ∙ held)
+holds_on log lane _ _ _ (enter.done_entry not_done none q is) k held = none_some k (sym none ∙ held)
 holds_on log lane _ _ _ enter.quits k held = inr held
 holds_on log lane _ _ _ (enter.finishes run end is) k held =
     inl (ap (λ b. b && true) (eq-eqb run k (some_is run k (sym is ∙ held))))
@@ -88,7 +88,7 @@ holds_on log lane _ _ _ (enter.acts run call reply is fresh fit for_run no_finis
 given_holds : (log : List Entry) (lane : ℕ) (run : Option ℕ) (call : Call) (reply : Reply) → Entering log lane run call reply → (k : ℕ)
     → claims k reply ≡ true → held_after (held_run (own_entries lane log)) call reply ≡ Some k
 given_holds log lane _ _ _ (enter.claims r source params none q s p) k c = ap Some (eqb-true r k c)
-given_holds log lane _ _ _ (enter.told_done not_done none q is) k c = absurd (false_true c)
+given_holds log lane _ _ _ (enter.done_entry not_done none q is) k c = absurd (false_true c)
 given_holds log lane _ _ _ enter.quits k c = absurd (false_true c)
 given_holds log lane _ _ _ (enter.finishes run end is) k c = absurd (false_true c)
 given_holds log lane _ _ _ (enter.acts run call reply is fresh fit for_run no_finish answered) k c =
@@ -139,7 +139,7 @@ none_left log from (suc many) e k le less = by (is_claimed from log) refl e (λ 
 no_more : (log : List Entry) (lane : ℕ) (run : Option ℕ) (call : Call) (reply : Reply) → Entering log lane run call reply → is_finished 0 log ≡ true
     → is_started reply ≡ false
 no_more log lane _ _ _ (enter.claims k source params none q s p) ended = refl
-no_more log lane _ _ _ (enter.told_done not_done none q is) ended = refl
+no_more log lane _ _ _ (enter.done_entry not_done none q is) ended = refl
 no_more log lane _ _ _ enter.quits ended = refl
 no_more log lane _ _ _ (enter.finishes run end held) ended = refl
 no_more log lane _ _ _ (enter.acts run call reply held fresh fit for_run no_finish answered) ended =

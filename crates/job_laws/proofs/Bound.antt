@@ -19,6 +19,7 @@ use Rattle.job_calls.specs.Files.{files_of, lanes_of}
 use Rattle.job_calls.specs.Answers.{stop_rows, table_answer, is_full}
 use Rattle.job_calls.specs.Fitting.{held_after, held_run, exchange_of, is_over, is_for_lane, below_lanes}
 use Rattle.job_calls.specs.Legal.{IsLegal, IsOpening, OpensSo, Follows}
+use Rattle.job_laws.specs.Growth.{is_given, GivenInOrder}
 use Rattle.job_laws.proofs.Growing.{legal_induct}
 use Rattle.job_laws.proofs.Lists.{none_some}
 use Rattle.job_laws.proofs.Outcomes as outcome
@@ -26,11 +27,6 @@ use Rattle.job_laws.proofs.Outcomes.{Outcome, run_outcome, is_idle, false_true}
 use Rattle.job_laws.proofs.Entering as enter
 use Rattle.job_laws.proofs.Entering.{Entering, entering, no_quit, is_below, and_true}
 use Rattle.job_laws.proofs.Counts.{as_number, count-snoc, any-snoc, AtMostOnce, once_more, once_same, total_le, total_same, AllBelow, AllBelow-snoc, count_parts, own-snoc-same, own-snoc-other, exchange-snoc, exchange-same, is_run-by, count_either}
-
--- a lane was given a run
-abbrev pub is_given : Reply → Bool
-is_given (Claimed run source params) = true
-is_given _ = false
 
 -- what the table answers gives no run, and is not the end of the job
 idle_plain : (reply : Reply) → is_idle reply ≡ true → (is_given reply ≡ false) × (is_done reply ≡ false) × (is_started reply ≡ false)
@@ -156,7 +152,7 @@ lane_step log lane _ _ _ c (enter.claims k source params none q s p) =
       lasts = omega (arith, g, l, small, lasts_);
       dones = once_same (λ (x : Entry). is_done x.reply) own e refl c.dones;
     }
-lane_step log lane _ _ _ c (enter.told_done not_done none q is) =
+lane_step log lane _ _ _ c (enter.done_entry not_done none q is) =
     let own = own_entries lane log in
     let e : Entry = record { lane = lane; run = None; call = Claim; reply = Done } in
     let f : fins (own ++ e ∷ []) ≡ fins own + 0 = fins-snoc own e in
@@ -345,7 +341,7 @@ run_step log lane _ _ _ c (enter.claims k source params none q s p) =
       few_given = omega (arith, g, r, less);
       few_runs = omega (arith, r, runs);
     }
-run_step log lane _ _ _ c (enter.told_done not_done none q is) = run_same log _ c refl (inl refl)
+run_step log lane _ _ _ c (enter.done_entry not_done none q is) = run_same log _ c refl (inl refl)
 run_step log lane _ _ _ c enter.quits = run_same log _ c refl (inl refl)
 run_step log lane _ _ _ c (enter.finishes run end held) = run_same log _ c refl (inl refl)
 run_step log lane _ _ _ c (enter.acts run call reply held fresh ends_fit_ for_run no_finish answered) =
@@ -358,6 +354,10 @@ pub run_counts : (journal : List Entry) → IsLegal journal → RunCounts journa
 run_counts = legal_induct RunCounts
     (λ e o. run_same [] e run_none (ap is_given o.reply) (inl (ap is_started o.reply)))
     (λ log e p f. run_step log e.lane e.run e.call e.reply p (entering log e f))
+
+-- lanes are given the runs in order
+pub given_in_order : GivenInOrder
+given_in_order journal legal = let counts = run_counts journal legal in (counts.first_given, counts.few_given)
 
 -- all lanes are below the number that the job was opened with, at most 64
 pub record LanesBelow (log : List Entry) : Type 0 where
@@ -430,7 +430,7 @@ full_by log call many e = false_true (sym (both (nat_lt 999999 (length log)) _ (
 late_mark : (log : List Entry) (lane : ℕ) (run : Option ℕ) (call : Call) (reply : Reply) → 1000000 ≤ length log
     → Entering log lane run call reply → is_mark call reply ≡ true
 late_mark log lane _ _ _ many (enter.claims k source params none q s p) = refl
-late_mark log lane _ _ _ many (enter.told_done not_done none q is) = refl
+late_mark log lane _ _ _ many (enter.done_entry not_done none q is) = refl
 late_mark log lane _ _ _ many enter.quits = refl
 late_mark log lane _ _ _ many (enter.finishes run end held) = refl
 late_mark log lane _ _ _ many (enter.acts run call reply held fresh ends_fit_ for_run no_finish answered) =

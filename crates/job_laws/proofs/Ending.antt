@@ -31,7 +31,7 @@ use Rattle.job_laws.proofs.Entering.{Entering, entering, and_true, or_false, is_
 use Rattle.job_laws.proofs.Piping.{Piped, piped, part_of, session-snoc}
 use Rattle.job_laws.proofs.Truth.{says_true}
 use Rattle.job_laws.proofs.Lanes.{not_so, was_held, one_lane_a_run}
-use Rattle.job_laws.proofs.Holding.{holder-snoc, was_free, holds_told}
+use Rattle.job_laws.proofs.Holding.{holder-snoc, was_free, holds_by_calls}
 
 -- a session goes on until the pipe is opened to read again
 session_stays : (name : List ℕ) (log : List Entry) (place : ℕ) (es : List Entry) → session name log ≡ Some place
@@ -94,7 +94,7 @@ end_outcome name log run _ _ (outcome.ended other a b) h = subst (λ n. is_ended
 end_entering : (name : List ℕ) (log : List Entry) (lane : ℕ) (run : Option ℕ) (call : Call) (reply : Reply) → Entering log lane run call reply
     → is_pipe_end name call reply ≡ true → is_ended name log ≡ true
 end_entering name log lane _ _ _ (enter.claims k source params none q s p) h = absurd (false_true h)
-end_entering name log lane _ _ _ (enter.told_done not_done none q is) h = absurd (false_true h)
+end_entering name log lane _ _ _ (enter.done_entry not_done none q is) h = absurd (false_true h)
 end_entering name log lane _ _ _ enter.quits h = absurd (false_true h)
 end_entering name log lane _ _ _ (enter.finishes run end held) h = absurd (false_true h)
 end_entering name log lane _ _ _ (enter.acts run call reply held fresh fit for_run no_finish answered) h =
@@ -164,12 +164,12 @@ are_held : (log : List Entry) (lane run : ℕ) → IsLegal log → held_run (own
     → AreHeld log run (exchange_of run (own_entries lane log))
 are_held log lane run h held other q =
     let same = (one_lane_a_run log h run lane (was_held lane log h run held)).exchange in
-    holds_told Writes other run log h (ap (holds Writes other) (sym same) ∙ q)
+    holds_by_calls Writes other run log h (ap (holds Writes other) (sym same) ∙ q)
 
 puts_entering : (name : List ℕ) (log : List Entry) (lane : ℕ) (run : Option ℕ) (call : Call) (reply : Reply) → IsLegal log → Entering log lane run call reply
     → holder Writes name log ≡ None → put_by name call reply ≡ []
 puts_entering name log lane _ _ _ h (enter.claims k source params free q s p) none = refl
-puts_entering name log lane _ _ _ h (enter.told_done not_done free q is) none = refl
+puts_entering name log lane _ _ _ h (enter.done_entry not_done free q is) none = refl
 puts_entering name log lane _ _ _ h enter.quits none = refl
 puts_entering name log lane _ _ _ h (enter.finishes run end held) none = refl
 puts_entering name log lane _ _ _ h (enter.acts run call reply held fresh fit for_run no_finish answered) none =
@@ -215,35 +215,35 @@ no_more xs ys zs us e none =
     empty (w ∷ ws) q = absurd (omega (arith, q))
 
 -- a session that is cut where the end was told: nothing more is put
-data Told (name : List ℕ) (part : List Entry) : Type 0 where
-  told : (first last : List Entry) → part ≡ first ++ last → put_in name first ≡ taken_in name first → put_in name last ≡ [] → Told name part
+data IsTakenWhole (name : List ℕ) (part : List Entry) : Type 0 where
+  taken_whole : (first last : List Entry) → part ≡ first ++ last → put_in name first ≡ taken_in name first → put_in name last ≡ [] → IsTakenWhole name part
 
-told_at : (name : List ℕ) (before : List Entry) (o : Entry) (first : List Entry) (t : Entry) (last : List Entry) → opens Reads name o ≡ true
+taken_whole_at : (name : List ℕ) (before : List Entry) (o : Entry) (first : List Entry) (t : Entry) (last : List Entry) → opens Reads name o ≡ true
     → IsLegal ((before ++ o ∷ first) ++ t ∷ last) → list_any (opens Reads name) (first ++ t ∷ last) ≡ false
-    → is_pipe_end name t.call t.reply ≡ true → Told name (first ++ t ∷ last)
-told_at name before o first t last begins h goes_on is =
+    → is_pipe_end name t.call t.reply ≡ true → IsTakenWhole name (first ++ t ∷ last)
+taken_whole_at name before o first t last begins h goes_on is =
     let log = before ++ o ∷ first in
     let parts = legal_split before o first (t ∷ last) h in
     let f = parts.1.0 in
     let over = is_over name log t f is in
     let both = or_false (list_any (opens Reads name) first) (opens Reads name t || list_any (opens Reads name) last)
     (sym (list_any-append (opens Reads name) first (t ∷ last)) ∙ goes_on) in
-    told first (t ∷ last) refl
+    taken_whole first (t ∷ last) refl
     (subst (λ p. put_in name p ≡ taken_in name p) (session_is name before o first begins both.0) (end_says name log t parts.0 f is))
     (puts_none name log (t ∷ last) parts.0 over parts.1 both.1)
 
-told_in : (name : List ℕ) (before : List Entry) (o : Entry) (part : List Entry) → opens Reads name o ≡ true → IsLegal (before ++ o ∷ part)
-    → list_any (opens Reads name) part ≡ false → list_any (λ (e : Entry). is_pipe_end name e.call e.reply) part ≡ true → Told name part
-told_in name before o part begins h goes_on any =
+taken_whole_in : (name : List ℕ) (before : List Entry) (o : Entry) (part : List Entry) → opens Reads name o ≡ true → IsLegal (before ++ o ∷ part)
+    → list_any (opens Reads name) part ≡ false → list_any (λ (e : Entry). is_pipe_end name e.call e.reply) part ≡ true → IsTakenWhole name part
+taken_whole_in name before o part begins h goes_on any =
     let c = any_cut (λ (e : Entry). is_pipe_end name e.call e.reply) part any in
-    subst (Told name) (sym c.cut)
-    (told_at name before o c.before c.at c.after begins
+    subst (IsTakenWhole name) (sym c.cut)
+    (taken_whole_at name before o c.before c.at c.after begins
     (subst IsLegal (ap (λ xs. before ++ o ∷ xs) c.cut ∙ sym (append_assoc before (o ∷ c.before) (c.at ∷ c.after))) h)
     (sym (ap (list_any (opens Reads name)) c.cut) ∙ goes_on)
     c.passes)
 
-whole_by : (name : List ℕ) (part : List Entry) → Piped name part → Told name part → put_in name part ≡ taken_in name part
-whole_by name part p (told first last cut says none) =
+whole_by : (name : List ℕ) (part : List Entry) → Piped name part → IsTakenWhole name part → put_in name part ≡ taken_in name part
+whole_by name part p (taken_whole first last cut says none) =
     let puts = ap (put_in name) cut ∙ flat_map-append (λ (x : Entry). put_by name x.call x.reply) first last in
     let takes = ap (taken_in name) cut ∙ flat_map-append (λ (x : Entry). taken_by name x.call x.reply) first last in
     let e : taken_in name first ++ put_in name last ≡ taken_in name first ++ (taken_in name last ++ p.0) =
@@ -260,4 +260,4 @@ pub piped_whole : (journal : List Entry) → IsLegal journal → (name : List �
     → list_any (λ (e : Entry). is_pipe_end name e.call e.reply) part ≡ true → put_in name part ≡ taken_in name part
 piped_whole journal h name part s any =
     let legal = (legal_split s.before s.opening part s.after (subst IsLegal s.cut h)).0 in
-    whole_by name part (piped_part journal h name part s) (told_in name s.before s.opening part s.begins legal s.goes_on any)
+    whole_by name part (piped_part journal h name part s) (taken_whole_in name s.before s.opening part s.begins legal s.goes_on any)

@@ -34,7 +34,7 @@ is_run-some k (Some run) e = ap Some (eqb-true run k e)
 pub data Entering (log : List Entry) (lane : ℕ) : Option ℕ → Call → Reply → Type 0 where
   claims : (k source : ℕ) (params : List ℕ) → held_run (own_entries lane log) ≡ None → unclaimed_run log ≡ Some k
       → source_of k log ≡ Some source → params_of k log ≡ Some params → Entering log lane None Claim (Claimed k source params)
-  told_done : was_done (own_entries lane log) ≡ false → held_run (own_entries lane log) ≡ None → unclaimed_run log ≡ None
+  done_entry : was_done (own_entries lane log) ≡ false → held_run (own_entries lane log) ≡ None → unclaimed_run log ≡ None
       → is_finished 0 log ≡ true → Entering log lane None Claim Done
   quits : Entering log lane None Quit UnitReply
   finishes : (run : ℕ) (end : End) → held_run (own_entries lane log) ≡ Some run → Entering log lane (Some run) (Finish end) UnitReply
@@ -69,7 +69,7 @@ not_yet_if false a reply e = e
 
 done_by : (log : List Entry) (lane : ℕ) (b : Bool) (reply : Reply) → was_done (own_entries lane log) ≡ false → held_run (own_entries lane log) ≡ None
     → unclaimed_run log ≡ None → is_finished 0 log ≡ b → (if b then Ready Done else NotYet) ≡ Ready reply → Entering log lane None Claim reply
-done_by log lane true reply not_done none q is e = subst (Entering log lane None Claim) (ap reply_of e) (told_done not_done none q is)
+done_by log lane true reply not_done none q is e = subst (Entering log lane None Claim) (ap reply_of e) (done_entry not_done none q is)
 done_by log lane false reply not_done none q is e = absurd (not_yet_ready reply e)
 
 given_by : (log : List Entry) (lane k : ℕ) (source : Option ℕ) (params : Option (List ℕ)) (reply : Reply) → held_run (own_entries lane log) ≡ None

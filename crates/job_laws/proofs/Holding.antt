@@ -78,7 +78,7 @@ free_outcome way name log run _ _ (outcome.ended other a b) h = absurd (false_tr
 pub was_free : (way : Way) (name : List ℕ) (log : List Entry) (lane : ℕ) (run : Option ℕ) (call : Call) (reply : Reply) → Entering log lane run call reply
     → is_some (opened_session way name call reply) ≡ true → IsFree way name log
 was_free way name log lane _ _ _ (enter.claims k source params none q s p) h = absurd (false_true h)
-was_free way name log lane _ _ _ (enter.told_done not_done none q is) h = absurd (false_true h)
+was_free way name log lane _ _ _ (enter.done_entry not_done none q is) h = absurd (false_true h)
 was_free way name log lane _ _ _ enter.quits h = absurd (false_true h)
 was_free way name log lane _ _ _ (enter.finishes run end held) h = absurd (false_true h)
 was_free way name log lane _ _ _ (enter.acts run call reply held fresh fit for_run no_finish answered) h =
@@ -98,10 +98,10 @@ kept way name log e r h o c =
     ∙ ap (λ b. if b then None else Some r) c
 
 -- a run that holds an end by what it was told is the holder
-abbrev HoldsTold : Way → List ℕ → ℕ → List Entry → Type 0
-HoldsTold way name r log = holds way name (exchange_of r log) ≡ true → holder way name log ≡ Some r
+abbrev HoldsByCalls : Way → List ℕ → ℕ → List Entry → Type 0
+HoldsByCalls way name r log = holds way name (exchange_of r log) ≡ true → holder way name log ≡ Some r
 
-holds_by : (way : Way) (name : List ℕ) (r : ℕ) (log : List Entry) (e : Entry) → HoldsTold way name r log → is_run r e.run ≡ true
+holds_by : (way : Way) (name : List ℕ) (r : ℕ) (log : List Entry) (e : Entry) → HoldsByCalls way name r log → is_run r e.run ≡ true
     → (b : Bool) → opens way name e ≡ b → (b || (holds way name (exchange_of r log) && not (lets_go name e.call e.reply))) ≡ true
     → holder way name (log ++ e ∷ []) ≡ Some r
 holds_by way name r log e p by_run true o h =
@@ -114,32 +114,32 @@ holds_by way name r log e p by_run false o h =
     (ap (λ b. b && lets_go name e.call e.reply) by_run ∙ not_true (lets_go name e.call e.reply) both.1)
 
 -- an entry of the run itself
-holds_own : (way : Way) (name : List ℕ) (r : ℕ) (log : List Entry) (e : Entry) → HoldsTold way name r log → is_run r e.run ≡ true
-    → HoldsTold way name r (log ++ e ∷ [])
+holds_own : (way : Way) (name : List ℕ) (r : ℕ) (log : List Entry) (e : Entry) → HoldsByCalls way name r log → is_run r e.run ≡ true
+    → HoldsByCalls way name r (log ++ e ∷ [])
 holds_own way name r log e p by_run h =
     holds_by way name r log e p by_run (opens way name e) refl
     (sym (ap (holds way name) (exchange-snoc r log e by_run)
     ∙ fold-append (holds_after way name) false (exchange_of r log) ((e.call, e.reply) ∷ [])) ∙ h)
 
 -- an entry of another run
-holds_other : (way : Way) (name : List ℕ) (r : ℕ) (log : List Entry) (e : Entry) → Follows log e → HoldsTold way name r log → is_run r e.run ≡ false
-    → HoldsTold way name r (log ++ e ∷ [])
+holds_other : (way : Way) (name : List ℕ) (r : ℕ) (log : List Entry) (e : Entry) → Follows log e → HoldsByCalls way name r log → is_run r e.run ≡ false
+    → HoldsByCalls way name r (log ++ e ∷ [])
 holds_other way name r log e f p other h =
     let before = p (ap (holds way name) (sym (exchange-same r log e other)) ∙ h) in
     kept way name log e r before
     (not_so (opens way name e) (λ o. taken_end way name log r before (was_free way name log e.lane e.run e.call e.reply (entering log e f) o)))
     (ap (λ b. b && lets_go name e.call e.reply) other)
 
-holds_first : (way : Way) (name : List ℕ) (r : ℕ) (e : Entry) → IsOpening e → HoldsTold way name r (e ∷ [])
+holds_first : (way : Way) (name : List ℕ) (r : ℕ) (e : Entry) → IsOpening e → HoldsByCalls way name r (e ∷ [])
 holds_first way name r e o h =
     absurd (false_true (sym (ap (holds way name) (exchange-same r [] e (ap (is_run r) o.run))) ∙ h))
 
-holds_step : (way : Way) (name : List ℕ) (r : ℕ) (log : List Entry) (e : Entry) → Follows log e → HoldsTold way name r log
-    → (b : Bool) → is_run r e.run ≡ b → HoldsTold way name r (log ++ e ∷ [])
+holds_step : (way : Way) (name : List ℕ) (r : ℕ) (log : List Entry) (e : Entry) → Follows log e → HoldsByCalls way name r log
+    → (b : Bool) → is_run r e.run ≡ b → HoldsByCalls way name r (log ++ e ∷ [])
 holds_step way name r log e f p true is = holds_own way name r log e p is
 holds_step way name r log e f p false is = holds_other way name r log e f p is
 
-pub holds_told : (way : Way) (name : List ℕ) (r : ℕ) (journal : List Entry) → IsLegal journal → HoldsTold way name r journal
-holds_told way name r = legal_grow (HoldsTold way name r)
+pub holds_by_calls : (way : Way) (name : List ℕ) (r : ℕ) (journal : List Entry) → IsLegal journal → HoldsByCalls way name r journal
+holds_by_calls way name r = legal_grow (HoldsByCalls way name r)
     (λ e o. holds_first way name r e o)
     (λ log e h p f. holds_step way name r log e f p (is_run r e.run) refl)

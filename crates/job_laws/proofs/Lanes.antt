@@ -44,7 +44,7 @@ still_claimed r own e is = claimed-snoc r own e ∙ ap (λ b. b || claims r e.re
 pub held_of : (log : List Entry) (lane : ℕ) (run : Option ℕ) (call : Call) (reply : Reply) → Entering log lane run call reply
     → (r : ℕ) → run ≡ Some r → held_run (own_entries lane log) ≡ Some r
 held_of log lane _ _ _ (enter.claims k source params none q s p) r e = none_some r e
-held_of log lane _ _ _ (enter.told_done not_done none q is) r e = none_some r e
+held_of log lane _ _ _ (enter.done_entry not_done none q is) r e = none_some r e
 held_of log lane _ _ _ enter.quits r e = none_some r e
 held_of log lane _ _ _ (enter.finishes run end held) r e = held ∙ e
 held_of log lane _ _ _ (enter.acts run call reply held fresh fit for_run no_finish answered) r e = held ∙ e
@@ -60,7 +60,7 @@ held_given : (log : List Entry) (lane : ℕ) (run : Option ℕ) (call : Call) (r
 held_given log lane _ _ _ g (enter.claims k source params none q s p) r e =
     let same = some_is k r e in
     ap (λ b. is_claimed r (own_entries lane log) || b) (eq-eqb k r same) ∙ or_yes (is_claimed r (own_entries lane log))
-held_given log lane _ _ _ g (enter.told_done not_done none q is) r e = ap (λ b. b || false) (g r e)
+held_given log lane _ _ _ g (enter.done_entry not_done none q is) r e = ap (λ b. b || false) (g r e)
 held_given log lane _ _ _ g enter.quits r e = ap (λ b. b || false) (g r e)
 held_given log lane _ _ _ g (enter.finishes run end held) r e = none_some r e
 held_given log lane _ _ _ g (enter.acts run call reply held fresh fit for_run no_finish answered) r e =
@@ -120,7 +120,7 @@ fresh_run log lane _ _ _ c (enter.claims k source params none q s p) r e =
     let same = eqb-true k r e in
     let g = at.0 in
     c.first_given r ∙ le-ltb r (gives log) (omega (arith, same, g))
-fresh_run log lane _ _ _ c (enter.told_done not_done none q is) r e = absurd (false_true e)
+fresh_run log lane _ _ _ c (enter.done_entry not_done none q is) r e = absurd (false_true e)
 fresh_run log lane _ _ _ c enter.quits r e = absurd (false_true e)
 fresh_run log lane _ _ _ c (enter.finishes run end held) r e = absurd (false_true e)
 fresh_run log lane _ _ _ c (enter.acts run call reply held fresh fit for_run no_finish answered) r e =
@@ -367,7 +367,7 @@ no_quit journal h none =
 stop_by : (log : List Entry) (lane : ℕ) (run : Option ℕ) (call : Call) (reply : Reply) → Entering log lane run call reply → (k : ℕ)
     → run ≡ Some k → is_asked k log ≡ true → (reply ≡ Halt) ⊎ (is_finish call ≡ true)
 stop_by log lane _ _ _ (enter.claims k source params none q s p) r e asked = none_some r e
-stop_by log lane _ _ _ (enter.told_done not_done none q is) r e asked = none_some r e
+stop_by log lane _ _ _ (enter.done_entry not_done none q is) r e asked = none_some r e
 stop_by log lane _ _ _ enter.quits r e asked = none_some r e
 stop_by log lane _ _ _ (enter.finishes run end held) r e asked = inr refl
 stop_by log lane _ _ _ (enter.acts run call reply held fresh fit for_run no_finish answered) r e asked =

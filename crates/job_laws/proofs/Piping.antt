@@ -236,7 +236,7 @@ flow_outcome name log run _ _ (outcome.ended other a b) = quiet refl
 
 flow_entering : (name : List ℕ) (log : List Entry) (lane : ℕ) (run : Option ℕ) (call : Call) (reply : Reply) → Entering log lane run call reply → Flow name log call reply
 flow_entering name log lane _ _ _ (enter.claims k source params none q s p) = quiet refl
-flow_entering name log lane _ _ _ (enter.told_done not_done none q is) = quiet refl
+flow_entering name log lane _ _ _ (enter.done_entry not_done none q is) = quiet refl
 flow_entering name log lane _ _ _ enter.quits = quiet refl
 flow_entering name log lane _ _ _ (enter.finishes run end held) = quiet refl
 flow_entering name log lane _ _ _ (enter.acts run call reply held fresh ends_fit_ for_run no_finish answered) =

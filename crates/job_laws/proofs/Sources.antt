@@ -113,9 +113,9 @@ accepted_by log src source false is code at =
 abbrev IsCompiled : List Entry → Type 0
 IsCompiled log = (file src : List ℕ) → compiled_from file log ≡ Some src → code_of src log ≡ 0
 
-abbrev code_told : Reply → ℕ
-code_told (Code code) = code
-code_told reply = 0
+abbrev code_in : Reply → ℕ
+code_in (Code code) = code
+code_in reply = 0
 
 compiled_yes : (code : ℕ) (b : Bool) (src other : List ℕ) → (if nat_eq code 0 && b then Some src else None) ≡ Some other → (code ≡ 0) × (src ≡ other)
 compiled_yes code b src other e = by (nat_eq code 0 && b) refl e where
@@ -152,7 +152,7 @@ compiled_outcome log run _ _ (outcome.ended name a b) file src e = none_some src
 compiled_entering : (log : List Entry) (lane : ℕ) (run : Option ℕ) (call : Call) (reply : Reply) → Entering log lane run call reply → (file src : List ℕ)
     → compiled_to file call reply ≡ Some src → code_of src log ≡ 0
 compiled_entering log lane _ _ _ (enter.claims k source params none q s p) file src e = none_some src e
-compiled_entering log lane _ _ _ (enter.told_done not_done none q is) file src e = none_some src e
+compiled_entering log lane _ _ _ (enter.done_entry not_done none q is) file src e = none_some src e
 compiled_entering log lane _ _ _ enter.quits file src e = none_some src e
 compiled_entering log lane _ _ _ (enter.finishes run end held) file src e = none_some src e
 compiled_entering log lane _ _ _ (enter.acts run call reply held fresh fit for_run no_finish answered) file src e =
@@ -272,7 +272,7 @@ loaded_outcome log run _ _ h (outcome.ended name a b) m source e = none_some sou
 loaded_entering : (log : List Entry) (lane : ℕ) (run : Option ℕ) (call : Call) (reply : Reply) → IsLegal log → Entering log lane run call reply → (m source : ℕ)
     → loaded_source m reply ≡ Some source → IsAccepted log source
 loaded_entering log lane _ _ _ h (enter.claims k s params none q r p) m source e = none_some source e
-loaded_entering log lane _ _ _ h (enter.told_done not_done none q is) m source e = none_some source e
+loaded_entering log lane _ _ _ h (enter.done_entry not_done none q is) m source e = none_some source e
 loaded_entering log lane _ _ _ h enter.quits m source e = none_some source e
 loaded_entering log lane _ _ _ h (enter.finishes run end held) m source e = none_some source e
 loaded_entering log lane _ _ _ h (enter.acts run call reply held fresh fit for_run no_finish answered) m source e =
@@ -327,7 +327,7 @@ starting_outcome log run _ _ (outcome.ended name a b) t = absurd (false_true t)
 starting : (log : List Entry) (lane : ℕ) (run : Option ℕ) (call : Call) (reply : Reply) → Entering log lane run call reply → is_started reply ≡ true
     → Starting log run call reply
 starting log lane _ _ _ (enter.claims k s params none q r p) t = absurd (false_true t)
-starting log lane _ _ _ (enter.told_done not_done none q is) t = absurd (false_true t)
+starting log lane _ _ _ (enter.done_entry not_done none q is) t = absurd (false_true t)
 starting log lane _ _ _ enter.quits t = absurd (false_true t)
 starting log lane _ _ _ (enter.finishes run end held) t = absurd (false_true t)
 starting log lane _ _ _ (enter.acts run call reply held fresh fit for_run no_finish answered) t =
@@ -349,11 +349,16 @@ no_start log e k f less = by (is_started e.reply) refl where
       ap (option_and_then (λ (start : Start). if nat_eq start.run k then Some start else None)) s.start_is
       ∙ ap (λ b. if b then Some s.start else None) (ne_eqb s.start.run k (λ q. absurd (omega (arith, q, r, less))))
 
-source-snoc : (k : ℕ) (log : List Entry) (e : Entry)
-    → source_of (suc k) (log ++ e ∷ []) ≡ last_of (source_of (suc k) log) (source_started (suc k) (record { before = log; entry = e }))
+-- the source of run k behind an entry that starts it, or does not
+abbrev source_behind : ℕ → List Entry → Option Start → Option ℕ
+source_behind k log start =
+    unwrap_or (last_of (last_given (source_started k) (moments log)) (option_map (λ (s : Start). source_of_model s.model log) start)) None
+
+source-snoc : (k : ℕ) (log : List Entry) (e : Entry) → source_of (suc k) (log ++ e ∷ []) ≡ source_behind (suc k) log (start_of_run (suc k) e)
 source-snoc k log e =
-    ap (last_given (source_started (suc k))) (moments-snoc log e)
-    ∙ last_given-snoc (source_started (suc k)) (moments log) (record { before = log; entry = e })
+    ap (λ (o : Option (Option ℕ)). unwrap_or o None)
+    (ap (last_given (source_started (suc k))) (moments-snoc log e)
+    ∙ last_given-snoc (source_started (suc k)) (moments log) (record { before = log; entry = e }))
 
 params-snoc : (k : ℕ) (log : List Entry) (e : Entry)
     → params_of (suc k) (log ++ e ∷ []) ≡ last_of (params_of (suc k) log) (option_map (λ (start : Start). start.params) (start_of_run (suc k) e))
@@ -361,9 +366,7 @@ params-snoc k log e = last_given-snoc (λ (x : Entry). option_map (λ (start : S
 
 source_keeps : (log : List Entry) (e : Entry) (k : ℕ) → IsLegal log → Follows log e → k < run_count log → source_of k (log ++ e ∷ []) ≡ source_of k log
 source_keeps log e zero h f less = refl
-source_keeps log e (suc k) h f less =
-    source-snoc k log e
-    ∙ ap (λ o. last_of (source_of (suc k) log) (option_and_then (λ (start : Start). source_of_model start.model log) o)) (no_start log e (suc k) f less)
+source_keeps log e (suc k) h f less = source-snoc k log e ∙ ap (source_behind (suc k) log) (no_start log e (suc k) f less)
 
 params_keeps : (log : List Entry) (e : Entry) (k : ℕ) → IsLegal log → Follows log e → k < run_count log → params_of k (log ++ e ∷ []) ≡ params_of k log
 params_keeps log e zero h f less = ap (option_map (λ (o : Opening). o.params)) (opening_stays log e h)
@@ -395,10 +398,7 @@ has_started log e k h s q =
       s.start.params,
       record {
         file = a.file;
-        source_is =
-            source-snoc k log e
-            ∙ ap (λ o. last_of (source_of (suc k) log) (option_and_then (λ (start : Start). source_of_model start.model log) o)) is
-            ∙ ap (last_of (source_of (suc k) log)) m.1;
+        source_is = source-snoc k log e ∙ ap (source_behind (suc k) log) is ∙ m.1;
         params_is =
             params-snoc k log e
             ∙ ap (λ o. last_of (params_of (suc k) log) (option_map (λ (start : Start). start.params) o)) is;

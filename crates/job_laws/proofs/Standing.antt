@@ -28,8 +28,8 @@ fits_then m = fits (opening m.before) (own_entries m.entry.lane m.before) m.entr
 abbrev pub answer_then : Moment → Answer
 answer_then m = answer_of m.before m.entry.lane m.entry.run m.entry.call
 
-abbrev pub told_then : Moment → Answer
-told_then m = Ready m.entry.reply
+abbrev pub reply_then : Moment → Answer
+reply_then m = Ready m.entry.reply
 
 -- the first entry opens a job, every other call fits, and every reply is the answer
 abbrev pub CanStand : List Entry → Type 0
@@ -37,10 +37,10 @@ CanStand [] = ⊥
 CanStand (e ∷ es) =
     IsOpening e
     × (list_all fits_then (moments_from (e ∷ []) es) ≡ true)
-    × (map answer_then (moments_from (e ∷ []) es) ≡ map told_then (moments_from (e ∷ []) es))
+    × (map answer_then (moments_from (e ∷ []) es) ≡ map reply_then (moments_from (e ∷ []) es))
 
 follow_on : (before es : List Entry) → list_all fits_then (moments_from before es) ≡ true
-    → map answer_then (moments_from before es) ≡ map told_then (moments_from before es) → FollowOn before es
+    → map answer_then (moments_from before es) ≡ map reply_then (moments_from before es) → FollowOn before es
 follow_on before [] fit same = tt
 follow_on before (e ∷ es) fit same =
     let both = and_true (fits_then (record { before = before; entry = e })) (list_all fits_then (moments_from (before ++ e ∷ []) es)) fit in (

@@ -88,7 +88,7 @@ pub record Taker (log : List Entry) (run : Option ℕ) (call : Call) (reply : Re
 took_entering : (log : List Entry) (lane : ℕ) (run : Option ℕ) (call : Call) (reply : Reply) → Entering log lane run call reply
     → is_took reply ≡ true → Taker log run call reply
 took_entering log lane _ _ _ (enter.claims k source params none q s p) t = absurd (false_true t)
-took_entering log lane _ _ _ (enter.told_done not_done none q is) t = absurd (false_true t)
+took_entering log lane _ _ _ (enter.done_entry not_done none q is) t = absurd (false_true t)
 took_entering log lane _ _ _ enter.quits t = absurd (false_true t)
 took_entering log lane _ _ _ (enter.finishes run end held) t = absurd (false_true t)
 took_entering log lane _ _ _ (enter.acts run call reply held fresh ends_fit_ for_run no_finish answered) t =

@@ -77,7 +77,7 @@ says_outcome log run _ _ h p (outcome.ended name a b) =
 says_entering : (log : List Entry) (lane : ℕ) (run : Option ℕ) (call : Call) (reply : Reply) → IsLegal log → ((name : List ℕ) → Piped name (in_session name log))
     → Entering log lane run call reply → SaysTrue log run call reply
 says_entering log lane _ _ _ h p (enter.claims k source params none q s t) = claim_says log k source params h q s t
-says_entering log lane _ _ _ h p (enter.told_done not_done none q is) = tt
+says_entering log lane _ _ _ h p (enter.done_entry not_done none q is) = tt
 says_entering log lane _ _ _ h p enter.quits = tt
 says_entering log lane _ _ _ h p (enter.finishes run end held) = tt
 says_entering log lane _ _ _ h p (enter.acts run call reply held fresh ends_fit_ for_run no_finish answered) =

@@ -1,9 +1,11 @@
 -- Legal journals as they grow: they have few entries and files, each run has its source, and keeps it.
 
-use Rattle.std.specs.Prelude.{◌≡◌, ◌≤◌, ◌<◌, ℕ, List, [], ◌∷◌, ◌++◌, length}
+use Rattle.std.specs.Prelude.{◌≡◌, ◌≤◌, ◌<◌, ℕ, Bool, true, false, List, [], ◌∷◌, ◌++◌, count_by, length, nat_lt}
 use Rattle.job_calls.specs.declared.entry.Entry.{Entry}
+use Rattle.job_calls.specs.declared.reply.Reply.{Reply}
+use Rattle.job_calls.specs.declared.reply.Reply.TheVariants.{Claimed}
 use Rattle.job_calls.specs.Moments.{moments_from}
-use Rattle.job_calls.specs.Entries.{run_count}
+use Rattle.job_calls.specs.Entries.{is_claimed, run_count}
 use Rattle.job_calls.specs.Runs.{source_of, params_of}
 use Rattle.job_calls.specs.Files.{files_of}
 use Rattle.job_calls.specs.Legal.{IsLegal, Follows}
@@ -38,3 +40,15 @@ abbrev pub SourcesStay : Type 0
 SourcesStay =
     (journal more : List Entry) → IsLegal journal → IsLegal (journal ++ more) → (k : ℕ) → k < run_count journal
     → (source_of k (journal ++ more) ≡ source_of k journal) × (params_of k (journal ++ more) ≡ params_of k journal)
+
+-- a lane was given a run
+abbrev pub is_given : Reply → Bool
+is_given (Claimed run source params) = true
+is_given _ = false
+
+-- lanes are given the runs in order: those that were given are the first ones, and are runs that there are
+abbrev pub GivenInOrder : Type 0
+GivenInOrder =
+    (journal : List Entry) → IsLegal journal
+    → ((k : ℕ) → is_claimed k journal ≡ nat_lt k (count_by (λ e. is_given e.reply) journal))
+    × (count_by (λ e. is_given e.reply) journal ≤ run_count journal)

@@ -1,6 +1,6 @@
 -- Worked examples of the runs of a journal, and of replies that fit a call.
 
-use Rattle.std.specs.Prelude.{◌≡◌, List, [], ◌∷◌, Some, pos, negsuc, codes}
+use Rattle.std.specs.Prelude.{◌≡◌, List, [], ◌∷◌, ◌++◌, Some, None, pos, negsuc, codes}
 use Rattle.mos_text.specs.declared.fault_kind.FaultKind.TheVariants.{Overflow, NotLoaded}
 use Rattle.job_calls.specs.declared.call.Call.TheVariants.{Open, Claim, Finish, Compile, Load, Run, Wait, Next, Status}
 use Rattle.job_calls.specs.declared.end.End.TheVariants as end
@@ -41,6 +41,10 @@ SourceOfMaster = source_of 0 child_entries ≡ Some 0
 -- the child is the second file
 abbrev pub SourceOfChild : Type 0
 SourceOfChild = source_of 1 child_entries ≡ Some 1
+
+-- the last start counts: of a model that nobody loaded, a run has no source
+abbrev pub SourceOfUnloaded : Type 0
+SourceOfUnloaded = source_of 1 (child_entries ++ entry (0 ∷ []) (Run 7 []) (Started 1) ∷ []) ≡ None
 
 -- the master has the text of the `Open`
 abbrev pub ParamsOfMaster : Type 0

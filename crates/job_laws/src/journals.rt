@@ -1,7 +1,7 @@
 //! Worked examples of journals: functions that do nothing, whose contracts are the examples.
 ghost use Rattle.job_calls.specs.Legal.{IsLegal};
 ghost use Rattle.job_laws.specs.JournalExamples.{HelloIsLegal, UnheldRun, AnotherRun, OtherLaneWaits, NotDoneYet, AfterTheEnd};
-ghost use Rattle.job_laws.specs.RunExamples.{TwoRuns, SourceOfMaster, SourceOfChild, ParamsOfMaster, ParamsOfChild, CallsOfMaster, RepliesOfMaster, CallsOfChild, FinishOfChild, FittingReplies, FittingFault, FaultOfItsOwn, ReplyOfAnotherCall, CodeTooLarge};
+ghost use Rattle.job_laws.specs.RunExamples.{TwoRuns, SourceOfMaster, SourceOfChild, SourceOfUnloaded, ParamsOfMaster, ParamsOfChild, CallsOfMaster, RepliesOfMaster, CallsOfChild, FinishOfChild, FittingReplies, FittingFault, FaultOfItsOwn, ReplyOfAnotherCall, CodeTooLarge};
 ghost use Rattle.job_laws.specs.FitExamples.{UnfitCalls, UnclaimedRun, FinishedRun, LaneIsDone, OnlyFinishes, PipesOfOthers, ClosedEnd};
 ghost use Rattle.job_laws.specs.RowExamples.{files_and_nothing, NothingToRun, model_goes, EndsTell, UnloadWaits, AllIsShut, stopped_unclaimed, master_ends_first, reads_after_writes, EndsAreBusy, empty_block, TooManyBytes, OldWriter, new_session};
 ghost use Rattle.job_laws.specs.HubExamples.{waits_for_child, no_lane_is_free, run_twice, runs_again, reads_last_write, takes_whole, FullPipeWaits, reader_stops, BothWait};
@@ -25,6 +25,7 @@ pub fn runs_of_a_journal()
     ensures two { TwoRuns }
     ensures source_of_master { SourceOfMaster }
     ensures source_of_child { SourceOfChild }
+    ensures source_of_unloaded { SourceOfUnloaded }
     ensures params_of_master { ParamsOfMaster }
     ensures params_of_child { ParamsOfChild }
     ensures calls_of_master { CallsOfMaster }

@@ -2,7 +2,7 @@
 ghost use Rattle.job_laws.specs.Truth.{RepliesAreTrue, ReadsOfFiles, ReadsOfBlocks, BlocksAreNotListed};
 ghost use Rattle.job_laws.specs.Order.{AskedStops, StaysAsked};
 ghost use Rattle.job_laws.specs.Lanes.{AnswersFit, RunsFit, ClaimedOnce, ClaimedBefore, OneLaneARun, AllEnd, NoQuit};
-ghost use Rattle.job_laws.specs.Growth.{FewEntries, FewFiles, Grows, MomentsGrow, RunsHaveSources, SourcesStay};
+ghost use Rattle.job_laws.specs.Growth.{FewEntries, FewFiles, Grows, MomentsGrow, RunsHaveSources, SourcesStay, GivenInOrder};
 ghost use Rattle.job_laws.specs.Laws.{LegalKeepsLaws};
 
 /// A reply that the hub gives fits its call, as a machine wants it.
@@ -108,4 +108,9 @@ pub fn grows()
 /// Entries behind others are moments behind theirs.
 pub fn moments_grow()
     ensures { MomentsGrow }
+{}
+
+/// Lanes are given the runs in order.
+pub fn given_in_order()
+    ensures { GivenInOrder }
 {}

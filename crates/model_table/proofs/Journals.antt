@@ -1,7 +1,7 @@
 -- What a journal tells of models and runs, with one more entry.
 
 use Rattle.std.proofs.Common.{◌≡◌, ◌<◌, ◌^◌, ◌-◌, ℕ, ◌+◌, Bool, true, false, not, ◌&&◌, ◌||◌, List, [], ◌∷◌, ◌++◌, Option, Some, None, refl, sym, ap, subst, ◌∙◌, length, length-append, arith, is_some, append-nil, map, nat_eq}
-use Rattle.std.specs.Prelude.{filter, if◌then◌else◌, unwrap_or, option_and_then, nat_lt, min, count_by}
+use Rattle.std.specs.Prelude.{filter, if◌then◌else◌, unwrap_or, option_map, nat_lt, min, count_by}
 use Rattle.std.specs.List.{list_any}
 use Rattle.std.specs.Option.{option_map_or}
 use Rattle.std.proofs.lemmas.List.Sums.{count_by-le-length, fold-append}
@@ -50,9 +50,9 @@ model_noted m old new journal e told is = record {
 live_is : (t : ModelTable) (journal : List Entry) (k : ℕ) → IsIndexOf t journal → is_live_in t k ≡ is_live k journal
 live_is t journal k is = (λ j. nat_lt k (is.started j + 1) && not ((is.runs k).ended j))
 
-and_then_same : {A B : Type 0} (f g : A → Option B) (o : Option A) → ((x : A) → f x ≡ g x) → option_and_then f o ≡ option_and_then g o
-and_then_same f g None same = refl
-and_then_same f g (Some x) same = same x
+map_same : {A B : Type 0} (f g : A → B) (o : Option A) → ((x : A) → f x ≡ g x) → option_map f o ≡ option_map g o
+map_same f g None same = refl
+map_same f g (Some x) same = ap Some (same x)
 
 map_or_same : {A B : Type 0} (f g : A → B) (o : Option A) (d : B) → ((x : A) → f x ≡ g x) → option_map_or f o d ≡ option_map_or g o d
 map_or_same f g None d same = refl
@@ -61,7 +61,7 @@ map_or_same f g (Some x) d same = same x
 -- the source of the model that is started
 source_is : (t : ModelTable) (journal : List Entry) (k : ℕ) (e : Entry) → IsIndexOf t journal → source_told t k e ≡ source_started k (record { before = journal; entry = e })
 source_is t journal k e is =
-    and_then_same (λ (start : Start). (model_at t start.model).source) (λ (start : Start). source_of_model start.model journal) (start_of_run k e)
+    map_same (λ (start : Start). (model_at t start.model).source) (λ (start : Start). source_of_model start.model journal) (start_of_run k e)
     (λ start. (is.models start.model).source)
 
 -- whether a run is asked
@@ -91,8 +91,10 @@ run_noted k t new journal e told is =
     let last : Moment = record { before = journal; entry = e } in record {
       start = told.start ∙ (λ j. if starts_run k e then Some (is.count j) else run.start j) ∙ sym (last_place-snoc (starts_run k) journal e);
       source = told.source
-          ∙ (λ j. last_of (run.source j) (source_is t journal k e is j))
-          ∙ sym (ap (last_given (source_started k)) (moments-snoc journal e) ∙ last_given-snoc (source_started k) (moments journal) last);
+          ∙ (λ j. unwrap_or (source_is t journal k e is j) (run.source j))
+          ∙ sym (ap (λ (o : Option (Option ℕ)). unwrap_or o None)
+          (ap (last_given (source_started k)) (moments-snoc journal e) ∙ last_given-snoc (source_started k) (moments journal) last)
+          ∙ unwrap_later (last_given (source_started k) (moments journal)) (source_started k last) None);
       end = told.end ∙ ap (λ o. last_of o (end_told k e)) run.end ∙ sym (last_given-snoc (end_told k) journal e);
       ended = ap is_some told.end
           ∙ later_some (run_at t k).end (is_run k e.run) e.call

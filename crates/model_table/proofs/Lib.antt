@@ -1,3 +1,4 @@
 pub mod Lives
 pub mod Journals
 pub mod Claims
+pub mod Quiet

@@ -1,6 +1,6 @@
 -- Which journal a table of models and runs stands for, and which entries it can take.
 
-use Rattle.std.specs.Prelude.{◌≡◌, ◌<◌, ◌+◌, ◌-◌, ◌^◌, ◌||◌, ◌&&◌, ℕ, ℤ, pos, Bool, true, false, List, Option, Some, count_by, is_some, length, min, nat_lt, if◌then◌else◌}
+use Rattle.std.specs.Prelude.{◌≡◌, ◌<◌, ◌+◌, ◌-◌, ◌^◌, ◌||◌, ◌&&◌, ℕ, ℤ, pos, Bool, true, false, List, Option, Some, None, count_by, is_some, length, min, nat_lt, unwrap_or, if◌then◌else◌}
 use Rattle.std.specs.List.{list_any}
 use Rattle.std.specs.Option.{option_map_or}
 use Rattle.job_calls.specs.declared.end.End.{End}
@@ -30,7 +30,7 @@ pub record IsModelOf (model : Model) (m : ℕ) (journal : List Entry) : Type 0 w
 -- what the journal tells of run k
 pub record IsRunOf (run : Run) (k : ℕ) (journal : List Entry) : Type 0 where
   pub start : run.start ≡ last_place (starts_run k) journal
-  pub source : run.source ≡ last_given (source_started k) (moments journal)
+  pub source : run.source ≡ unwrap_or (last_given (source_started k) (moments journal)) None
   pub end : run.end ≡ finish_of k journal
   pub ended : is_some run.end ≡ is_finished k journal
   pub asked : run.asked ≡ list_any (asks k) (moments journal)
@@ -87,6 +87,12 @@ pub record CanTake (table : ModelTable) (e : Entry) : Type 0 where
   pub lanes : (l : ℕ) → lane_told e.lane e.reply ≡ Some l → l < length table.lanes.items
   pub images : (file : List ℕ) → makes_image file e ≡ true → IsKnown file table.images
   pub next : is_started e.reply ≡ true → more table.started true < length table.runs.items
+
+-- the entry tells of no model and no image, and starts no run
+pub record IsQuiet (e : Entry) : Type 0 where
+  pub models : model_told e.call e.reply ≡ None
+  pub images : (file : List ℕ) → makes_image file e ≡ false
+  pub starts : is_started e.reply ≡ false
 
 -- the entry's model, run and image were told
 pub record IsTold (old new : ModelTable) (e : Entry) : Type 0 where

@@ -1,6 +1,6 @@
 -- What a step changes of models and of runs.
 
-use Rattle.std.specs.Prelude.{◌≡◌, ℕ, Bool, true, false, ◌||◌, List, Option, Some, None, nat_eq, length, slice_index_or, if◌then◌else◌}
+use Rattle.std.specs.Prelude.{◌≡◌, ℕ, Bool, true, false, ◌||◌, List, Option, Some, None, nat_eq, length, slice_index_or, unwrap_or, if◌then◌else◌}
 use Rattle.job_calls.specs.declared.end.End.{End}
 use Rattle.job_calls.specs.Entries.{is_run}
 use Rattle.job_calls.specs.Runs.{last_of}
@@ -45,10 +45,10 @@ abbrev pub is_started_in : Option (ℕ × Option ℕ) → ℕ → Bool
 is_started_in None k = false
 is_started_in (Some told) k = nat_eq told.0 k
 
--- the source from which run k was started, by what was told
-abbrev pub source_in : Option (ℕ × Option ℕ) → ℕ → Option ℕ
+-- the source from which run k was started, if it has one, by what was told
+abbrev pub source_in : Option (ℕ × Option ℕ) → ℕ → Option (Option ℕ)
 source_in None k = None
-source_in (Some told) k = if nat_eq told.0 k then told.1 else None
+source_in (Some told) k = if nat_eq told.0 k then Some told.1 else None
 
 -- the run has ended so, if one has
 pub record HasEnded (old new : List Run) (told : Option (ℕ × End)) : Type 0 where
@@ -62,7 +62,7 @@ pub record HasEnded (old new : List Run) (told : Option (ℕ × End)) : Type 0 w
 -- the run was started from this source by the entry at this place, if one was
 pub record HasStarted (old new : List Run) (told : Option (ℕ × Option ℕ)) (place : ℕ) : Type 0 where
   pub start : (k : ℕ) → (run_of new k).start ≡ (if is_started_in told k then Some place else (run_of old k).start)
-  pub source : (k : ℕ) → (run_of new k).source ≡ last_of (run_of old k).source (source_in told k)
+  pub source : (k : ℕ) → (run_of new k).source ≡ unwrap_or (source_in told k) (run_of old k).source
   pub end : (k : ℕ) → (run_of new k).end ≡ (run_of old k).end
   pub asked : (k : ℕ) → (run_of new k).asked ≡ (run_of old k).asked
   pub over : (k : ℕ) → (run_of new k).over ≡ (run_of old k).over

@@ -1,6 +1,6 @@
 -- What a table of models and runs says, and what an entry makes of a model and of a run.
 
-use Rattle.std.specs.Prelude.{◌≡◌, ℕ, ◌+◌, Bool, false, not, ◌&&◌, ◌||◌, Option, Some, None, nat_eq, nat_lt, is_some, option_and_then, slice_index_or, unwrap_or, if◌then◌else◌}
+use Rattle.std.specs.Prelude.{◌≡◌, ℕ, ◌+◌, Bool, false, not, ◌&&◌, ◌||◌, Option, Some, None, nat_eq, nat_lt, is_some, option_map, slice_index_or, unwrap_or, if◌then◌else◌}
 use Rattle.std.specs.Option.{option_map_or}
 use Rattle.job_calls.specs.declared.call.Call.{Call}
 use Rattle.job_calls.specs.declared.call.Call.TheVariants.{Finish, Run as Starts}
@@ -49,9 +49,9 @@ is_live_in table k = nat_lt k (table.started + 1) && not (is_some (run_at table 
 abbrev pub starts_run : ℕ → Entry → Bool
 starts_run k e = is_some (start_of_run k e)
 
--- the source of the model that an entry starts as run k
-abbrev pub source_told : ModelTable → ℕ → Entry → Option ℕ
-source_told table k e = option_and_then (λ (start : Start). (model_at table start.model).source) (start_of_run k e)
+-- where the entry starts run k: the source of its model, if that was loaded
+abbrev pub source_told : ModelTable → ℕ → Entry → Option (Option ℕ)
+source_told table k e = option_map (λ (start : Start). (model_at table start.model).source) (start_of_run k e)
 
 -- how an entry says that run k has ended
 abbrev pub end_told : ℕ → Entry → Option End
@@ -84,7 +84,7 @@ pub record IsModelAfter (old new : Model) (m : ℕ) (e : Entry) : Type 0 where
 -- run k after one more entry
 pub record IsRunAfter (table : ModelTable) (new : Run) (k : ℕ) (e : Entry) : Type 0 where
   pub start : new.start ≡ (if starts_run k e then Some table.count else (run_at table k).start)
-  pub source : new.source ≡ last_of (run_at table k).source (source_told table k e)
+  pub source : new.source ≡ unwrap_or (source_told table k e) (run_at table k).source
   pub end : new.end ≡ last_of (run_at table k).end (end_told k e)
   pub asked : new.asked ≡ ((run_at table k).asked || asks_in table k e)
   pub over : new.over ≡ ((run_at table k).over || (is_run k e.run && is_last e.reply))

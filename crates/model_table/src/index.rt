@@ -5,7 +5,7 @@ ghost use Rattle.job_calls.specs.Entries as entries;
 ghost use Rattle.growing_lists.specs.Growing.{as_number};
 ghost use Rattle.model_table.specs.Tables as tables;
 ghost use Rattle.model_table.specs.Tables.{unknown_run};
-ghost use Rattle.model_table.specs.Index.{IsIndexOf, StandsFor, CanTake, more, IsTold, IsTallied};
+ghost use Rattle.model_table.specs.Index.{IsIndexOf, StandsFor, CanTake, IsQuiet, more, IsTold, IsTallied};
 
 use crate::entries::{
     gives_run, image_made, is_loading, is_quit, is_started, lane_told, model_told, run_ended,
@@ -76,6 +76,16 @@ impl ModelTable {
         let starts = self.is_starting(entry);
         self.tally(entry, ends, starts);
         Ok(())
+    }
+
+    /// An entry that tells of no model and no image and starts no run can be noted without memory, also the
+    /// end of a run and a run that is given to a lane: it does nothing, and says so of the entry.
+    pub fn can_note(&self, entry: &Entry)
+        ensures { (journal : List Entry) → IsIndexOf self.now journal → IsQuiet entry.now
+            → ((run : ℕ) → entry.now.run ≡ Some run → run < entries.run_count journal)
+            → entry.now.lane < 64 → CanTake self.now entry.now }
+    {
+        let _ = entry;
     }
 
     /// What the entry tells of a model, a run and an image.

@@ -1,5 +1,5 @@
 //! What an entry makes of models and runs.
-ghost use Rattle.std.specs.Prelude.{◌≡◌, ◌<◌, ◌||◌, ℕ, Some, IfSome, length, slice_index_or, if◌then◌else◌};
+ghost use Rattle.std.specs.Prelude.{◌≡◌, ◌<◌, ◌||◌, ℕ, Some, IfSome, length, slice_index_or, unwrap_or, if◌then◌else◌};
 ghost use Rattle.job_calls.specs.Entries.{is_run};
 ghost use Rattle.job_calls.specs.Runs.{last_of};
 ghost use Rattle.model_table.specs.Tables.{unknown_model, model_told, IsModelAfter};
@@ -108,7 +108,7 @@ fn start(runs: &mut Vec<Run>, told: Option<(u32, Option<u32>)>, place: u32)
             number,
             Run {
                 start: Some(place),
-                source: source.or(run.source),
+                source,
                 end: run.end,
                 asked: run.asked,
                 over: run.over,
@@ -177,7 +177,7 @@ pub(crate) fn tell_runs(runs: &mut Vec<Run>, told: Told, place: u32)
     ensures start { (k : ℕ) → (run_of runs.new.items k).start
         ≡ (if is_started_in told.started k then Some place else (run_of runs.old.items k).start) }
     ensures source { (k : ℕ) → (run_of runs.new.items k).source
-        ≡ last_of (run_of runs.old.items k).source (source_in told.started k) }
+        ≡ unwrap_or (source_in told.started k) (run_of runs.old.items k).source }
     ensures end { (k : ℕ) → (run_of runs.new.items k).end
         ≡ last_of (run_of runs.old.items k).end (end_in told.ended k) }
     ensures asked { (k : ℕ) → (run_of runs.new.items k).asked

@@ -19,14 +19,14 @@ use Rattle.mos_value.specs.Numbers.{sum_of, difference_of}
 use Rattle.mos_value.specs.Texts.{text_of, show_one}
 use Rattle.mos_value.specs.Answers as how
 use Rattle.run_state.specs.Stops.{Lost, Outcome}
-use Rattle.run_state.specs.State.{World, State, Evaluation, Yields, StopsWith, on_line, or_stop, evaluation_of, line_end}
+use Rattle.run_state.specs.State.{World, State, final_outcome, Evaluation, Yields, StopsWith, on_line, or_stop, evaluation_of, line_end}
 use Rattle.run_state.specs.Places.{load_in, put_in, put_slot}
 use Rattle.run_state.specs.Parameters.{given_values}
 use Rattle.mos_meaning.specs.Syntax.{Scope, Own, Model, Expression, number, text, truth, variable, index, apply, range_of, sum_over, invoke, ask_hub, unbuilt, Shown, nothing_shown, shown_then, CoreStatement, assign, change, write, perform, tell_hub, if_, while_, do_, break_, next_, unbuilt_statement, Arms, else_, elif, Block, no_statement, statement_then}
 use Rattle.mos_meaning.specs.Sources.{variables_of, program_of}
 use Rattle.mos_meaning.specs.Values.{Names, Env, Routine, place_in, load_result, on_truth, ticking, value_of}
 use Rattle.mos_meaning.specs.Effects.{Completion, Normal, ByBreak, ByNext, store_result, assign_result, change_result, on_text, write_result, after_pass, passes, after_statement, effect_of, effect_of_arms, effects_of}
-use Rattle.mos_meaning.specs.Meaning.{outcome_of_run, with_given, meaning_of}
+use Rattle.mos_meaning.specs.Meaning.{final_of_run, with_given, meaning_of}
 use Rattle.mos_meaning.specs.Working.{IsVariable, IsSum, IsNumeric, IsShown, IsCondition, AreShown, Works, ArmsWork, AllWork, NeverStuck, NeverLost, CallsNothing}
 use Rattle.mos_meaning.proofs.Fine.{HasReason, IsInt, Sound, Fine, gave, halts, sooner, renewed, then_fine, on_line_fine, tick_fine, write_fine}
 
@@ -305,7 +305,7 @@ mutual
 abbrev EndsWell : Outcome → Type 0
 EndsWell o = HasReason o.stop × (o.calls ≡ [])
 
-ended_fine : {w : World} {names : List Name} {least : ℕ} (o : Evaluation Completion) → Fine w names least Any o → EndsWell (outcome_of_run o)
+ended_fine : {w : World} {names : List Name} {least : ℕ} (o : Evaluation Completion) → Fine w names least Any o → EndsWell (final_outcome (final_of_run o))
 ended_fine (Yields flow s) h = (tt, h.by.0.silent)
 ended_fine (StopsWith stop line s) h = h.by
 
@@ -313,7 +313,7 @@ ends_well : (statements : Block) → AllWork (variables_of statements) statement
     → EndsWell (meaning_of (program_of statements) text replies budget)
 ends_well statements h params replies budget = given (given_values [] params)
   where
-    given : (o : Option (List Scalar)) → EndsWell (with_given (record { replies = replies; budget = budget }) (program_of statements) o)
+    given : (o : Option (List Scalar)) → EndsWell (final_outcome (with_given (record { replies = replies; budget = budget }) (program_of statements) o))
     given None = (tt, refl)
     given (Some values) =
         let names : List Name = variables_of statements in

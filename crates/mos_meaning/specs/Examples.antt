@@ -69,6 +69,7 @@ until_two =
 abbrev pub with_parameter : Program
 with_parameter = record {
   names = codes "N" ∷ [];
+  declared = 1;
   defaults = One (Int (pos 7)) ∷ [];
   params = record { name = codes "N"; default = Int (pos 7) } ∷ [];
   bodies = [];

@@ -53,6 +53,7 @@ addto = record {
 abbrev pub example : Program
 example = record {
   names = codes "x" ∷ [];
+  declared = 1;
   defaults = One (Int (pos 0)) ∷ [];
   params = [];
   bodies = addto ∷ [];
@@ -76,6 +77,7 @@ endless_body = record {
 abbrev pub too_deep : Program
 too_deep = record {
   names = codes "x" ∷ [];
+  declared = 1;
   defaults = One (Int (pos 0)) ∷ [];
   params = [];
   bodies = endless_body ∷ [];

@@ -14,9 +14,10 @@ use Rattle.mos_value.specs.Values.{Value, One, SetOf}
 use Rattle.run_state.specs.Stops.{Outcome, Exited, Spent, Asking, Stuck}
 use Rattle.run_state.specs.State.{World}
 use Rattle.run_state.specs.HubFunctions.{send}
-use Rattle.bim_machine.specs.Courses.{start, outcome_at}
+use Rattle.bim_machine.specs.Machine.{Machine}
+use Rattle.bim_machine.specs.Courses.{start, outcome_at, machine_globals}
 use Rattle.mos_meaning.specs.Syntax.{Own, Model, number, truth, variable, index, Expression, sum_over, Arguments, no_argument, by_value, by_place, by_fresh, nothing_shown, shown_then, CoreStatement, no_statement, statement_then, assign, write, perform, tell_hub, Body, Program}
-use Rattle.mos_meaning.specs.Meaning.{meaning_of}
+use Rattle.mos_meaning.specs.Meaning.{meaning_of, globals_of}
 use Rattle.mos_meaning.specs.FormsToCome.{Wider, plain, load_local, store_local, refer_global, walk, step_to, call_routine, return, hub, wider_run}
 
 -- The model.
@@ -49,6 +50,7 @@ sets =
 abbrev pub replacing : Arguments → Program
 replacing argument = record {
   names = codes "some" ∷ codes "others" ∷ codes "fresh" ∷ [];
+  declared = 2;
   defaults = sets;
   params = [];
   bodies = replace ∷ [];
@@ -117,9 +119,13 @@ copy_image = record {
   code = [];
 }
 
--- what the machine is told of
+-- where the machine comes to
+abbrev pub copy_machine : World → Machine
+copy_machine w = wider_run copy_image (copy_main ++ copy_routine) w 200 (start (sets ++ One (Int (pos 0)) ∷ []))
+
+-- what is told of it
 abbrev pub copy_course : World → Outcome
-copy_course w = outcome_at (wider_run copy_image (copy_main ++ copy_routine) w 200 (start (sets ++ One (Int (pos 0)) ∷ [])))
+copy_course w = outcome_at (copy_machine w)
 
 -- Both sides.
 
@@ -154,6 +160,15 @@ CopyAgrees =
     × (copy_course (record { replies = reply.Lost ∷ []; budget = 11 }) ≡ copy_means (record { replies = reply.Lost ∷ []; budget = 11 }))
     × (copy_course (record { replies = []; budget = 100 }) ≡ copy_means (record { replies = []; budget = 100 }))
     × (copy_course (record { replies = reply.Flag true ∷ []; budget = 100 }) ≡ copy_means (record { replies = reply.Flag true ∷ []; budget = 100 }))
+
+-- out of ticks the model tells the variables that it declares, and the machine those behind them too: the fresh
+-- value and the index
+abbrev pub CopySpends : Type 0
+CopySpends =
+    (globals_of with_copy [] (reply.Lost ∷ []) 11
+    ≡ SetOf member.Integer (Int (pos 1) ∷ Int (pos 2) ∷ []) ∷ SetOf member.Integer (Int (pos 5) ∷ []) ∷ [])
+    × (machine_globals (copy_machine (record { replies = reply.Lost ∷ []; budget = 11 }))
+    ≡ globals_of with_copy [] (reply.Lost ∷ []) 11 ++ SetOf member.Integer (Int (pos 5) ∷ []) ∷ One (Int (pos 1)) ∷ [])
 
 -- where the set itself is passed, it is changed
 abbrev pub SomeMeans : Type 0

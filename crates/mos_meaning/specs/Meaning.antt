@@ -1,16 +1,16 @@
 -- The meaning of a model: what it writes, which calls it makes, how many ticks it takes and how it
 -- ends, given its parameter text, the replies to its calls and its budget of ticks.
 
-use Rattle.std.specs.Prelude.{ℕ, zero, suc, pos, Bool, true, false, not, ◌&&◌, List, [], ◌∷◌, ◌++◌, Option, Some, None, map, length, slice_get, if◌then◌else◌}
+use Rattle.std.specs.Prelude.{ℕ, zero, suc, pos, Bool, true, false, not, ◌&&◌, List, [], ◌∷◌, ◌++◌, Option, Some, None, map, take, length, slice_get, if◌then◌else◌}
 use Rattle.mos_text.specs.declared.fault_kind.FaultKind.TheVariants.{Depth}
 use Rattle.mos_text.specs.declared.scalar.Scalar.{Scalar}
 use Rattle.job_calls.specs.declared.reply.Reply.{Reply}
 use Rattle.mos_names.specs.NameLists.{Name, place_of}
 use Rattle.mos_value.specs.Values.{Value}
 use Rattle.run_state.specs.Stops.{Exited, Failed, Lost, Outcome}
-use Rattle.run_state.specs.State.{World, State, beginning, with_store, outcome_of, Evaluation, Yields, StopsWith, bind}
+use Rattle.run_state.specs.State.{World, State, beginning, with_store, Final, final_outcome, globals_at, Evaluation, Yields, StopsWith, bind}
 use Rattle.run_state.specs.Places.{Argument, ByValue, ByPlace, by_values, argument_places, store_inside, store_behind, most_calls}
-use Rattle.run_state.specs.Parameters.{Parameter, given_values, with_values, refused_outcome}
+use Rattle.run_state.specs.Parameters.{Parameter, given_values, with_values, refused_run}
 use Rattle.mos_meaning.specs.Syntax.{Own, Formal, Body, Program}
 use Rattle.mos_meaning.specs.Values.{Names, Env, Routine, place_in, load_result}
 use Rattle.mos_meaning.specs.Effects.{Completion, effects_of}
@@ -68,22 +68,31 @@ main_effect w program s = effects_of w (routines w program most_calls) (names_of
 
 -- the end of the text ends a model with code 0; outside a loop `break` and `next` go there, but no
 -- accepted model has them there
-abbrev pub outcome_of_run : Evaluation Completion → Outcome
-outcome_of_run (Yields flow s) = outcome_of (Exited (pos 0)) s
-outcome_of_run (StopsWith stop line s) = outcome_of stop s
+abbrev pub final_of_run : Evaluation Completion → Final
+final_of_run (Yields flow s) = record { stop = Exited (pos 0); state = s }
+final_of_run (StopsWith stop line s) = record { stop = stop; state = s }
 
 -- a run that begins with these values in the model's variables
-abbrev pub run_from : World → Program → Option (List Value) → Outcome
-run_from w program None = outcome_of Lost (beginning [])
-run_from w program (Some values) = outcome_of_run (main_effect w program (beginning values))
+abbrev pub run_from : World → Program → Option (List Value) → Final
+run_from w program None = record { stop = Lost; state = beginning [] }
+run_from w program (Some values) = final_of_run (main_effect w program (beginning values))
 
 -- what the parameter text gives goes over the defaults
-abbrev pub with_given : World → Program → Option (List Scalar) → Outcome
-with_given w program None = refused_outcome
+abbrev pub with_given : World → Program → Option (List Scalar) → Final
+with_given w program None = refused_run
 with_given w program (Some given) =
     run_from w program (with_values (map (λ (p : Parameter). place_of p.name program.names) program.params) given program.defaults)
 
+-- how a run stops, and its state then
+abbrev pub final_of : Program → List ℕ → List Reply → ℕ → Final
+final_of program text replies budget =
+    with_given (record { replies = replies; budget = budget }) program (given_values program.params text)
+
 -- the meaning
 abbrev pub meaning_of : Program → List ℕ → List Reply → ℕ → Outcome
-meaning_of program text replies budget =
-    with_given (record { replies = replies; budget = budget }) program (given_values program.params text)
+meaning_of program text replies budget = final_outcome (final_of program text replies budget)
+
+-- the values of the declared variables in their order, where the run is out of ticks; else there are none
+abbrev pub globals_of : Program → List ℕ → List Reply → ℕ → List Value
+globals_of program text replies budget =
+    let final : Final = final_of program text replies budget in take program.declared (globals_at final.stop final.state)

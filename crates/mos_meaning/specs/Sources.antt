@@ -194,6 +194,7 @@ zeros names = replicate (length names) (One (Int (pos 0)))
 abbrev pub program_of : Block → Program
 program_of statements = record {
   names = variables_of statements;
+  declared = length (variables_of statements);
   defaults = zeros (variables_of statements);
   params = [];
   bodies = [];

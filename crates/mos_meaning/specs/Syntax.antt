@@ -81,10 +81,12 @@ pub record Body : Type 0 where
   pub result : Option Name
   pub block : Block
 
--- a model: its variables in order, each with the value that it has before its first assignment; its
--- parameters, which are variables too; its routines by number; and its statements
+-- a model: its variables in order, each with the value that it has before its first assignment; how many of
+-- them its source declares, behind which stand those for fresh values; its parameters, which are variables
+-- too; its routines by number; and its statements
 pub record Program : Type 0 where
   pub names : List Name
+  pub declared : ℕ
   pub defaults : List Value
   pub params : List Parameter
   pub bodies : List Body

@@ -1,7 +1,7 @@
 //! Worked examples of the definitions: functions that do nothing, whose contracts are the examples.
 ghost use Rattle.mos_meaning.specs.Examples.{HelloMeans, HelloSpent, HelloRefused, FiveMeans, TooMuchMeans, LastWayMeans, ParameterMeans, DownMeans, DownSpent, DownEnough, EndlessSpent, UntilTwoMeans, HelloCourse, HelloCourseSpent, ParameterCourses, MeaninglessOperands, HelloFollows, TooFewLines, NoModel, AnotherSource};
 ghost use Rattle.mos_meaning.specs.FormsToCome.{ExampleMeans, ExampleAgrees, TooDeepMeans, TooDeepAgrees, EarlyIsStuck, OtherKindsAreLost, OtherArgumentsAreLost};
-ghost use Rattle.mos_meaning.specs.FreshSets.{CopyMeans, CopyAgrees, SomeMeans};
+ghost use Rattle.mos_meaning.specs.FreshSets.{CopyMeans, CopyAgrees, CopySpends, SomeMeans};
 
 /// What a few models mean.
 pub fn meanings()
@@ -45,10 +45,12 @@ pub fn forms_to_come()
 {}
 
 /// A model that passes a set as a fresh value to a routine that changes it, and sends a message: what
-/// it means, that the machine does the same, and what it means where the set itself is passed.
+/// it means, that the machine does the same, which globals are told, and what it means where the set
+/// itself is passed.
 pub fn fresh_sets()
     ensures means { CopyMeans }
     ensures agrees { CopyAgrees }
+    ensures spends { CopySpends }
     ensures shared { SomeMeans }
 {}
 

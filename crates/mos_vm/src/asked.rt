@@ -11,6 +11,13 @@ pub(crate) enum OwnStop {
     Sticks,
 }
 
+/// A slot of a frame; frame 0 is the model's.
+#[derive(Clone, Copy)]
+pub(crate) struct Place {
+    pub frame: u32,
+    pub slot: u32,
+}
+
 /// What an instruction asks for. The operands that it takes and gives are changed already.
 #[derive(Drop)]
 pub(crate) enum Asked {
@@ -19,8 +26,8 @@ pub(crate) enum Asked {
     /// To go on at the address that it names.
     Jumps,
     Stops(OwnStop),
-    /// To put a value into a global slot, then to go on.
-    Puts(u32, Value),
+    /// To put a value at a place, then to go on.
+    Puts(Place, Value),
     /// To write all that is held, then to go on.
     Prints,
     /// To take a tick, then to go on.

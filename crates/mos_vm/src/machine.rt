@@ -1,12 +1,13 @@
 //! The machine that carries out an image: what is at hand, values of global slots, output, ticks.
-ghost use Rattle.std.specs.Prelude.{◌≡◌, ℕ, IfOk};
-ghost use Rattle.bim_machine.specs.Machine.{stop_of as halted};
+ghost use Rattle.std.specs.Prelude.{◌≡◌, ℕ, [], ◌∷◌, IfOk};
+ghost use Rattle.bim_machine.specs.Instructions.{global};
+ghost use Rattle.bim_machine.specs.Machine.{Puts, stop_of as halted};
 ghost use Rattle.mos_vm.specs.Courses.{stop_of};
 ghost use Rattle.mos_vm.specs.Rows.{act_of, own_stop_of};
 ghost use Rattle.mos_vm.specs.declared.asked.Asked.TheVariants as asked;
 ghost use Rattle.mos_vm.specs.Stepping.{machine_with, Settles, IsStep, IsResultOf};
 
-use crate::asked::{Asked, OwnStop};
+use crate::asked::{Asked, OwnStop, Place};
 use crate::rows::carry_out;
 use crate::runner::RunResult;
 use crate::stop::{Control, Stop};
@@ -31,12 +32,14 @@ pub(crate) struct Machine {
 
 impl Model for Machine {
     ghost use Rattle.std.specs.Prelude.{[], ◌∷◌};
+    ghost use Rattle.bim_machine.specs.Courses.{main};
     ghost use Rattle.mos_vm.specs.Stepping.{MachineState};
 
     ghost Value = { MachineState };
 
     ghost view = { λ m. record {
       work = m.work;
+      here = main;
       state = record {
         memory = record { store = m.globals ∷ []; output = m.output.items };
         counts = record { calls = []; ticks = m.ticks };
@@ -100,22 +103,22 @@ impl Machine {
             Asked::On => Ok(Control::Goes),
             Asked::Jumps => Ok(Control::Jumps),
             Asked::Stops(halt) => Ok(Control::Halts(stop_by(halt))),
-            Asked::Puts(slot, value) => Ok(self.put(slot, value)),
+            Asked::Puts(place, value) => Ok(self.put(place, value)),
             Asked::Prints => self.print(),
             Asked::Ticks => Ok(self.tick(budget)),
         }
     }
 
-    /// Puts a value into a global slot.
-    fn put(&mut self, slot: u32, value: Value) -> Control
+    /// Puts a value at a place.
+    fn put(&mut self, place: Place, value: Value) -> Control
         ensures { (budget : ℕ)
-            → Settles budget (act_of (asked.Puts slot value) self.old.work)
+            → Settles budget (act_of (asked.Puts place value) self.old.work)
             self.old result self.new }
     {
-        if slot as usize >= self.globals.len() {
+        if self.globals.len() <= place.slot as usize || place.frame != 0 {
             return Control::Halts(Stop::Stuck);
         }
-        self.globals.set(slot as usize, value);
+        self.globals.set(place.slot as usize, value);
         Control::Goes
     }
 

@@ -1,11 +1,11 @@
 //! What each instruction does with the operands, and what it asks for then: a function a row.
-ghost use Rattle.std.specs.Prelude.{◌≡◌, [], IfOk};
+ghost use Rattle.std.specs.Prelude.{◌≡◌, [], ◌∷◌, IfOk};
 ghost use Rattle.bim_machine.specs.Machine.{Work as Hand};
 ghost use Rattle.bim_machine.specs.Instructions.{act_by_result, truth_of_operand, own_fault};
 ghost use Rattle.mos_vm.specs.Rows.{Asks, AsksAnywhere, blank, act_of, result_of};
 
 use crate::answers::{Answer, comparison, difference, printed_text, sum, text};
-use crate::asked::{Asked, OwnStop};
+use crate::asked::{Asked, OwnStop, Place};
 use crate::value::Value;
 use crate::work::Work;
 use bim_code::{Comparison, Image, Instruction};
@@ -21,7 +21,7 @@ pub(crate) fn carry_out(
     instruction: Instruction,
 ) -> Result<Asked, NoMemory>
     ensures { IfOk result
-        (λ asked. Asks image.now instruction globals.now work.old asked work.new) }
+        (λ asked. Asks image.now instruction [] (globals.now ∷ []) work.old asked work.new) }
 {
     match instruction {
         Instruction::Tick => Ok(Asked::Ticks),
@@ -99,7 +99,7 @@ fn push_text(
     constant: u32,
 ) -> Result<Asked, NoMemory>
     ensures { IfOk result
-        (λ asked. Asks image.now (Instruction.PushText constant) [] work.old asked work.new) }
+        (λ asked. Asks image.now (Instruction.PushText constant) [] [] work.old asked work.new) }
 {
     match sqlite_items::at(image.constants.as_slice(), constant as usize) {
         Some(found) => answered(work, text(found.copy(alloc)?)),
@@ -109,7 +109,8 @@ fn push_text(
 
 fn load(alloc: Global, work: &mut Work, globals: &[Value], slot: u32) -> Result<Asked, NoMemory>
     ensures { IfOk result
-        (λ asked. Asks blank (Instruction.LoadGlobal slot) globals.now work.old asked work.new) }
+        (λ asked. Asks blank (Instruction.LoadGlobal slot) [] (globals.now ∷ [])
+        work.old asked work.new) }
 {
     match sqlite_items::at(globals, slot as usize) {
         Some(value) => {
@@ -125,7 +126,7 @@ fn store(work: &mut Work, slot: u32) -> Asked
     ensures { AsksAnywhere (Instruction.StoreGlobal slot) work.old result work.new }
 {
     match work.pop() {
-        Some(value) => Asked::Puts(slot, value),
+        Some(value) => Asked::Puts(Place { frame: 0, slot }, value),
         None => Asked::Stops(OwnStop::Sticks),
     }
 }

@@ -1,9 +1,10 @@
 //! Carries out a whole image, and says what can be told of the run.
-ghost use Rattle.std.specs.Prelude.{◌<◌, ◌≤◌, ◌+◌, ◌*◌, ◌^◌, IfOk, length};
+ghost use Rattle.std.specs.Prelude.{◌<◌, ◌≤◌, ◌+◌, ◌*◌, ◌^◌, [], IfOk, length};
 ghost use Rattle.bim_code.specs.Code.{code_size};
 ghost use Rattle.bim_code.specs.Rules.{KeepsTicks};
 ghost use Rattle.mos_vm.specs.Courses.{IsCourse};
 ghost use Rattle.mos_vm.specs.Running.{IsOverInTime, IsRunOf, HasNoStep};
+ghost use Rattle.mos_vm.specs.Stepping.{world};
 
 use crate::code::{by_address, found_at, target};
 use crate::machine::Machine;
@@ -57,9 +58,9 @@ fn no_step(alloc: Global, stop: Stop) -> RunResult
 
 /// Carries out an image from its first instruction on.
 fn go(alloc: Global, image: &Image, budget: u32, machine: Machine) -> Result<RunResult, NoMemory>
-    requires over { IsOverInTime image.now budget machine }
+    requires over { IsOverInTime image.now (world [] budget) machine }
     requires small { code_size image.now.code < 2 ^ 30 }
-    ensures { IfOk result (λ ran. IsRunOf image.now budget machine ran) }
+    ensures { IfOk result (λ ran. IsRunOf image.now (world [] budget) machine ran) }
 {
     machine_laws();
     let code = by_address(alloc, image.code.as_slice())?;

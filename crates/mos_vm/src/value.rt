@@ -22,8 +22,8 @@ pub(crate) struct Value {
 enum Form {
     One(Scalar),
     /// Members, each once, in the order in which they were added.
-    SetOf(MemberType, Items<Scalar>),
-    ListOf(MemberType, Items<Scalar>),
+    SetOf(MemberType, mos_value::Items),
+    ListOf(MemberType, mos_value::Items),
     /// The integers from the first to the last.
     Range(i32, i32),
     /// The names and values of the fields of a record, in the order of its type.
@@ -55,7 +55,7 @@ impl Value {
         ensures { result ≡ SetOf member [] }
     {
         Value {
-            form: Form::SetOf(member, Items::new(alloc)),
+            form: Form::SetOf(member, mos_value::Items::new(alloc)),
         }
     }
 
@@ -64,7 +64,7 @@ impl Value {
         ensures { result ≡ ListOf member [] }
     {
         Value {
-            form: Form::ListOf(member, Items::new(alloc)),
+            form: Form::ListOf(member, mos_value::Items::new(alloc)),
         }
     }
 
@@ -149,12 +149,8 @@ impl Form {
     {
         match self {
             Form::One(value) => Ok(Form::One(value.copy(alloc)?)),
-            Form::SetOf(member, members) => {
-                Ok(Form::SetOf(*member, copies(alloc, members.as_slice())?))
-            }
-            Form::ListOf(member, items) => {
-                Ok(Form::ListOf(*member, copies(alloc, items.as_slice())?))
-            }
+            Form::SetOf(member, members) => Ok(Form::SetOf(*member, members.copy(alloc)?)),
+            Form::ListOf(member, items) => Ok(Form::ListOf(*member, items.copy(alloc)?)),
             Form::Range(first, last) => Ok(Form::Range(*first, *last)),
             Form::Fields(names, values) => fields_copy(alloc, names.as_slice(), values.as_slice()),
         }

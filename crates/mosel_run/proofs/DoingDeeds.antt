@@ -4,7 +4,7 @@ use Rattle.std.proofs.Common.{◌≡◌, ◌≤◌, ℕ, zero, suc, ◌+◌, Lis
 use Rattle.std.specs.Prelude.{slice_get}
 use Rattle.mos_text.specs.Content.{Files, put_file, lose_file, SameElsewhere}
 use Rattle.mos_text.specs.Faults.{Rose}
-use Rattle.mos_text.specs.SinkBytes.{appended, AppendedPart}
+use Rattle.mos_text.specs.SinkBytes.{bytes_after, AppendedPart}
 use Rattle.mos_text.specs.declared.folder.Stored.{Stored}
 use Rattle.mos_text.specs.declared.folder.Stored.TheVariants as stored
 use Rattle.mos_text.specs.declared.sink.Written.{Written}
@@ -95,12 +95,12 @@ stopped answer before after place cause deed status stops is by =
 
 -- how a text was written says how its deed was done
 pub written_so : (before after : Devices) (text : List ℕ) (how : Written) (cause : Option Cause) → IsWritten how cause
-    → (how ≡ written.Whole → after.sink.bytes ≡ appended before.sink.bytes text)
+    → (how ≡ written.Whole → after.sink.bytes ≡ bytes_after before.sink.bytes text)
     → AppendedPart before.sink.bytes after.sink.bytes text
     → (how ≡ written.Failed → Rose before.sink.faults after.sink.faults)
     → after.folder.content ≡ before.folder.content → IsDone (Write text) before after cause
 written_so before after text written.Whole cause is whole part failed same =
-    subst (IsDone (Write text) before after) (sym is) (same_held after.folder.content before.folder.content after.sink.bytes (appended before.sink.bytes text) same (whole refl))
+    subst (IsDone (Write text) before after) (sym is) (same_held after.folder.content before.folder.content after.sink.bytes (bytes_after before.sink.bytes text) same (whole refl))
 written_so before after text written.Failed cause is whole part failed same =
     subst (IsDone (Write text) before after) (sym is) (record { part = part; same_files = same }, failed refl)
 written_so before after text written.NoMemory cause is whole part failed same =

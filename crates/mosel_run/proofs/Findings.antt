@@ -3,7 +3,6 @@
 use Rattle.std.proofs.Common.{◌≡◌, ◌≢◌, ◌≤◌, ◌<◌, ℕ, Bool, true, false, List, [], ◌∷◌, length, Option, refl, sym, ap, subst, inl, inr, arith}
 use Rattle.std.specs.Prelude.{nat_le, if◌then◌else◌}
 use Rattle.std.proofs.lemmas.Bool.Decides.{nat_tests}
-use Rattle.std.proofs.lemmas.List.Elements.{All-head, All-tail}
 use Rattle.mos_text.specs.Content.{Files, Known, Unknown, Absent, Holds, known_of}
 use Rattle.mos_text.specs.Gets.{Answers}
 use Rattle.mos_text.specs.declared.folder.Got.TheVariants.{Bytes, Missing as NotThere, TooLarge as TooLong}
@@ -96,27 +95,27 @@ too_long_agrees content (file ∷ files) name (inl h) = found_too_long file (kno
 too_long_agrees content (file ∷ files) name (inr h) =
     found_lack file (known_of content file.name) h.0.0 (FirstTooLong name) (finding_of content files) tt h.0.1 (too_long_agrees content files name h.1)
 
--- where all is known, the finding is the one that agrees
+-- where all is known up to the first that cannot be had, the finding is the one that agrees
 known_behind : (held : List ℕ) (others : Finding) → others ≢ NotKnown → behind held others ≢ NotKnown
 known_behind held (AllThere rest) h = λ e. cc
 known_behind held (FirstAbsent name) h = λ e. cc
 known_behind held (FirstTooLong name) h = λ e. cc
 known_behind held NotKnown h = h
 
-known_with : (file : Wanted) (known : Known) (others : Finding) → known ≢ Unknown → others ≢ NotKnown → found_with file known others ≢ NotKnown
+known_with : (file : Wanted) (known : Known) (others : Finding) → known ≢ Unknown
+    → (((bytes : List ℕ) × Answers known file.limit (Bytes bytes)) → others ≢ NotKnown) → found_with file known others ≢ NotKnown
 known_with file Unknown others k h = absurd (k refl)
 known_with file Absent others k h = λ e. cc
-known_with file (Holds held) others k h = tested (nat_le (length held) file.limit)
+known_with file (Holds held) others k h = tested (nat_le (length held) file.limit) refl
   where
-    tested : (fit : Bool) → (if fit then behind held others else FirstTooLong file.name) ≢ NotKnown
-    tested true = known_behind held others h
-    tested false = λ e. cc
+    tested : (fit : Bool) → nat_le (length held) file.limit ≡ fit → (if fit then behind held others else FirstTooLong file.name) ≢ NotKnown
+    tested true e = let within : length held ≤ file.limit = grind (arith, nat_tests, e) in known_behind held others (h (held, (refl, within)))
+    tested false e = λ q. cc
 
 known_finding : (content : Option Files) (wanted : List Wanted) → AreKnown content wanted → finding_of content wanted ≢ NotKnown
 known_finding content [] h = λ e. cc
 known_finding content (file ∷ files) h =
-    known_with file (known_of content file.name) (finding_of content files) (All-head (λ (f : Wanted). known_of content f.name ≢ Unknown) file files h)
-    (known_finding content files (All-tail (λ (f : Wanted). known_of content f.name ≢ Unknown) file files h))
+    known_with file (known_of content file.name) (finding_of content files) h.0 (λ given. known_finding content files (h.1 given))
 
 agreed : (expected found : Finding) → found ≢ NotKnown → Agrees expected found → found ≡ expected
 agreed expected (AllThere sources) known h = sym h

@@ -24,7 +24,7 @@ Hides status = (status ≡ SinkFault) ⊎ ((name : List ℕ) × (status ≡ Fold
 abbrev pub Only : Status → Status → Type 0
 Only expected status = (status ≡ expected) ⊎ Hides status
 
--- the words are a command, of whose files all is known, and of which this holds
+-- the words are a command, of whose files all is known up to the first that cannot be had, and of which this holds
 abbrev pub Finds : List (List ℕ) → Option Files → (Command → Type 0) → Type 0
 Finds words content holds = (command : Command) × (command_of words ≡ Some command)
     × AreKnown content (wanted_of (request_of command)) × holds command

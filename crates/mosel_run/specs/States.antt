@@ -5,7 +5,7 @@ use Rattle.std.specs.List.{fold}
 use Rattle.mos_text.specs.Content.{Files, put_file}
 use Rattle.mos_text.specs.declared.folder.Folder.{Ghosts as FolderGhosts}
 use Rattle.mos_text.specs.declared.sink.Sink.{Ghosts as SinkGhosts}
-use Rattle.mos_text.specs.SinkBytes.{appended}
+use Rattle.mos_text.specs.SinkBytes.{bytes_after}
 use Rattle.mosel_run.specs.declared.answer.Deed.{Deed}
 use Rattle.mosel_run.specs.declared.answer.Deed.TheVariants.{Write, Store}
 
@@ -51,7 +51,7 @@ held_of d = record { content = d.folder.content; bytes = d.sink.bytes }
 
 -- when one deed more is done
 abbrev pub held_by : Held → Deed → Held
-held_by held (Write text) = record { content = held.content; bytes = appended held.bytes text }
+held_by held (Write text) = record { content = held.content; bytes = bytes_after held.bytes text }
 held_by held (Store put) = record { content = put_file held.content put.name put.bytes; bytes = held.bytes }
 
 -- when these are done, one after the other

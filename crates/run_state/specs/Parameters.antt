@@ -10,7 +10,8 @@ use Rattle.mos_names.specs.NameLists.{Name, place_of}
 use Rattle.mos_value.specs.Values.{Value, One}
 use Rattle.mos_value.specs.Numbers.{is_integer}
 use Rattle.mos_text.specs.declared.fault_kind.FaultKind.TheVariants.{BadParam}
-use Rattle.run_state.specs.Stops.{Outcome, Failed}
+use Rattle.run_state.specs.Stops.{Failed}
+use Rattle.run_state.specs.State.{Final, beginning}
 
 -- a parameter: its name, and the value that it has where no other is given; that is of its type
 pub record Parameter : Type 0 where
@@ -195,5 +196,5 @@ with_values (slot ∷ slots) (value ∷ values) frame =
     if nat_lt slot (length frame) then with_values slots values (slice_set frame slot (One value)) else None
 
 -- a run whose parameter text is refused does nothing
-abbrev pub refused_outcome : Outcome
-refused_outcome = record { output = []; calls = []; ticks = 0; stop = Failed BadParam }
+abbrev pub refused_run : Final
+refused_run = record { stop = Failed BadParam; state = beginning [] }

@@ -7,7 +7,7 @@ use Rattle.job_calls.specs.declared.call.Call.{Call}
 use Rattle.job_calls.specs.declared.reply.Reply.{Reply}
 use Rattle.mos_value.specs.Values.{Value}
 use Rattle.mos_value.specs.Answers.{Result, Gives, Faults, Sticks}
-use Rattle.run_state.specs.Stops.{Stop, Failed, Spent, Stuck, Outcome}
+use Rattle.run_state.specs.Stops.{Stop, Exited, Failed, Spent, Stopped, Asking, Stuck, Lost, Outcome}
 
 -- what a run is given from outside; it never changes
 pub record World : Type 0 where
@@ -52,6 +52,32 @@ outcome_of stop s = record {
   ticks = s.counts.ticks;
   stop = stop;
 }
+
+-- how a run stopped, and its state then
+pub record Final : Type 0 where
+  pub stop : Stop
+  pub state : State
+
+-- what is told of it
+abbrev pub final_outcome : Final → Outcome
+final_outcome final = outcome_of final.stop final.state
+
+-- the values in the model's frame, which has none behind it
+abbrev pub model_frame : List (List Value) → List Value
+model_frame [] = []
+model_frame (f ∷ []) = f
+model_frame (f ∷ g ∷ fs) = model_frame (g ∷ fs)
+
+-- the values in the model's frame at the moment at which a tick was needed and none was left; behind another
+-- stop none are told
+abbrev pub globals_at : Stop → State → List Value
+globals_at Spent s = model_frame s.memory.store
+globals_at (Exited code) s = []
+globals_at (Failed kind) s = []
+globals_at Stopped s = []
+globals_at (Asking call) s = []
+globals_at Stuck s = []
+globals_at Lost s = []
 
 -- What is done comes to a result, or stops the run.
 

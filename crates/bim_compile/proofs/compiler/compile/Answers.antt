@@ -16,10 +16,10 @@ use Rattle.mos_meaning.specs.Meaning.{meaning_of}
 use Rattle.mos_meaning.specs.Working.{NeverStuck, NeverLost, CallsNothing, TookFitting}
 use Rattle.bim_compile.specs.Compiled.{image_of}
 use Rattle.bim_compile.specs.InSize.{IsInSize, IsSmallBlock}
-use Rattle.bim_compile.specs.Means.{Means, NeverFails}
+use Rattle.bim_compile.specs.Means.{Means, KeepsGlobals, NeverFails}
 use Rattle.bim_compile.specs.Sizes.{size_of_block}
 use Rattle.bim_compile.proofs.BuiltModels.{block-built}
-use Rattle.bim_compile.proofs.CourseLemmas.{course_is_meaning}
+use Rattle.bim_compile.proofs.CourseLemmas.{course_is_meaning, keeps_globals}
 use Rattle.bim_compile.proofs.KeptRules.{keeps_rules}
 use Rattle.bim_compile.proofs.SizeLemmas.{fits_fields, code_within, few_instructions, texts_short_block}
 use Rattle.bim_compile.proofs.compiler.compile.Goals as goal
@@ -49,6 +49,17 @@ returns-clause-means c =
     (λ small.
     let in_size : IsInSize model = record { small = small; size = c.requires.can_compile.not_large } in
     course_is_meaning c.machine_laws.ensures.over_in_time c.machine_laws.ensures.stays_over model (block-built (variables_of model) model works)
+    (keeps_rules model works in_size).ticks (c.working_models.ensures.never_lost model works))
+    c.build.ensures.built c.build.ensures.small
+
+pub returns-clause-globals : goal.returns-clause-globals
+returns-clause-globals c =
+    let model = statements_of c.args.tree.now in
+    let works = c.requires.can_compile.works in
+    of_small (KeepsGlobals (program_of model)) model c.build.result
+    (λ small.
+    let in_size : IsInSize model = record { small = small; size = c.requires.can_compile.not_large } in
+    keeps_globals c.machine_laws.ensures.over_in_time c.machine_laws.ensures.stays_over model (block-built (variables_of model) model works)
     (keeps_rules model works in_size).ticks (c.working_models.ensures.never_lost model works))
     c.build.ensures.built c.build.ensures.small
 

@@ -9,19 +9,19 @@ use Rattle.bim_compile.proofs.statements.+emits.Given as goal
 abbrev pub invariant-emit_arms-loop-arm : goal.invariant-emit_arms-loop-arm
 invariant-emit_arms-loop-arm l =
     let rest = arms_of (drop l.arm-index l.arm-items) l.otherwise in
-    let part = arms_part l.names l.end l.targets rest in
+    let part = arms_part l.context l.end l.targets rest in
     record {
       built : AreBuiltArms rest;
-      room : HasRoom l.names part l.draft;
-      emits : StillEmits part l.draft (arms_part l.names l.end l.targets (arms_in (core_of l.statement))) l.initial.draft;
+      room : HasRoom l.context part l.draft;
+      emits : StillEmits part l.draft (arms_part l.context l.end l.targets (arms_in (core_of l.statement))) l.initial.draft;
     }
 
 abbrev pub invariant-emit_block-loop-statement : goal.invariant-emit_block-loop-statement
 invariant-emit_block-loop-statement l =
     let rest = block_of (drop l.statement-index l.all) in
-    let part = block_part l.names l.targets rest in
+    let part = block_part l.context l.targets rest in
     record {
       built : IsBuiltBlock rest;
-      room : HasRoom l.names part l.draft;
-      emits : StillEmits part l.draft (block_part l.names l.targets (block_of l.all)) l.initial.draft;
+      room : HasRoom l.context part l.draft;
+      emits : StillEmits part l.draft (block_part l.context l.targets (block_of l.all)) l.initial.draft;
     }

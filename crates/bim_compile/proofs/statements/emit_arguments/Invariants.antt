@@ -9,9 +9,9 @@ use Rattle.bim_compile.proofs.statements.emit_arguments.Given as goal
 abbrev pub invariant-loop-written : goal.invariant-loop-written
 invariant-loop-written l =
     let rest = shown_of (map expression (drop l.written-index l.all)) in
-    let part = arguments_part l.names l.line rest in
+    let part = arguments_part l.context l.line rest in
     record {
       built : AreBuilt rest;
-      room : HasRoom l.names part l.draft;
-      emits : StillEmits part l.draft (arguments_part l.names l.line (shown_of (map expression l.all))) l.initial.draft;
+      room : HasRoom l.context part l.draft;
+      emits : StillEmits part l.draft (arguments_part l.context l.line (shown_of (map expression l.all))) l.initial.draft;
     }

@@ -9,9 +9,9 @@ use Rattle.bim_compile.proofs.statements.emit_tops.Given as goal
 abbrev pub invariant-loop-top : goal.invariant-loop-top
 invariant-loop-top l =
     let rest = block (map core_of_top (drop l.top-index l.tops)) in
-    let part = block_part l.names l.targets rest in
+    let part = block_part l.context l.targets rest in
     record {
       built : IsBuiltBlock rest;
-      room : HasRoom l.names part l.draft;
-      emits : StillEmits part l.draft (block_part l.names l.targets (block (map core_of_top l.tops))) l.initial.draft;
+      room : HasRoom l.context part l.draft;
+      emits : StillEmits part l.draft (block_part l.context l.targets (block (map core_of_top l.tops))) l.initial.draft;
     }

@@ -7,6 +7,7 @@ returns c = record {
   two = refl;
   source_of_master = refl;
   source_of_child = refl;
+  source_of_unloaded = refl;
   params_of_master = refl;
   params_of_child = refl;
   calls_of_master = refl;

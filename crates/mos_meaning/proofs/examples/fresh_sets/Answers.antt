@@ -5,4 +5,4 @@ use Rattle.mos_meaning.proofs.examples.fresh_sets.Goals as goal
 
 pub returns : goal.returns
 unfolding digits
-returns c = record { means = refl; agrees = (refl, refl, refl, refl); shared = refl }
+returns c = record { means = refl; agrees = (refl, refl, refl, refl); spends = (refl, refl); shared = refl }

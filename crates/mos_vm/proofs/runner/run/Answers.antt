@@ -1,5 +1,5 @@
 -- by the laws of the machine
-use Rattle.std.proofs.Common.{sym, subst}
+use Rattle.std.proofs.Common.{[], sym, subst}
 use Rattle.std.proofs.lemmas.Result.{IfOk-weaker}
 use Rattle.mos_vm.specs.Running.{IsOverInTime}
 use Rattle.mos_vm.specs.Stepping.{world}
@@ -8,8 +8,8 @@ use Rattle.mos_vm.proofs.runner.run.Goals as goal
 
 pub go-requires-clause-over : goal.go-requires-clause-over
 go-requires-clause-over c =
-    subst (IsOverInTime c.args.image.now c.args.budget) (sym c.begin.ensures)
-    (c.machine_laws.ensures.over_in_time c.args.image.now (world c.args.budget) c.in-Begins.values c.requires.keeps)
+    subst (IsOverInTime c.args.image.now (world [] c.args.budget)) (sym c.begin.ensures)
+    (c.machine_laws.ensures.over_in_time c.args.image.now (world [] c.args.budget) c.in-Begins.values c.requires.keeps)
 
 pub returns-in-Begins-clause-ticks : goal.returns-in-Begins-clause-ticks
 returns-in-Begins-clause-ticks c =

@@ -1,6 +1,6 @@
 -- the text is written, in whole or in part
 use Rattle.std.proofs.Common.{◌≡◌, ℕ, List, refl, sym, subst}
-use Rattle.mos_text.specs.SinkBytes.{appended, AppendedPart}
+use Rattle.mos_text.specs.SinkBytes.{bytes_after, AppendedPart}
 use Rattle.mosel_run.specs.declared.answer.Deed.{Deed}
 use Rattle.mosel_run.specs.Doing.{IsDone}
 use Rattle.mosel_run.specs.States.{states}
@@ -14,6 +14,6 @@ returns-in-Write-clause-deed g c =
     let bytes = g.K.Sink.bytes c.args.sink.now in
     subst (λ (deed : Deed). IsDone deed before after c.cause_of_write.result) (sym c.in-Write.is)
     (written_so before after c.in-Write.text c.write_whole.result c.cause_of_write.result c.cause_of_write.ensures
-    (λ whole. subst (λ (text : List ℕ). g.K.Sink.bytes c.write_whole.new.sink ≡ appended bytes text) c.as_bytes.ensures (c.write_whole.ensures.whole whole))
+    (λ whole. subst (λ (text : List ℕ). g.K.Sink.bytes c.write_whole.new.sink ≡ bytes_after bytes text) c.as_bytes.ensures (c.write_whole.ensures.whole whole))
     (subst (AppendedPart bytes (g.K.Sink.bytes c.write_whole.new.sink)) c.as_bytes.ensures c.write_whole.ensures.part)
     c.write_whole.ensures.failed refl)

@@ -1,5 +1,5 @@
 -- the new journal is legal
-use Rattle.std.proofs.Common.{arith}
+use Rattle.std.proofs.Common.{arith, rules}
 use Rattle.hub_core.proofs.Pushed.{pushed}
 use Rattle.hub_core.proofs.hub.Hub.put.Goals as goal
 
@@ -11,7 +11,14 @@ invariant_of-self c =
     pushed c.grows.ensures _ _ c.self.inside.entries.items c.push.new.self.items _ c.args.lane c.args.run c.args.call c.args.reply c.in-Ok.again
     c.self.view_is c.self.invariant c.requires.fit c.requires.answer c.in-Ok.ensures.same c.push.ensures.items
 
-pub returns-clause-legal : goal.returns-clause-legal
-returns-clause-legal c =
-    pushed c.grows.ensures _ _ c.self.inside.entries.items c.push.new.self.items _ c.args.lane c.args.run c.args.call c.args.reply c.in-Ok.again
-    c.self.view_is c.self.invariant c.requires.fit c.requires.answer c.in-Ok.ensures.same c.push.ensures.items
+pub returns-clause-serves : goal.returns-clause-serves
+returns-clause-serves c = record {
+  answered = search rules;
+  put = search rules;
+  place = search rules;
+  held = search rules;
+  stays = search rules;
+  legal = invariant_of-self c;
+  spare = search rules;
+  kept = search rules;
+}
