@@ -1,5 +1,5 @@
 -- what an index says of its items, and of those after one more went behind them
-use Rattle.std.proofs.Common.{◌≡◌, ℤ, pos, ◌+ℤ◌, Bool, true, false, ◌||◌, List, [], ◌∷◌, ◌++◌, map, refl, ap, sym, subst, ◌∙◌, arith, if◌then◌else◌}
+use Rattle.std.proofs.Common.{◌≡◌, ℤ, pos, ◌+ℤ◌, Bool, true, false, ◌||◌, List, [], ◌∷◌, ◌++◌, map, filter, cond, refl, ap, sym, subst, ◌∙◌, arith, if◌then◌else◌}
 use Rattle.std.specs.Prelude.{◌≤ℤ◌, ◌↔◌, IsTrue, String, string_bytes}
 use Rattle.std.specs.List.{list_any, AllZip}
 use Rattle.std.proofs.lemmas.Int.{ints}
@@ -31,6 +31,16 @@ module _ {K : Type 0} (said : K → Scalar) where
       by : (known : Bool) → map said (if known then keys else keys ++ k ∷ []) ≡ (if known then map said keys else map said keys ++ said k ∷ [])
       by true = refl
       by false = map-append said keys (k ∷ [])
+
+-- what is kept of the items is what is kept of the keys
+pub filter-map : {K : Type 0} (said : K → Scalar) (p : Scalar → Bool) (keys : List K) → map said (filter (λ k. p (said k)) keys) ≡ filter p (map said keys)
+filter-map said p [] = refl
+filter-map said p (k ∷ keys) = by (p (said k)) (filter-map said p keys)
+  where
+    by : (is : Bool) → map said (filter (λ y. p (said y)) keys) ≡ filter p (map said keys)
+        → map said (cond is (k ∷ filter (λ y. p (said y)) keys) (filter (λ y. p (said y)) keys)) ≡ cond is (said k ∷ filter p (map said keys)) (filter p (map said keys))
+    by true same = ap (λ rest. said k ∷ rest) same
+    by false same = same
 
 -- what is added to a set that lacks it stands behind
 pub grows-with : (before made after : List Scalar) (x : Scalar) → made ≡ with_member before x → GrowsBy before x after → made ≡ after

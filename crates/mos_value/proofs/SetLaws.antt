@@ -91,7 +91,7 @@ has-filter p x members =
     any-filter_same (is_same x) p (p x) (λ y e. ap p (sym (same_is x y e))) members
     ∙ and_turned (p x) (has_member x members)
 
-IsSet-filter : (p : Scalar → Bool) (members : List Scalar) → IsSet members → IsSet (filter p members)
+pub IsSet-filter : (p : Scalar → Bool) (members : List Scalar) → IsSet members → IsSet (filter p members)
 IsSet-filter p [] once = once
 IsSet-filter p (x ∷ members) once = by (p x) (IsSet-filter p members once.1)
   where

@@ -1,6 +1,6 @@
 -- What an index beside the items of a collection says of them.
 
-use Rattle.std.specs.Prelude.{◌≡◌, false, ℤ, ◌≤ℤ◌, List, [], ◌∷◌, ◌++◌, Bool, Option, IfSome, ⊤, map, String, string_bytes}
+use Rattle.std.specs.Prelude.{◌≡◌, false, not, if◌then◌else◌, filter, ℤ, ◌≤ℤ◌, List, [], ◌∷◌, ◌++◌, Bool, Option, IfSome, ⊤, map, String, string_bytes}
 use Rattle.mos_text.specs.declared.scalar.Scalar.{Scalar}
 use Rattle.mos_text.specs.declared.scalar.Scalar.TheVariants.{Int, Str}
 use Rattle.mos_value.specs.Ranges.{range_members}
@@ -35,3 +35,7 @@ Tells index x told = (items : List Scalar) → IsIndexOf index items → IfSome 
 -- the index before goes over into one of these items, where the scalar is the one more behind those before
 abbrev pub Follows : Index → Scalar → (more : List Scalar) → Index → Type 0
 Follows before x more after = (items : List Scalar) → IsIndexOf before items → GrowsBy items x more → IsIndexOf after more
+
+-- the items that the others have, or those that they lack
+abbrev pub kept : Bool → (others : List Scalar) → List Scalar → List Scalar
+kept are others items = filter (λ x. if are then has_member x others else not (has_member x others)) items

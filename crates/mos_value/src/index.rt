@@ -3,12 +3,12 @@ ghost use Rattle.std.specs.Prelude.{◌≡◌, ◌+ℤ◌, pos, List, [], ◌∷
 ghost use Rattle.std.specs.Bool.{OnTrue};
 ghost use Rattle.mos_text.specs.declared.scalar.Scalar.{Scalar};
 ghost use Rattle.mos_text.specs.declared.scalar.Scalar.TheVariants.{Int, Str};
-ghost use Rattle.mos_value.specs.Indexes.{IsIndexOf, GrowsBy, Tells, Follows, integers, texts as texts_of};
+ghost use Rattle.mos_value.specs.Indexes.{IsIndexOf, GrowsBy, Tells, Follows, kept, integers, texts as texts_of};
 ghost use Rattle.mos_value.specs.Ranges.{range_members};
 ghost use Rattle.mos_value.specs.Sets.{IsSet, with_member};
 ghost use Rattle.mos_value.specs.declared.index.Index.TheVariants.{Run};
 
-use crate::range_has;
+use crate::{Items, range_has};
 use indexmap::IndexSet;
 use mos_text::{Scalar, Text, let_go};
 use std::alloc::Global;
@@ -101,6 +101,22 @@ impl Index {
                 Index::Searched
             }
             Index::Run(_, _) | Index::Searched => Index::Searched,
+        }
+    }
+
+    /// An index of the items that were kept.
+    pub(crate) fn kept(self, alloc: Global, others: &Items, are: bool, left: &[Scalar]) -> Index
+        ensures { (items : List Scalar) → IsIndexOf self items → left.now ≡ kept are others.now items → IsIndexOf result left.now }
+    {
+        match self {
+            Index::Empty => Index::Empty,
+            Index::Run(_, _) => integers_of(alloc, left),
+            Index::Integers(numbers) => integers_kept(numbers, others, are),
+            Index::Texts(texts) => {
+                let_go(texts);
+                Index::Searched
+            }
+            Index::Searched => Index::Searched,
         }
     }
 
@@ -197,6 +213,14 @@ fn integers_with(mut numbers: Box<IndexSet<i32>>, number: i32) -> Index
         let_go(numbers);
         Index::Searched
     }
+}
+
+/// An index of the integers that the others have, or of those that they lack.
+fn integers_kept(mut numbers: Box<IndexSet<i32>>, others: &Items, are: bool) -> Index
+    ensures { IsIndexOf result (kept are others.now (integers numbers.value.keys)) }
+{
+    numbers.retain(|number| others.agrees(&Scalar::Int(*number), are));
+    Index::Integers(numbers)
 }
 
 /// Notes a text among others; it tells whether memory was there for it.

@@ -1,7 +1,8 @@
 //! The items of a set or list.
-ghost use Rattle.std.specs.Prelude.{◌≡◌, [], ◌∷◌, ◌++◌, ◌↔◌, ◌≤◌, IsTrue, IfOk, length, take};
+ghost use Rattle.std.specs.Prelude.{◌≡◌, [], ◌∷◌, ◌++◌, ◌↔◌, ◌≤◌, not, if◌then◌else◌, IsTrue, IfOk, length, take};
 ghost use Rattle.mos_value.specs.Collections.{collection_limit, collection_of};
 ghost use Rattle.mos_value.specs.UpToMemory.{Becomes};
+ghost use Rattle.mos_value.specs.Indexes.{kept};
 ghost use Rattle.mos_value.specs.Ranges.{range_members};
 ghost use Rattle.mos_value.specs.Sets.{has_member, with_member, inter, minus};
 ghost use Rattle.std.specs.List.{list_all};
@@ -113,8 +114,7 @@ impl Items {
         ensures kept { self.new ≡ inter self.old others.now }
         ensures limited { length self.new ≤ collection_limit }
     {
-        self.index = Index::Searched;
-        self.scalars.retain(|item| others.has(item));
+        self.keep(others, true);
     }
 
     /// Keeps the items that the others lack.
@@ -122,8 +122,25 @@ impl Items {
         ensures kept { self.new ≡ minus self.old others.now }
         ensures limited { length self.new ≤ collection_limit }
     {
-        self.index = Index::Searched;
-        self.scalars.retain(|item| !others.has(item));
+        self.keep(others, false);
+    }
+
+    /// Keeps the items that the others have, or those that they lack.
+    fn keep(&mut self, others: &Items, are: bool)
+        ensures kept { self.new ≡ kept are others.now self.old }
+        ensures limited { length self.new ≤ collection_limit }
+    {
+        self.scalars.retain(|item| others.agrees(item, are));
+        let alloc = *self.scalars.allocator();
+        let index = replace(&mut self.index, Index::Searched);
+        self.index = index.kept(alloc, others, are, self.scalars.as_slice());
+    }
+
+    /// Whether the scalar is one of these, or whether it is none of them.
+    pub(crate) fn agrees(&self, x: &Scalar, is: bool) -> bool
+        ensures { result ≡ (if is then has_member x.now self.now else not (has_member x.now self.now)) }
+    {
+        if is { self.has(x) } else { !self.has(x) }
     }
 
     /// A copy of these, or that memory is wanting.

@@ -60,8 +60,8 @@ fn add_each(alloc: Global, to: &mut Items, other: &Items) -> Result<(), ValueFau
     Ok(())
 }
 
-/// `-=` on a set: the members that the other has are taken out. It takes no memory, and the others
-/// keep their order.
+/// `-=` on a set: the members that the other has are taken out, and the others keep their order. It is
+/// never refused.
 pub fn take_from_set(to: &mut Items, other: &Items) -> Result<(), ValueFault>
     ensures becomes { Becomes to.old to.new result (minus_of to.old other.now) }
     ensures done { IsOk result }
