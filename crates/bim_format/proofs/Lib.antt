@@ -1,0 +1,5 @@
+mod PrefixCodes
+mod Entries
+mod Instructions
+mod Images
+mod Ranges

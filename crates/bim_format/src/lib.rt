@@ -2,5 +2,6 @@
 #![tactic(auto)]
 
 mod image_writer;
+pub mod laws;
 
 pub use image_writer::write_image;
