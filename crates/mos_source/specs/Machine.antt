@@ -230,6 +230,13 @@ closed_statement line form (frame_kind.IfArm first arms at condition body) = Som
 closed_statement line form (frame_kind.IfElse first arms body) = Some (part.Statement (statement_kind.If first arms body))
 closed_statement line form frame = closed_block line form frame
 
+-- the block of rows that is closed, or the statement
+abbrev pub closed_rows : ℕ → Form → Frame → Option Part
+closed_rows line form (frame_kind.Parameters at xs) = Some (part.Top (top.Parameters at xs))
+closed_rows line form (frame_kind.Declarations at xs) = Some (part.Declared (record { line = at; items = xs }))
+closed_rows line form (frame_kind.Record at name xs) = Some (part.Record (item_kind.Record at name xs))
+closed_rows line form frame = closed_statement line form frame
+
 -- the model that is closed
 abbrev pub closed_model : ℕ → ModelName → List Head → List Top → Part
 closed_model line name heads tops = part.Source (record { line = line; name = name; heads = heads; tops = tops })
@@ -238,11 +245,8 @@ closed_model line name heads tops = part.Source (record { line = line; name = na
 abbrev pub closed_by : ℕ → Form → Frame → Option Part
 closed_by line form (frame_kind.Heads at name heads) = Some (closed_model at name heads [])
 closed_by line form (frame_kind.Tops at name heads tops) = Some (closed_model at name heads tops)
-closed_by line form (frame_kind.Parameters at xs) = Some (part.Top (top.Parameters at xs))
-closed_by line form (frame_kind.Declarations at xs) = Some (part.Declared (record { line = at; items = xs }))
-closed_by line form (frame_kind.Record at name xs) = Some (part.Record (item_kind.Record at name xs))
 closed_by line form (frame_kind.Routine heading xs) = Some (part.Top (top.Routine (record { heading = heading; parts = xs })))
-closed_by line form frame = closed_statement line form frame
+closed_by line form frame = closed_rows line form frame
 
 -- ---- the block round it
 

@@ -22,12 +22,19 @@ fn first_top(
 ) -> Result<Frame, NoMemory>
     ensures { IfOk result (λ frame. frame ≡ spec.first_top line name heads top) }
 {
-    Ok(Frame::Tops {
-        line,
-        name,
-        heads,
-        tops: one_more(Items::new(alloc), top)?,
-    })
+    match one_more(Items::new(alloc), top) {
+        Ok(tops) => Ok(Frame::Tops {
+            line,
+            name,
+            heads,
+            tops,
+        }),
+        Err(refused) => {
+            let_go(name);
+            let_go(heads);
+            Err(refused)
+        }
+    }
 }
 
 fn next_top(
@@ -39,12 +46,19 @@ fn next_top(
 ) -> Result<Frame, NoMemory>
     ensures { IfOk result (λ frame. frame ≡ spec.next_top line name heads tops top) }
 {
-    Ok(Frame::Tops {
-        line,
-        name,
-        heads,
-        tops: one_more(tops, top)?,
-    })
+    match one_more(tops, top) {
+        Ok(tops) => Ok(Frame::Tops {
+            line,
+            name,
+            heads,
+            tops,
+        }),
+        Err(refused) => {
+            let_go(name);
+            let_go(heads);
+            Err(refused)
+        }
+    }
 }
 
 fn next_part(
@@ -54,10 +68,13 @@ fn next_part(
 ) -> Result<Frame, NoMemory>
     ensures { IfOk result (λ frame. frame ≡ spec.next_part heading parts part) }
 {
-    Ok(Frame::Routine {
-        heading,
-        parts: one_more(parts, part)?,
-    })
+    match one_more(parts, part) {
+        Ok(parts) => Ok(Frame::Routine { heading, parts }),
+        Err(refused) => {
+            let_go(heading);
+            Err(refused)
+        }
+    }
 }
 
 /// A model with one part more.
@@ -161,6 +178,25 @@ fn if_arm_with(
     }
 }
 
+/// The `else` of an `if` with one statement more.
+fn if_else_with(
+    first: u32,
+    arms: Items<Arm<Statement>>,
+    body: Items<Statement>,
+    statement: Statement,
+) -> Result<Frame, NoMemory>
+    ensures { IfOk result (λ frame. frame
+        ≡ spec.with_block_statement statement (Frame.IfElse first arms body)) }
+{
+    match one_more(body, statement) {
+        Ok(body) => Ok(Frame::IfElse { first, arms, body }),
+        Err(refused) => {
+            let_go(arms);
+            Err(refused)
+        }
+    }
+}
+
 /// The `else` of a `case` with one statement more.
 fn case_else_with(
     line: u32,
@@ -196,11 +232,7 @@ fn with_block_statement(
     ensures { IfOk result (λ next. next ≡ spec.with_block_statement statement frame) }
 {
     match frame {
-        Frame::IfElse { first, arms, body } => Ok(Frame::IfElse {
-            first,
-            arms,
-            body: one_more(body, statement)?,
-        }),
+        Frame::IfElse { first, arms, body } => if_else_with(first, arms, body, statement),
         Frame::CaseElse {
             line,
             value,

@@ -1,5 +1,5 @@
 //! What a block is that is closed.
-ghost use Rattle.std.specs.Prelude.{◌≡◌, IfOk};
+ghost use Rattle.std.specs.Prelude.{◌≡◌, [], IfOk};
 ghost use Rattle.mos_source.specs.Machine as spec;
 
 use crate::frame::{Frame, Part};
@@ -144,6 +144,41 @@ fn closed_model(line: u32, name: ModelName, heads: Items<Head>, tops: Items<Top>
     })
 }
 
+/// The model that is closed behind its heads.
+fn closed_heads(alloc: Global, line: u32, name: ModelName, heads: Items<Head>) -> Part
+    ensures { result ≡ spec.closed_model line name heads [] }
+{
+    closed_model(line, name, heads, Items::new(alloc))
+}
+
+/// The block of rows that is closed, or the statement.
+fn closed_rows(alloc: Global, line: u32, form: Form, frame: Frame) -> Result<Option<Part>, NoMemory>
+    ensures { IfOk result (λ part. part ≡ spec.closed_rows line form frame) }
+{
+    match frame {
+        Frame::Parameters {
+            line: at,
+            parameters,
+        } => Ok(Some(Part::Top(Top::Parameters {
+            line: at,
+            parameters,
+        }))),
+        Frame::Declarations { line: at, items } => {
+            Ok(Some(Part::Declared(Declared { line: at, items })))
+        }
+        Frame::Record {
+            line: at,
+            name,
+            fields,
+        } => Ok(Some(Part::Record(Item::Record {
+            line: at,
+            name,
+            fields,
+        }))),
+        other => closed_statement(alloc, line, form, other),
+    }
+}
+
 /// What the block is that the piece closes.
 pub(crate) fn closed_by(
     alloc: Global,
@@ -153,37 +188,21 @@ pub(crate) fn closed_by(
 ) -> Result<Option<Part>, NoMemory>
     ensures { IfOk result (λ part. part ≡ spec.closed_by line form frame) }
 {
-    let part = match frame {
+    match frame {
         Frame::Heads {
             line: at,
             name,
             heads,
-        } => closed_model(at, name, heads, Items::new(alloc)),
+        } => Ok(Some(closed_heads(alloc, at, name, heads))),
         Frame::Tops {
             line: at,
             name,
             heads,
             tops,
-        } => closed_model(at, name, heads, tops),
-        Frame::Parameters {
-            line: at,
-            parameters,
-        } => Part::Top(Top::Parameters {
-            line: at,
-            parameters,
-        }),
-        Frame::Declarations { line: at, items } => Part::Declared(Declared { line: at, items }),
-        Frame::Record {
-            line: at,
-            name,
-            fields,
-        } => Part::Record(Item::Record {
-            line: at,
-            name,
-            fields,
-        }),
-        Frame::Routine { heading, parts } => Part::Top(Top::Routine(Routine { heading, parts })),
-        other => return closed_statement(alloc, line, form, other),
-    };
-    Ok(Some(part))
+        } => Ok(Some(closed_model(at, name, heads, tops))),
+        Frame::Routine { heading, parts } => {
+            Ok(Some(Part::Top(Top::Routine(Routine { heading, parts }))))
+        }
+        other => closed_rows(alloc, line, form, other),
+    }
 }

@@ -6,8 +6,8 @@ use crate::frame::Frame;
 use crate::growing::{more, one_more};
 use mos_text::{NoMemory, SourceText, let_go};
 use mos_tree::{
-    Alternative, Arm, Direction, Expr, FieldGroup, Form, Head, Item, Label, LabelGroup, Parameter,
-    Statement,
+    Alternative, Arm, Direction, Expr, FieldGroup, Form, Head, Item, Label, LabelGroup, ModelName,
+    Parameter, Statement,
 };
 use sqlite_items::Items;
 use std::alloc::Global;
@@ -87,6 +87,42 @@ fn row_of(alloc: Global, line: u32, form: Form) -> Result<Option<LabelGroup>, No
         other => {
             let_go(other);
             Ok(None)
+        }
+    }
+}
+
+/// A model with a head more.
+fn with_head(
+    line: u32,
+    name: ModelName,
+    heads: Items<Head>,
+    head: Option<Head>,
+) -> Result<Frame, NoMemory>
+    ensures { IfOk result (λ frame. frame ≡ Frame.Heads line name (spec.more heads head)) }
+{
+    match more(heads, head) {
+        Ok(heads) => Ok(Frame::Heads { line, name, heads }),
+        Err(refused) => {
+            let_go(name);
+            Err(refused)
+        }
+    }
+}
+
+/// A record with a group of fields more.
+fn with_field(
+    line: u32,
+    name: SourceText,
+    fields: Items<FieldGroup>,
+    field: Option<FieldGroup>,
+) -> Result<Frame, NoMemory>
+    ensures { IfOk result (λ frame. frame ≡ Frame.Record line name (spec.more fields field)) }
+{
+    match more(fields, field) {
+        Ok(fields) => Ok(Frame::Record { line, name, fields }),
+        Err(refused) => {
+            let_go(name);
+            Err(refused)
         }
     }
 }
@@ -259,11 +295,7 @@ pub(crate) fn continued_by(
             line: at,
             name,
             heads,
-        } => Ok(Frame::Heads {
-            line: at,
-            name,
-            heads: more(heads, head_of(line, form))?,
-        }),
+        } => with_head(at, name, heads, head_of(line, form)),
         Frame::Parameters {
             line: at,
             parameters,
@@ -279,11 +311,7 @@ pub(crate) fn continued_by(
             line: at,
             name,
             fields,
-        } => Ok(Frame::Record {
-            line: at,
-            name,
-            fields: more(fields, field_of(line, form))?,
-        }),
+        } => with_field(at, name, fields, field_of(line, form)),
         other => continued_statement(alloc, line, form, other),
     }
 }
