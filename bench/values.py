@@ -1,7 +1,7 @@
 #!/usr/bin/env python3
 """Times sets that grow by one member at a time and are asked for each, here, in Lua and in Python:  python3 bench/values.py PROGRAM
 
-PROGRAM is the built program of crates/tests_value (`rt run` there leaves it in out/). Each is run three times, by turns, and the
+PROGRAM is the built program of crates/tests_calls (`rt run` there leaves it in out/). Each is run three times, by turns, and the
 least time counts, without what the same words take for a set of no members. A row has nanoseconds a member, built and asked,
 and the ratio to the quicker of the two peers. A peer that is not installed is left out.
 """
@@ -37,7 +37,7 @@ def filled(program, key, size):
 def commands(program, subject, size):
     """Each peer's words, and what it reads."""
     in_lua, in_python = KEYS[subject]
-    found = {"mosel": ([program], f"{subject} 0..{size}\n".encode())}
+    found = {"mosel": ([program], f"value {subject} 0..{size}\n".encode())}
     if shutil.which("lua5.4"):
         found["lua5.4"] = (["lua5.4", "-e", filled(LUA, in_lua, size)], b"")
     found["python3"] = ([sys.executable, "-c", filled(PYTHON, in_python, size)], b"")

@@ -3,34 +3,34 @@
 
     python3 tests/refusals_of_memory.py
 
-Run by hand, with the kit's `rt`: for each number N the program of crates/tests_value is tried, unproved, with its Nth allocation
-refused. A line that it prints is the operator's answer, or says that memory was wanting and shows the operand as it was; where
-the program itself lacks memory for a line, it ends there. The numbers go up until nothing is refused any more. That refusals
-change nothing is proved; this shows it run.
+Run by hand, with the kit's `rt`: for each number N the program of crates/tests_calls is tried, unproved, with its Nth allocation
+refused. A line that it prints is the operator's answer, or says that memory was wanting and shows the operand as it was, or that
+the operands could not be made; where the program itself lacks memory for a line, it ends there. The numbers go up until nothing
+is refused any more. That refusals change nothing is proved; this shows it run.
 """
 import subprocess
 import sys
 from pathlib import Path
 
-CRATE = Path(__file__).resolve().parent.parent / "crates" / "tests_value"
-# a line, what it prints where memory is there, and what where memory is wanting
+CRATE = Path(__file__).resolve().parent.parent / "crates" / "tests_calls"
+# a line, what it prints where memory is there, and what where memory is wanting: for the operator, and for its operands
 CASES = (
-    ("add 1 2 | 2 3 4", "done, 4: 1 2 3 4", "no memory, 2: 1 2"),
-    ("union 1 2 | 2 3", "3: 1 2 3", "no memory"),
-    ("join ab|cd", "4: abcd", "no memory"),
+    ("value add 1 2 3 4 | 5", "done, 5: 1 2 3 4 5", "no memory, 4: 1 2 3 4", "no operands"),
+    ("value union 1 2 | 2 3", "3: 1 2 3", "no memory"),
+    ("value join ab|cd", "4: abcd", "no memory"),
 )
 
 
 def printed(refused):
     """What the program prints where the allocation of this number is refused; None where the number is past the last."""
-    lines = "".join(f"{line}\n" for line, _, _ in CASES)
+    lines = "".join(f"{case[0]}\n" for case in CASES)
     words = ["rt", "try", "--fail-alloc", str(refused)]
     ran = subprocess.run(words, cwd=CRATE, input=lines, capture_output=True, text=True)
     return ran.stdout.splitlines()
 
 
 def is_right(lines):
-    """Whether each line that was printed is one of the two that its case allows."""
+    """Whether each line that was printed is one of those that its case allows."""
     return all(line in case[1:] for line, case in zip(lines, CASES))
 
 

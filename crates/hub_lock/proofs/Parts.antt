@@ -15,7 +15,7 @@ use Rattle.hub_lock.specs.declared.rule.View.{View}
 use Rattle.hub_lock.specs.declared.rule.Part.{Part}
 use Rattle.hub_lock.specs.LaneEntries.{entries_of, StartsWith}
 use Rattle.hub_lock.specs.Marks.{IsMarkOf}
-use Rattle.hub_lock.specs.Inner.Rule.{is_alive, ticket_at, tickets_out, turns_held, tickets_out_of, turns_held_of, turns_of, Tickets, Apart, Fits, Knows, HasMarks, HasTurns, Home, HasJournal, first_view}
+use Rattle.hub_lock.specs.Inner.Rule.{is_alive, ticket_at, tickets_out, turns_held, tickets_out_of, turns_held_of, turns_of, Tickets, Apart, SeatKeeps, Knows, HasMarks, HasTurns, Home, HasJournal, first_view}
 use Rattle.hub_lock.specs.Inner.Steps.{first_after_split, new_view, after_join, spent_view, part_of}
 use Rattle.hub_lock.specs.Inner.Turns.{IsWhole}
 use Rattle.hub_lock.proofs.Lists.{sum_by-set_at, sum_by-some, of-none, starts_whole, unseen, at_pushed, at_less}
@@ -69,7 +69,7 @@ module _ {S E : Type 0} (list : S → List E) (lane_of : E → ℕ) (sound : Lis
           };
           fits = λ j u e. ⊎_elim
               (λ (x : get_elem? [] j ≡ maybe.some u). absurd (maybe.some-ne-none u (sym x)))
-              (λ (x : v ≡ u). subst (Fits lane_of 0 0 1 log) x record {
+              (λ (x : v ≡ u). subst (SeatKeeps lane_of 0 0 1 log) x record {
                 tickets = tt;
                 lives = λ _. record { begins = starts_whole log log refl; own = refl; there = omega arith; count = λ _. refl; parts = λ _ i es e. absurd (maybe.some-ne-none es (sym e)); few = λ _. omega arith };
               })
@@ -126,7 +126,7 @@ module _ {S E : Type 0} (list : S → List E) (lane_of : E → ℕ) (sound : Lis
               (turns_new (k.served + sum_by turns_held_of s.views) (length log) vs (turns_stay (k.served + sum_by turns_held_of s.views) (length log) s.views k.turns id v a at al refl refl) b refl refl refl);
           fits = λ j u e. ⊎_elim
               (λ (there : get_elem? vs j ≡ maybe.some u). ⊎_elim
-              (λ (x : (j ≡ id) × (a ≡ u)). subst (Fits lane_of k.drawn k.served n log) x.1 record {
+              (λ (x : (j ≡ id) × (a ≡ u)). subst (SeatKeeps lane_of k.drawn k.served n log) x.1 record {
                 tickets = idle_tickets k.drawn k.served log v.seen v.stage idle;
                 lives = λ _. record { begins = l.begins; own = l.own; there = let y = l.there in omega arith; count = λ _. omega arith; parts = l.parts; few = λ z. let y = l.few z in omega arith };
               })
@@ -135,7 +135,7 @@ module _ {S E : Type 0} (list : S → List E) (lane_of : E → ℕ) (sound : Lis
                 lives = λ q. let r = g.lives q in record { begins = r.begins; own = r.own; there = let y = r.there in omega arith; count = λ z. absurd (older j u x.0 x.1 q z); parts = r.parts; few = λ z. absurd (older j u x.0 x.1 q z) };
               })
               (at_set s.views id j a u there))
-              (λ (x : (j ≡ length vs) × (b ≡ u)). subst (Fits lane_of k.drawn k.served n log) x.1 record {
+              (λ (x : (j ≡ length vs) × (b ≡ u)). subst (SeatKeeps lane_of k.drawn k.served n log) x.1 record {
                 tickets = tt;
                 lives = λ _. let y = l.there in record {
                   begins = l.begins;
@@ -222,9 +222,9 @@ module _ {S E : Type 0} (list : S → List E) (lane_of : E → ℕ) (sound : Lis
           outs = let z = k.outs in omega arith;
           turns = subst (λ (n : ℕ). HasTurns n (length log) us) (omega arith) (turns_join (k.served + sum_by turns_held_of s.views) (length log) s.views k.turns id other v w at two at' al alone);
           fits = λ j u e. ⊎_elim
-              (λ (x : b ≡ u). subst (Fits lane_of k.drawn k.served k.made log) x record { tickets = tt; lives = λ q. absurd (gone q) })
+              (λ (x : b ≡ u). subst (SeatKeeps lane_of k.drawn k.served k.made log) x record { tickets = tt; lives = λ q. absurd (gone q) })
               (λ (x : (j ≢ other) × (((j ≡ id) × (a ≡ u)) ⊎ ((j ≢ id) × (get_elem? s.views j ≡ maybe.some u)))). ⊎_elim
-              (λ (y : (j ≡ id) × (a ≡ u)). subst (Fits lane_of k.drawn k.served k.made log) y.1 record {
+              (λ (y : (j ≡ id) × (a ≡ u)). subst (SeatKeeps lane_of k.drawn k.served k.made log) y.1 record {
                 tickets = idle_tickets k.drawn k.served log v.seen v.stage idle;
                 lives = λ _. record {
                   begins = l.begins;

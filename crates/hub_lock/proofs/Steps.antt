@@ -14,7 +14,7 @@ use Rattle.hub_lock.specs.declared.mark.Mark.{Mark}
 use Rattle.hub_lock.specs.declared.rule.Part.{Part}
 use Rattle.hub_lock.specs.LaneEntries.{entries_of, StartsWith, HasNoneFrom}
 use Rattle.hub_lock.specs.Marks.{mark}
-use Rattle.hub_lock.specs.Inner.Rule.{is_alive, ticket_at, tickets_out, turns_held, tickets_out_of, turns_held_of, Tickets, Joined, Apart, Fits, Knows, IsLongest, HasTurns, Home, LockRule, HasJournal}
+use Rattle.hub_lock.specs.Inner.Rule.{is_alive, ticket_at, tickets_out, turns_held, tickets_out_of, turns_held_of, Tickets, Joined, Apart, SeatKeeps, Knows, IsLongest, HasTurns, Home, LockRule, HasJournal}
 use Rattle.hub_lock.specs.Inner.Steps.{view_at, after_draw, after_look, after_count, after_pass, DrawTells, Came, LookTells, CountTells, PassTells}
 use Rattle.hub_lock.proofs.Lists.{sum_by-set_at, sum_by-at, sum_by-most, sum_by-some, of-other, of-between, starts_longer, starts_whole, length-one_more, at_less}
 use Rattle.hub_lock.proofs.Marking.{turns_stay, turns_more, turns_count}
@@ -73,8 +73,8 @@ module _ {S E : Type 0} (list : S → List E) (lane_of : E → ℕ) (sound : Lis
       → (words : List ℕ) (homes : List (maybe.Option (Option S))) (drawn served : ℕ) (log : List E)
       → words ≡ drawn % 2 ^ 64 ∷ served % 2 ^ 64 ∷ length log ∷ [] → sound log
       → ((j : ℕ) (u : View E) → j ≢ id → get_elem? s.views j ≡ maybe.some u → (t : ℕ) → ticket_at st ≡ maybe.some t → ticket_at u.stage ≡ maybe.some t → ⊥)
-      → Fits lane_of drawn served k.made log (view_at v st seen marks)
-      → ((j : ℕ) (u : View E) → j ≢ id → get_elem? s.views j ≡ maybe.some u → Fits lane_of drawn served k.made log u)
+      → SeatKeeps lane_of drawn served k.made log (view_at v st seen marks)
+      → ((j : ℕ) (u : View E) → j ≢ id → get_elem? s.views j ≡ maybe.some u → SeatKeeps lane_of drawn served k.made log u)
       → IsLongest log (set s.views id (view_at v st seen marks))
       → (served + (sum_by tickets_out_of s.views + tickets_out st) ≡ drawn + tickets_out v.stage)
       → ((total : ℕ) → total + turns_held v.stage ≡ served + (sum_by turns_held_of s.views + turns_held st) → HasTurns total (length log) (set s.views id (view_at v st seen marks)))
@@ -97,7 +97,7 @@ module _ {S E : Type 0} (list : S → List E) (lane_of : E → ℕ) (sound : Lis
         outs = omega (arith, o, outs);
         turns = counts (served + sum_by turns_held_of (set s.views id w)) (omega (arith, h));
         fits = λ j u e. ⊎_elim
-            (λ (x : (j ≡ id) × (w ≡ u)). subst (Fits lane_of drawn served k.made log) x.1 mine)
+            (λ (x : (j ≡ id) × (w ≡ u)). subst (SeatKeeps lane_of drawn served k.made log) x.1 mine)
             (λ (x : (j ≢ id) × (get_elem? s.views j ≡ maybe.some u)). others j u x.0 x.1)
             (at_set s.views id j w u e);
         apart = λ i j a b ne ea eb. ⊎_elim

@@ -32,7 +32,7 @@ use Rattle.mos_expr.specs.declared.frame.Frame.TheVariants as frame_kind
 use Rattle.mos_expr.specs.declared.frame.Mode.{Mode}
 use Rattle.mos_expr.specs.declared.frame.Mode.TheVariants as mode_kind
 use Rattle.mos_expr.proofs.Values.{whole, parts_at, groups_at, index_at, group_of, bracketed-whole, convert-whole, if_expr-whole, counted-whole, parts-whole, call-whole, call_field-whole, set-whole, list-whole, groups-whole, index-whole, conditioned-whole}
-use Rattle.mos_expr.proofs.Steps.{goes_on, next_words, Follows, follows-part, follows-operator, level-9, left-binds, Fits, fits-less, pops-before, pops-between, pops-body, stays-fits, reads-operator, name-ends, call-ends}
+use Rattle.mos_expr.proofs.Steps.{goes_on, next_words, Follows, follows-part, follows-operator, level-9, left-binds, IsWithinRoom, within-less, pops-before, pops-between, pops-body, stays-within, reads-operator, name-ends, call-ends}
 
 -- nothing that takes part in an expression comes next
 abbrev pub Closes : List Word → Type 0
@@ -261,7 +261,7 @@ prefix-begins unary_operator.Not fs ws = refl
 mutual
   unfolding step want_key after_key
 
-  pub reads : (s : Syntax) (fs : List Frame) (rest : List Word) → IsGrouped s → Fits (level s) fs → Follows s rest → read mode_kind.Want fs (spell s ++ rest) ≡ read (mode_kind.After (whole s)) fs rest
+  pub reads : (s : Syntax) (fs : List Frame) (rest : List Word) → IsGrouped s → IsWithinRoom (level s) fs → Follows s rest → read mode_kind.Want fs (spell s ++ rest) ≡ read (mode_kind.After (whole s)) fs rest
   reads (leaf x) fs rest g l h = reads-leaf x fs rest h
   reads (call n no_syntax) fs rest g l h = call-ends n operands.no_parts (call n no_syntax) fs rest h
   reads (call n (syntax_then s ss)) fs rest g l h =
@@ -313,8 +313,8 @@ mutual
       ∙ pops-before p s fs rest g.0 h
   reads (between op x y) fs rest g l h =
       ap (read mode_kind.Want fs) (append_assoc (spell x) (spell_between op ++ spell y) rest ∙ ap (λ ws. spell x ++ ws) (append_assoc (spell_between op) (spell y) rest))
-      ∙ reads x fs (spell_between op ++ (spell y ++ rest)) g.2 (fits-less (level x) (binds op) fs (omega (arith, g.0, left-binds op)) l) (follows-operator x op (spell y ++ rest) g.4)
-      ∙ reads-operator op (whole x) fs (spell y ++ rest) (stays-fits op (level x) fs g.0 l)
+      ∙ reads x fs (spell_between op ++ (spell y ++ rest)) g.2 (within-less (level x) (binds op) fs (omega (arith, g.0, left-binds op)) l) (follows-operator x op (spell y ++ rest) g.4)
+      ∙ reads-operator op (whole x) fs (spell y ++ rest) (stays-within op (level x) fs g.0 l)
       ∙ reads y (frame_kind.Between op (whole x) ∷ fs) rest g.3 g.1 (follows-part (between op x y) y rest (λ q e. (or_parts _ (takes y q) e).1) h)
       ∙ pops-between op x y fs rest g.1 h
   reads (aggregate p over s) fs rest g l h =

@@ -70,13 +70,13 @@ pub left-binds : (op : BinaryOperator) → left_of op ≤ binds op
 left-binds binary_operator.Or = omega arith
 left-binds op = omega arith
 
-abbrev pub Fits : ℕ → List Frame → Type 0
-Fits l [] = Unit {0}
-Fits l (g ∷ fs) = l ≤ room g
+abbrev pub IsWithinRoom : ℕ → List Frame → Type 0
+IsWithinRoom l [] = Unit {0}
+IsWithinRoom l (g ∷ fs) = l ≤ room g
 
-pub fits-less : (k l : ℕ) (fs : List Frame) → k ≤ l → Fits l fs → Fits k fs
-fits-less k l [] h f = tt
-fits-less k l (g ∷ fs) h f = omega arith
+pub within-less : (k l : ℕ) (fs : List Frame) → k ≤ l → IsWithinRoom l fs → IsWithinRoom k fs
+within-less k l [] h f = tt
+within-less k l (g ∷ fs) h f = omega arith
 
 -- ---- a frame that the operand ends
 
@@ -138,9 +138,9 @@ placed-stays : (op : BinaryOperator) (x : Operand) (fs : List Frame) → stays o
 placed-stays op x [] e = rw e refl
 placed-stays op x (g ∷ fs) e = rw e refl
 
-pub stays-fits : (op : BinaryOperator) (l : ℕ) (fs : List Frame) → l ≤ left_of op → Fits (binds op) fs → stays op l fs ≡ true
-stays-fits op l [] h f = le-leb l (left_of op) h
-stays-fits op l (g ∷ fs) h f =
+pub stays-within : (op : BinaryOperator) (l : ℕ) (fs : List Frame) → l ≤ left_of op → IsWithinRoom (binds op) fs → stays op l fs ≡ true
+stays-within op l [] h f = le-leb l (left_of op) h
+stays-within op l (g ∷ fs) h f =
     let p : nat_le (binds op) (room g) ≡ true = le-leb (binds op) (room g) f in
     let q : nat_le l (left_of op) ≡ true = le-leb l (left_of op) h in
     rw (p, q) refl

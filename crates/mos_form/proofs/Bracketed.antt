@@ -15,7 +15,7 @@ use Rattle.mos_form.specs.declared.head.Next.TheVariants as next
 use Rattle.mos_form.specs.Cuts.{operator_of}
 use Rattle.mos_form.specs.Cells.{cell, cell_target, AreParts, parts_height, parts_trees, with_parts, TellsCell}
 use Rattle.mos_form.specs.Phrases.{to_name, to_cell, to_field, to_cell_field, to_result, Phrase, assign, call, alternative, target_words, operator_word, TargetIs, IsPhrase, answer}
-use Rattle.mos_form.specs.Telling.{untold, by_height, IsAlternative, IsOther, TellsPiece, TellsAll, IsCall, TellsCall, TellsCellSet, assign_form, call_form, Writes}
+use Rattle.mos_form.specs.Telling.{tells_none, by_height, IsAlternative, IsOther, TellsPiece, TellsAll, IsCall, TellsCall, TellsCellSet, assign_form, call_form, Writes}
 use Rattle.mos_form.specs.Telling as telling
 use Rattle.mos_form.proofs.Telling.{embed_ok}
 use Rattle.mos_form.proofs.Opening.{next_is}
@@ -47,7 +47,7 @@ call_piece n behind inside e r k =
     (λ xs. refl) r k
 
 pub no_call : (n : List ℕ) (behind : List Word) → ((inside : List Word) → behind ≡ inside ++ close → ⊥) → TellsCall n behind form_kind.Unknown
-no_call n behind none = untold (λ p m. let q = call_back n behind p m.0 m.1 in none (spell_list q.0) q.2)
+no_call n behind none = tells_none (λ p m. let q = call_back n behind p m.0 m.1 in none (spell_list q.0) q.2)
 
 -- ---- a cell that is assigned to
 
@@ -266,7 +266,7 @@ set_piece n m target inside value g op same e r k =
 
 pub no_set : (n : List ℕ) (target value : List Word) (op : Assignment) → ((inside : List Word) → target ≡ inside ++ close → ⊥)
     → ((inside : List Word) (g : List ℕ) → target ≡ inside ++ word_kind.Key token_kind.CloseRound ∷ word_kind.Key token_kind.Dot ∷ word_kind.Name g ∷ [] → ⊥) → TellsCellSet n target op value form_kind.Unknown
-no_set n target value op no_cell no_field = untold (λ p a. at p (cell_of n target value op p a))
+no_set n target value op no_cell no_field = tells_none (λ p a. at p (cell_of n target value op p a))
   where
     at : (p : Phrase) → IsCell n target op value p → ⊥
     at p (xs, None, s, a, d, e, v, z) = no_cell (spell_list xs) e

@@ -22,7 +22,7 @@ use Rattle.mos_form.specs.Lists.{texts_of, read_labels, uses, uses_of}
 use Rattle.mos_typing.specs.Reader.{onto}
 use Rattle.mos_form.specs.Lists as lists
 use Rattle.mos_form.specs.Phrases.{to_result, Labels, last_label, and_label, Phrase, word, break_word, next_word, model, uses_modules, options_name, assign, labels, token_of, text_words, label_words, labels_of, words_of, form_of, tallest, answer}
-use Rattle.mos_form.specs.Telling.{Tells, untold, IsOther, TellsPiece}
+use Rattle.mos_form.specs.Telling.{Tells, tells_none, IsOther, TellsPiece}
 use Rattle.mos_form.proofs.Telling.{on_bool, tell_as}
 use Rattle.mos_form.proofs.Opening.{head_is, key_head}
 use Rattle.mos_form.proofs.Keyed.{tail_same}
@@ -46,7 +46,7 @@ pub data Exists (Is : Phrase → Type 0) (form : Form) : Type 0 where
 -- the form that every piece of the words has
 pub fixed_form : (Is : Phrase → Type 0) (form : Form) → ((p : Phrase) → Is p → answer p ≡ form) → Exists Is form → Tells Phrase Is answer form
 fixed_form Is form only (exists p k e) = tell_as Is answer form p k e only
-fixed_form Is form only (lacks e) = subst (Tells Phrase Is answer) (sym e) (untold (λ p k. known p (only p k ∙ e)))
+fixed_form Is form only (lacks e) = subst (Tells Phrase Is answer) (sym e) (tells_none (λ p k. known p (only p k ∙ e)))
 
 pub ok_form : {E : Type 0} (r : Result Form E) (form : Form) (P : Form → Type 0) → IfOk r (λ z. z ≡ form) → P form → IfOk r P
 ok_form (Ok z) form P e k = subst P (sym e) k

@@ -19,7 +19,7 @@ use Rattle.mos_form.specs.declared.head.Head.TheVariants as head_kind
 use Rattle.mos_form.specs.Heads.{head_of}
 use Rattle.mos_form.specs.Cuts.{direction_of, operator_of}
 use Rattle.mos_form.specs.Phrases.{to_result, Phrase, assign, guarded, forall_in, initializations, direction_word, operator_word, condition_word, around, IsPhrase, answer}
-use Rattle.mos_form.specs.Telling.{untold, by_height, IsOther, TellsOne, TellsIndex, TellsPiece, assign_form, Writes}
+use Rattle.mos_form.specs.Telling.{tells_none, by_height, IsOther, TellsOne, TellsIndex, TellsPiece, assign_form, Writes}
 use Rattle.mos_form.proofs.Telling.{embed_ok}
 use Rattle.mos_form.proofs.Opening.{head_is, key_head}
 use Rattle.mos_form.proofs.Parting.{operator_known, operator_same, operator_none, zero_max}
@@ -32,7 +32,7 @@ brackets_same a b e = append_cancel_right a b (key token_kind.CloseRound) cc
 
 -- words that are none
 pub no_piece : (words : List Word) → ((p : Phrase) → IsOther words p → ⊥) → TellsPiece words form_kind.Unknown
-no_piece words none = untold none
+no_piece words none = tells_none none
 
 -- ---- a keyword and its condition
 

@@ -14,7 +14,7 @@ use Rattle.mos_tree.specs.declared.form.Form.TheVariants as form_kind
 use Rattle.mos_form.specs.declared.head.Next.TheVariants as next
 use Rattle.mos_form.specs.Heads.{next_of}
 use Rattle.mos_form.specs.Phrases.{to_name, Labels, last_label, and_label, Phrase, typed, assign, alternative, labels, label_words, IsPhrase, answer}
-use Rattle.mos_form.specs.Telling.{untold, by_height, IsAlternative, IsOther, TellsPiece, IsListed, TellsList, AreTyped, TellsTyped, Writes}
+use Rattle.mos_form.specs.Telling.{tells_none, by_height, IsAlternative, IsOther, TellsPiece, IsListed, TellsList, AreTyped, TellsTyped, Writes}
 use Rattle.mos_form.specs.Lists as lists
 use Rattle.mos_form.proofs.Telling.{embed_ok}
 use Rattle.mos_form.proofs.Opening.{next_is, name_next}
@@ -139,7 +139,7 @@ names_with front behind all found r k =
     pair_same a b x e = ap (λ z. pair z x) e
 
 pub no_names : (front behind : List Word) → ((ns : Names) → front ≡ spell_names ns → ⊥) → TellsTyped front behind form_kind.Unknown
-no_names front behind none = untold (λ q a. none q.0 a.0)
+no_names front behind none = tells_none (λ q a. none q.0 a.0)
 
 -- ---- by the word behind the first name
 

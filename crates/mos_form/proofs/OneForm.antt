@@ -26,7 +26,7 @@ use Rattle.mos_form.specs.Fixed.{heading, heading_kind}
 use Rattle.mos_form.specs.Cuts.{is_record}
 use Rattle.mos_form.specs.Cells.{parts_height, parts_trees, with_parts, TellsCell}
 use Rattle.mos_form.specs.Phrases.{to_name, to_cell, to_field, to_cell_field, to_result, Labels, last_label, and_label, Phrase, word, break_word, next_word, model, uses_modules, options_name, definition, typed, record_of, procedure, function, forward_procedure, forward_function, assign, fill, call, bare, guarded, alternative, forall_in, initializations, labels, token_of, model_word, around, text_words, label_words, operator_word, direction_word, words_of, IsWell, LabelsAre, IsPhrase, answer, IsFormOf, is_phrase, no_phrase}
-use Rattle.mos_form.specs.Telling.{Tells, told, by_height, TellsOne, TellsPiece, TellsList, IsAlternative, assign_form, call_form, fill_form, HasMore, Writes, TellsOf}
+use Rattle.mos_form.specs.Telling.{Tells, tells_form, by_height, TellsOne, TellsPiece, TellsList, IsAlternative, assign_form, call_form, fill_form, HasMore, Writes, TellsOf}
 use Rattle.mos_form.proofs.Telling.{on_bool}
 use Rattle.mos_form.proofs.Opening.{single_head}
 use Rattle.mos_form.proofs.Parting.{operator_read, operator_parts, plain_join}
@@ -44,8 +44,8 @@ abbrev ok : Form → Result Form (Unit {0})
 ok form = Ok form
 
 -- the form of words
-abbrev Told : List Word → Type 0
-Told words = (form : Form) × Tells Phrase (IsPhrase words) answer form
+abbrev HasForm : List Word → Type 0
+HasForm words = (form : Form) × Tells Phrase (IsPhrase words) answer form
 
 -- what is written so is one thing, or is too high
 record One {S T : Type 0} (Grouped : S → Type 0) (words_of : S → List Word) (tree_of : S → T) (height_of : S → ℕ) : Type 0 where
@@ -66,12 +66,12 @@ record Laws : Type 0 where
 tell : {S T : Type 0} {Grouped : S → Type 0} {words_of : S → List Word} {tree_of : S → T} {height_of : S → ℕ} → One Grouped words_of tree_of height_of → (make : T → Form) (kind : PieceKind)
     → ((x : T) → piece_kind_of (make x) ≡ kind) → (s : S) → Grouped s → TellsOf Grouped words_of tree_of height_of make (words_of s) (by_height (height_of s) (make (tree_of s)))
 tell {words_of = words_of} {tree_of = tree_of} {height_of = height_of} law make kind alike s g =
-    told s (record { grouped = g; exact = refl }) (λ x h. same_form make kind alike (tree_of x) (tree_of s) (height_of x) (height_of s) (law.one (words_of s) x s h (record { grouped = g; exact = refl })))
+    tells_form s (record { grouped = g; exact = refl }) (λ x h. same_form make kind alike (tree_of x) (tree_of s) (height_of x) (height_of s) (law.one (words_of s) x s h (record { grouped = g; exact = refl })))
 
 tell_cell : Laws → (n : List ℕ) (field : Option (List ℕ)) (op : Assignment) (xs : SyntaxList) (s : Syntax) → AreSomeGrouped xs → IsGrouped s
     → TellsCell n field op (spell_list xs) (spell s) (by_height (max (heights xs) (height s)) (with_parts n field op (trees xs, tree s)))
 tell_cell laws n field op xs s g h =
-    told (xs, s) (record { grouped = g; exact = refl }, record { grouped = h; exact = refl })
+    tells_form (xs, s) (record { grouped = g; exact = refl }, record { grouped = h; exact = refl })
     (λ p a. same_form (with_parts n field op) piece_kind.Simple (λ q. refl) (parts_trees p) (trees xs, tree s) (parts_height p) (max (heights xs) (height s))
     (same_pair (trees p.0) (trees xs) (tree p.1) (tree s) (heights p.0) (heights xs) (height p.1) (height s)
     (laws.some_expressions.one (spell_list xs) p.0 xs a.0 (record { grouped = g; exact = refl })) (laws.an_expression.one (spell s) p.1 s a.1 (record { grouped = h; exact = refl }))))
@@ -81,7 +81,7 @@ tell_cell laws n field op xs s g h =
 not_ended : SyntaxIsPlain → (p : Phrase) → (IsAlternative p → ⊥) → (inside : List Word) → words_of p ≡ inside ++ key token_kind.Colon → ⊥
 not_ended plain p a inside e = let q : true ≡ false = sym (ends_last inside (word_kind.Key token_kind.Colon) []) ∙ ap ends (sym e) ∙ others_end plain p a in cc
 
-as_other : {form : Form} → Laws → (p : Phrase) → (IsAlternative p → ⊥) → TellsPiece (words_of p) form → Told (words_of p)
+as_other : {form : Form} → Laws → (p : Phrase) → (IsAlternative p → ⊥) → TellsPiece (words_of p) form → HasForm (words_of p)
 as_other {form = form} laws p a k = (form, other_piece (words_of p) (not_ended laws.plain p a) (ok form) k)
 
 no_record : SyntaxIsPlain → (s : Syntax) → is_record (spell s) ≡ false
@@ -102,7 +102,7 @@ cell_set laws n xs g op s a c =
     around_is None = refl
     around_is (Some h) = refl
 
-types : Laws → (ns : Names) (x : Typing) → TypeIsGrouped x → Told (words_of (typed ns x))
+types : Laws → (ns : Names) (x : Typing) → TypeIsGrouped x → HasForm (words_of (typed ns x))
 types laws ns x k =
     as_other laws (typed ns x) (λ z. z) (by_names ns (in_list ns))
   where
@@ -116,8 +116,8 @@ types laws ns x k =
     by_names (one_name n) h = list_only (words_of (typed (one_name n) x)) (typing_words x) n (word_kind.Key token_kind.Colon) refl refl (ok (by_height (tallest_type x) (form_kind.Typed (list_of_names (one_name n)) (type_of x)))) h
     by_names (and_name n ms) h = list_only (words_of (typed (and_name n ms) x)) (spell_names ms ++ word_kind.Key token_kind.Colon ∷ typing_words x) n (word_kind.Key token_kind.Comma) refl refl (ok (by_height (tallest_type x) (form_kind.Typed (list_of_names (and_name n ms)) (type_of x)))) h
 
-labels_told : Laws → (xs : Labels) → LabelsAre xs → Told (words_of (labels xs))
-labels_told laws xs k = as_other laws (labels xs) (λ z. z) (by_labels xs k)
+labels_form : Laws → (xs : Labels) → LabelsAre xs → HasForm (words_of (labels xs))
+labels_form laws xs k = as_other laws (labels xs) (λ z. z) (by_labels xs k)
   where
     in_list : (xs : Labels) → HasMore (label_words xs) → TellsList (label_words xs) (lists.labels (label_words xs))
     in_list xs more = labels_piece (label_words xs) more
@@ -137,7 +137,7 @@ routines : Laws → (forward : Bool) (n : List ℕ) (xs : Formals) (result : Opt
 routines laws forward n xs result k =
     routine_piece forward result n (word_kind.Name n ∷ heading_words xs result) (formal_words xs) refl (ok _) (tell laws.some_formals (λ ys. heading forward n ys result) (heading_kind forward result) (routine_kind forward n result) xs k)
 
-piece : Laws → (p : Phrase) → IsWell p → Told (words_of p)
+piece : Laws → (p : Phrase) → IsWell p → HasForm (words_of p)
 piece laws (word x) k = as_other laws (word x) (λ z. z) (single_piece (token_of x) [] (single_head x))
 piece laws break_word k = as_other laws break_word (λ z. z) (single_piece token_kind.Break [] refl)
 piece laws next_word k = as_other laws next_word (λ z. z) (single_piece token_kind.Next [] refl)
@@ -178,7 +178,7 @@ piece laws (forall_in i) k =
 piece laws (initializations d s) k =
     as_other laws (initializations d s) (λ z. z)
     (data_piece d (direction_word d) (direction_word d ∷ spell s) (spell s) (sym (direction_read d)) refl (ok _) (tell laws.an_expression (λ x. form_kind.Initializations d x) piece_kind.Initializations (λ x. refl) s k))
-piece laws (labels xs) k = labels_told laws xs k
+piece laws (labels xs) k = labels_form laws xs k
 
 -- ---- one form
 

@@ -10,7 +10,7 @@ use Rattle.mos_tree.specs.declared.form.Form.{Form}
 use Rattle.mos_tree.specs.declared.form.Form.TheVariants as form_kind
 use Rattle.mos_tree.specs.declared.form.PieceKind.{PieceKind}
 use Rattle.mos_tree.specs.Forms.{piece_kind_of}
-use Rattle.mos_form.specs.Telling.{Tells, told, untold, by_height, refusal}
+use Rattle.mos_form.specs.Telling.{Tells, tells_form, tells_none, by_height, refusal}
 
 -- either answer of a test
 pub on_bool : {P : Type 0} (b : Bool) → (b ≡ true → P) → (b ≡ false → P) → P
@@ -25,7 +25,7 @@ high h form more = on_bool (nat_le h 500) (λ e. absurd (omega (arith, leb-true 
 
 -- it is this form
 pub tell_as : {A : Type 0} (Is : A → Type 0) (answer : A → Form) (form : Form) (a : A) → Is a → answer a ≡ form → ((y : A) → Is y → answer y ≡ form) → Tells A Is answer form
-tell_as {A = A} Is answer form a h e only = subst (λ z. Tells A Is answer z) e (told a h (λ y k. only y k ∙ sym e))
+tell_as {A = A} Is answer form a h e only = subst (λ z. Tells A Is answer z) e (tells_form a h (λ y k. only y k ∙ sym e))
 
 -- a kind of thing that is written, and what is said of the words that spell it
 pub record Reads {S T : Type 0} (Is : S → Type 0) (tree_of : S → T) (height_of : S → ℕ) (Spells : T → ℕ → Type 0) : Type 0 where
@@ -57,7 +57,7 @@ module _ {S T : Type 0} (Is : S → Type 0) (tree_of : S → T) (height_of : S �
   tell_fault kind same expr_fault.NoMemory k form e = cc
   tell_fault kind same expr_fault.NoExpr k form e =
       let p : form ≡ form_kind.Unknown = cc in
-      subst (Tells S Is told_of) (sym p) (untold (λ s h. k.none (tree_of s) (height_of s) (reads.into s h)))
+      subst (Tells S Is told_of) (sym p) (tells_none (λ s h. k.none (tree_of s) (height_of s) (reads.into s h)))
   tell_fault kind same expr_fault.Deep k form e =
       let p : form ≡ form_kind.TooHigh kind = cc in
       let b : (s : S) × Is s × (k.made ≡ tree_of s) × (k.high ≡ height_of s) = reads.back k.made k.high k.is in
@@ -71,10 +71,10 @@ module _ {S T : Type 0} (Is : S → Type 0) (tree_of : S → T) (height_of : S �
 pub embed : {A B : Type 0} (Is : A → Type 0) (answer : A → Form) (Are : B → Type 0) (answers : B → Form) (into : A → B)
     → ((a : A) → Is a → Are (into a)) → ((b : B) → Are b → (a : A) × Is a × (b ≡ into a)) → ((a : A) → answers (into a) ≡ answer a)
     → (form : Form) → Tells A Is answer form → Tells B Are answers form
-embed Is answer Are answers into there back same _ (told a h only) =
+embed Is answer Are answers into there back same _ (tells_form a h only) =
     tell_as Are answers (answer a) (into a) (there a h) (same a)
     (λ b k. let q = back b k in ap answers q.2 ∙ same q.0 ∙ only q.0 q.1)
-embed Is answer Are answers into there back same _ (untold none) = untold (λ b k. let q = back b k in none q.0 q.1)
+embed Is answer Are answers into there back same _ (tells_none none) = tells_none (λ b k. let q = back b k in none q.0 q.1)
 
 pub embed_ok : {A B E : Type 0} (Is : A → Type 0) (answer : A → Form) (Are : B → Type 0) (answers : B → Form) (into : A → B)
     → ((a : A) → Is a → Are (into a)) → ((b : B) → Are b → (a : A) × Is a × (b ≡ into a)) → ((a : A) → answers (into a) ≡ answer a)

@@ -14,7 +14,7 @@ use Rattle.mos_typing.specs.PhraseWords.{is_plain, ArePlain, SyntaxIsPlain}
 use Rattle.mos_tree.specs.declared.form.Form.{Form}
 use Rattle.mos_tree.specs.declared.form.Form.TheVariants as form_kind
 use Rattle.mos_form.specs.Phrases.{Labels, last_label, and_label, Phrase, word, model, uses_modules, definition, typed, procedure, function, forward_procedure, forward_function, assign, fill, call, guarded, alternative, forall_in, initializations, labels, token_of, text_words, label_words, target_words, operator_word, words_of, IsPhrase, answer}
-use Rattle.mos_form.specs.Telling.{Tells, told, untold, by_height, IsAlternative, IsOther, TellsPiece, Writes}
+use Rattle.mos_form.specs.Telling.{Tells, tells_form, tells_none, by_height, IsAlternative, IsOther, TellsPiece, Writes}
 use Rattle.mos_form.proofs.Telling.{embed_ok}
 use Rattle.mos_form.proofs.Parting.{plain_head, plain_tail}
 use Rattle.mos_form.proofs.Opening.{begins, begun}
@@ -165,16 +165,16 @@ pub said_found : {E : Type 0} (words : List Word) (r : Result Form E) → IfOk r
 said_found words (Ok form) k = at form k
   where
     at : (form : Form) → Tells Phrase (IsPhrase words) answer form → IsFormOf words form
-    at _ (told p m only) = is_phrase p m
-    at _ (untold none) = no_phrase none
+    at _ (tells_form p m only) = is_phrase p m
+    at _ (tells_none none) = no_phrase none
 said_found words (Err e) k = tt
 
 pub said_only : {E : Type 0} (words : List Word) (r : Result Form E) → IfOk r (Tells Phrase (IsPhrase words) answer) → IfOk r (λ form. (p : Phrase) → IsPhrase words p → form ≡ answer p)
 said_only words (Ok form) k = at form k
   where
     at : (form : Form) → Tells Phrase (IsPhrase words) answer form → (p : Phrase) → IsPhrase words p → form ≡ answer p
-    at _ (told q m only) p k = sym (only p k)
-    at _ (untold none) p k = absurd (none p k)
+    at _ (tells_form q m only) p k = sym (only p k)
+    at _ (tells_none none) p k = absurd (none p k)
 said_only words (Err e) k = tt
 
 -- ---- a piece begins with a token or a name

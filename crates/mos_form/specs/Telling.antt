@@ -25,8 +25,8 @@ use Rattle.mos_scan.specs.declared.grammar_word.Word.TheVariants as word_kind
 
 -- the form of the one thing that fits, or that none fits
 pub data Tells (A : Type 0) (Is : A → Type 0) (answer : A → Form) : Form → Type 0 where
-  told : (x : A) → Is x → ((y : A) → Is y → answer y ≡ answer x) → Tells A Is answer (answer x)
-  untold : ((x : A) → Is x → ⊥) → Tells A Is answer form_kind.Unknown
+  tells_form : (x : A) → Is x → ((y : A) → Is y → answer y ≡ answer x) → Tells A Is answer (answer x)
+  tells_none : ((x : A) → Is x → ⊥) → Tells A Is answer form_kind.Unknown
 
 -- a form with expressions of this height
 abbrev pub by_height : ℕ → Form → Form

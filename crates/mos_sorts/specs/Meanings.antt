@@ -5,7 +5,7 @@ use Rattle.mos_sorts.specs.declared.meaning.Meaning.TheVariants as m
 use Rattle.mos_sorts.specs.Scopes.{Index, Declared, Undeclared, Meaning as Stands}
 
 -- what a name stands for, as it is answered
-abbrev pub said : Meaning → Stands
-said (m.Index sort) = Index sort
-said (m.Declared place role) = Declared place role.now
-said m.Undeclared = Undeclared
+abbrev pub as_meaning : Meaning → Stands
+as_meaning (m.Index sort) = Index sort
+as_meaning (m.Declared place role) = Declared place role.now
+as_meaning m.Undeclared = Undeclared

@@ -133,9 +133,9 @@ keeps sort None = None
 keeps sort (Some (operation, answer)) = when (same_sort sort answer) (operation, answer)
 
 -- what `+=` makes of a variable of the first type
-abbrev pub added : Sort → Sort → Answer
-added a b = keeps a (plus a b)
+abbrev pub plus_into : Sort → Sort → Answer
+plus_into a b = keeps a (plus a b)
 
 -- what `-=` makes of it
-abbrev pub taken : Sort → Sort → Answer
-taken a b = keeps a (minus a b)
+abbrev pub minus_from : Sort → Sort → Answer
+minus_from a b = keeps a (minus a b)

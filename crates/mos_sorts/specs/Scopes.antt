@@ -85,16 +85,16 @@ abbrev pub all_twice : Scope → List Bound → List Name → Option Kind → Op
 all_twice scope bound names worst = declared_twice scope bound names names 0 worst
 
 -- a name that is declared now, where the place stands
-abbrev pub declared : Name → Role → Scope → Scope
-declared n role scope =
+abbrev pub declare : Name → Role → Scope → Scope
+declare n role scope =
     if scope.inside
     then record scope { own = scope.own ++ record { name = n; role = role } ∷ [] }
     else record scope { model = scope.model ++ record { name = n; role = role } ∷ [] }
 
 -- names that are declared alike
-abbrev pub all_declared : List Name → Role → Scope → Scope
-all_declared [] role scope = scope
-all_declared (n ∷ ns) role scope = all_declared ns role (declared n role scope)
+abbrev pub declare_all : List Name → Role → Scope → Scope
+declare_all [] role scope = scope
+declare_all (n ∷ ns) role scope = declare_all ns role (declare n role scope)
 
 -- index names that take their values from one set
 abbrev pub all_bound : List Name → Option Sort → List Bound → List Bound

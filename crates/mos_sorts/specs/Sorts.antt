@@ -91,11 +91,11 @@ fits (s.List a) s.EmptyList = true
 fits wanted given = same_sort wanted given
 
 -- the type of what an index takes from a set, range or list
-abbrev pub walked : Sort → Option Sort
-walked s.Range = Some s.Integer
-walked (s.Set a) = Some (sort_of_member a)
-walked (s.List a) = Some (sort_of_member a)
-walked _ = None
+abbrev pub sort_of_index : Sort → Option Sort
+sort_of_index s.Range = Some s.Integer
+sort_of_index (s.Set a) = Some (sort_of_member a)
+sort_of_index (s.List a) = Some (sort_of_member a)
+sort_of_index _ = None
 
 -- the type of an array's index over a set or range
 abbrev pub index_over : Sort → Option MemberType

@@ -55,15 +55,15 @@ abbrev pub as_set_tree : Typed → Typed
 as_set_tree a = set_if (sort_of a) a
 
 -- a value where this type is wanted: a range that is given to a set becomes one
-abbrev pub given : Sort → Typed → Typed
-given (s.Set member) a = as_set_tree a
-given wanted a = a
+abbrev pub as_wanted : Sort → Typed → Typed
+as_wanted (s.Set member) a = as_set_tree a
+as_wanted wanted a = a
 
 -- a value that is no text as its printed form
-abbrev pub shown_if : Option Sort → Typed → Typed
-shown_if (Some s.Text) a = a
-shown_if _ a = t.Show a
+abbrev pub printed_if : Option Sort → Typed → Typed
+printed_if (Some s.Text) a = a
+printed_if _ a = t.Show a
 
 -- the printed form of a value
-abbrev pub shown : Typed → Typed
-shown a = shown_if (sort_of a) a
+abbrev pub as_printed : Typed → Typed
+as_printed a = printed_if (sort_of a) a

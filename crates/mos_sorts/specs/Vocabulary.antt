@@ -61,8 +61,8 @@ function_or jobs n None = job_function jobs n (look_up n job_functions)
 function_or jobs n (Some callable) = u.Function callable
 
 -- what a name stands for where it is not declared, by whether the module of jobs is used
-abbrev pub undeclared : Bool → Name → Undeclared
-undeclared jobs n = function_or jobs n (look_up n functions)
+abbrev pub undeclared_meaning : Bool → Name → Undeclared
+undeclared_meaning jobs n = function_or jobs n (look_up n functions)
 
 -- `integer(a)` and `string(a)` as functions of the library
 abbrev pub conversion : Conversion → Callable

@@ -131,7 +131,7 @@ pub fn fits(wanted: Sort, given: Sort) -> bool
 
 /// The type of what an index takes from a set, range or list.
 pub fn walked(sort: Sort) -> Option<Sort>
-    ensures { result ≡ spec.walked sort }
+    ensures { result ≡ spec.sort_of_index sort }
 {
     match sort {
         Sort::Range => Some(Sort::Integer),

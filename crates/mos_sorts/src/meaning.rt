@@ -1,7 +1,7 @@
 //! What a name stands for at a place, and how it is declared.
 ghost use Rattle.std.specs.Prelude.{◌≡◌, [], OnOk};
 ghost use Rattle.mos_sorts.specs.Scopes as spec;
-ghost use Rattle.mos_sorts.specs.Meanings.{said};
+ghost use Rattle.mos_sorts.specs.Meanings.{as_meaning};
 
 use crate::names::{bound_sort, declared_as, is_declared_here, note_twice};
 use crate::{Bound, Entry, Role, Scope, Sort, Where};
@@ -19,7 +19,7 @@ pub enum Meaning<'a> {
 
 /// What a name that is no index name stands for.
 fn meaning_in_scope<'a>(scope: &'a Scope, name: &SourceText) -> Meaning<'a>
-    ensures { said result ≡ spec.of_declared (spec.declared_as name.now scope.now) }
+    ensures { as_meaning result ≡ spec.of_declared (spec.declared_as name.now scope.now) }
 {
     match declared_as(scope, name) {
         Some((place, role)) => Meaning::Declared(place, role),
@@ -29,7 +29,7 @@ fn meaning_in_scope<'a>(scope: &'a Scope, name: &SourceText) -> Meaning<'a>
 
 /// What a name stands for in a scope, below these index names.
 pub fn meaning_of<'a>(scope: &'a Scope, bound: &[Bound], name: &SourceText) -> Meaning<'a>
-    ensures { said result ≡ spec.meaning_of name.now scope.now bound.now }
+    ensures { as_meaning result ≡ spec.meaning_of name.now scope.now bound.now }
 {
     match bound_sort(bound, name) {
         Some(sort) => Meaning::Index(sort),
@@ -44,7 +44,7 @@ pub fn declare(
     name: &SourceText,
     role: Role,
 ) -> Result<(), NoMemory>
-    ensures { OnOk result (scope.new ≡ spec.declared name.now role scope.old) }
+    ensures { OnOk result (scope.new ≡ spec.declare name.now role scope.old) }
 {
     let name = name.copy(alloc)?;
     let entry = Entry { name, role };

@@ -203,14 +203,14 @@ fn keeps(sort: Sort, answer: Answer) -> Answer
 
 /// What `+=` does with a variable of the first type and a value of the second.
 pub fn added(a: Sort, b: Sort) -> Answer
-    ensures { result ≡ spec.added a b }
+    ensures { result ≡ spec.plus_into a b }
 {
     keeps(a, plus(a, b))
 }
 
 /// What `-=` does with a variable of the first type and a value of the second.
 pub fn taken(a: Sort, b: Sort) -> Answer
-    ensures { result ≡ spec.taken a b }
+    ensures { result ≡ spec.minus_from a b }
 {
     keeps(a, minus(a, b))
 }

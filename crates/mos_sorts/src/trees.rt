@@ -50,7 +50,7 @@ pub fn as_set_tree(alloc: Global, tree: Typed) -> Result<Typed, NoMemory>
 
 /// A value where this type is wanted: a range that is given to a set becomes one.
 pub fn given(alloc: Global, wanted: Sort, tree: Typed) -> Result<Typed, NoMemory>
-    ensures { IfOk result (λ x. x ≡ spec.given wanted tree) }
+    ensures { IfOk result (λ x. x ≡ spec.as_wanted wanted tree) }
 {
     match wanted {
         Sort::Set(_) => as_set_tree(alloc, tree),
@@ -60,7 +60,7 @@ pub fn given(alloc: Global, wanted: Sort, tree: Typed) -> Result<Typed, NoMemory
 
 /// The printed form of a value.
 pub fn shown(alloc: Global, tree: Typed) -> Result<Typed, NoMemory>
-    ensures { IfOk result (λ x. x ≡ spec.shown tree) }
+    ensures { IfOk result (λ x. x ≡ spec.as_printed tree) }
 {
     match sort_of(&tree) {
         Some(Sort::Text) => Ok(tree),

@@ -151,7 +151,7 @@ fn job_function(jobs: bool, name: &[u8]) -> Undeclared
 
 /// What a name stands for where it is not declared, by whether the module of jobs is used.
 pub fn undeclared(jobs: bool, name: &[u8]) -> Undeclared
-    ensures { result ≡ spec.undeclared jobs name.now }
+    ensures { result ≡ spec.undeclared_meaning jobs name.now }
 {
     match look_up(&FUNCTIONS, name) {
         Some(callable) => Undeclared::Function(callable),

@@ -57,10 +57,10 @@ kind_name NoType = None
 kind_name Size = None
 
 -- A word, and after a space the name, where there is one.
-abbrev pub worded : List ℕ → Option (List ℕ) → List ℕ
-worded word None = word
-worded word (Some name) = word ++ codes " " ++ name
+abbrev pub word_and_name : List ℕ → Option (List ℕ) → List ℕ
+word_and_name word None = word
+word_and_name word (Some name) = word ++ codes " " ++ name
 
 -- The text of a kind on an error line.
 abbrev pub kind_text : Kind → List ℕ
-kind_text kind = worded (kind_word kind) (kind_name kind)
+kind_text kind = word_and_name (kind_word kind) (kind_name kind)

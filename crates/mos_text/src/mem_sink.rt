@@ -1,7 +1,7 @@
 //! A sink in memory that takes short pieces, and fails at writes which are listed beforehand.
 ghost use Rattle.std.specs.Prelude.{◌≡◌, ◌≢◌, ◌↔◌, ◌<◌, ◌≤◌, [], ◌++◌, Some, length};
 ghost use Rattle.mos_text.specs.Calls.{FailsNext, after_one, calls_of, one_more};
-ghost use Rattle.mos_text.specs.SinkBytes.{TakesSome, taken};
+ghost use Rattle.mos_text.specs.SinkBytes.{TakesSome, taken_part};
 
 use crate::failing_calls::FailingCalls;
 use crate::{Sink, Wrote};
@@ -76,8 +76,8 @@ impl Sink for MemSink {
 
     fn write(&mut self, piece: &[u8]) -> Wrote
         ensures some { TakesSome result piece.now }
-        ensures most { length (taken result piece.now) ≤ self.old.piece }
-        ensures bytes { self.new.bytes ≡ self.old.bytes ++ taken result piece.now }
+        ensures most { length (taken_part result piece.now) ≤ self.old.piece }
+        ensures bytes { self.new.bytes ≡ self.old.bytes ++ taken_part result piece.now }
         ensures piece { self.new.piece ≡ self.old.piece }
         ensures listed { (result ≡ Wrote.Failed) ↔ FailsNext self.old.writes }
         ensures counted { self.new.writes ≡ after_one self.old.writes }

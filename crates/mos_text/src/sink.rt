@@ -1,6 +1,6 @@
 //! Places that bytes are appended to, and writing a whole text to one.
 ghost use Rattle.std.specs.Prelude.{◌≡◌, ℕ, ◌≤◌, List, Option};
-ghost use Rattle.mos_text.specs.SinkBytes.{appended, taken, TakesSome, AppendedPart};
+ghost use Rattle.mos_text.specs.SinkBytes.{bytes_after, taken_part, TakesSome, AppendedPart};
 ghost use Rattle.mos_text.specs.Faults.{Rose};
 
 /// What a sink answers to `write`.
@@ -25,7 +25,8 @@ pub trait Sink {
     /// Appends the first bytes of the piece, as many as the answer says.
     fn write(&mut self, piece: &[u8]) -> Wrote
         ensures some { TakesSome result piece.now }
-        ensures bytes { bytes self.new ≡ appended (bytes self.old) (taken result piece.now) }
+        ensures bytes { bytes self.new
+            ≡ bytes_after (bytes self.old) (taken_part result piece.now) }
         ensures later { faults self.old ≤ faults self.new }
         ensures failed { result ≡ Wrote.Failed → Rose (faults self.old) (faults self.new) };
 }
@@ -44,7 +45,7 @@ pub enum Written {
 /// Appends all the bytes, write by write.
 pub fn write_whole<K: Sink>(sink: &mut K, text: &[u8]) -> Written
     ensures whole { result ≡ Written.Whole
-        → K.bytes sink.new ≡ appended (K.bytes sink.old) text.now }
+        → K.bytes sink.new ≡ bytes_after (K.bytes sink.old) text.now }
     ensures part { AppendedPart (K.bytes sink.old) (K.bytes sink.new) text.now }
     ensures later { K.faults sink.old ≤ K.faults sink.new }
     ensures failed { result ≡ Written.Failed → Rose (K.faults sink.old) (K.faults sink.new) }

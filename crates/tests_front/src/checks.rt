@@ -5,11 +5,9 @@ ghost use Rattle.std.specs.Prelude.{◌≤◌, length};
 use crate::sources::{fault, refusal};
 use mos_check::{CheckFault, check, not_built};
 use mos_parse::parse;
+use mos_text::let_go;
 use mos_tree::Tree;
 use std::alloc::{AllocError, Global};
-
-/// Lets go of a value.
-fn let_go<T: Drop>(_value: T) {}
 
 /// How many names a tree gives values, or the first piece at fault.
 fn names(alloc: Global, tree: &Tree) -> Result<String, AllocError> {

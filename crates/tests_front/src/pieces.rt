@@ -4,11 +4,9 @@ ghost use Rattle.std.specs.Prelude.{◌≤◌, length};
 
 use crate::expressions::words_of;
 use mos_scan::Word;
+use mos_text::let_go;
 use mos_tree::{Form, PieceKind, piece_kind_of};
 use std::alloc::{AllocError, Global};
-
-/// Lets go of a value.
-fn let_go<T: Drop>(_value: T) {}
 
 fn is_high(form: &Form) -> bool {
     matches!(form, Form::TooHigh(_))

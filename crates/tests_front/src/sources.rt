@@ -3,12 +3,9 @@
 ghost use Rattle.std.specs.Prelude.{◌≤◌, length};
 
 use mos_parse::{SyntaxFault, parse};
-use mos_text::Kind;
+use mos_text::{Kind, let_go};
 use mos_tree::{Statement, Top, Tree};
 use std::alloc::{AllocError, Global};
-
-/// Lets go of a value.
-fn let_go<T: Drop>(_value: T) {}
 
 /// A line and a kind, with the name that it holds.
 pub fn refusal(alloc: Global, line: u32, kind: &Kind) -> Result<String, AllocError> {

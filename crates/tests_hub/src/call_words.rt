@@ -1,7 +1,7 @@
 //! Calls by their words.
 use crate::ends::end_call;
 use job_calls::{Call, Way};
-use mos_text::{Blob, NoMemory, SharedBlob, Text};
+use mos_text::{Blob, NoMemory, SharedBlob, Text, let_go};
 use std::alloc::Global;
 
 /// The number; 0 where the word is none.
@@ -27,9 +27,8 @@ pub fn text(alloc: Global, word: &str) -> Result<Text, NoMemory> {
     Ok(Text::from_string(String::from_str(alloc, word)?))
 }
 
-fn shared(alloc: Global, many: usize, byte: u8) -> Result<SharedBlob, NoMemory> {
-    let bytes = vec![in alloc; byte; many]?;
-    Ok(SharedBlob::new(alloc, Blob::from_vec(bytes))?)
+fn bytes(alloc: Global, many: usize, byte: u8) -> Result<Blob, NoMemory> {
+    Ok(Blob::from_vec(vec![in alloc; byte; many]?))
 }
 
 fn compile_call(alloc: Global, src: &str, dst: &str) -> Result<Call, NoMemory> {
@@ -47,90 +46,69 @@ fn run_call(alloc: Global, model: &str, params: &str) -> Result<Call, NoMemory> 
 
 fn write_call(alloc: Global, name: &str, many: usize, byte: u8) -> Result<Call, NoMemory> {
     let name = text(alloc, name)?;
-    let bytes = shared(alloc, many, byte)?;
+    let bytes = SharedBlob::new(alloc, bytes(alloc, many, byte)?)?;
     Ok(Call::Write { name, bytes })
 }
 
-fn open_call(alloc: Global, name: &str, way: Way) -> Result<Call, NoMemory> {
+fn put_call(alloc: Global, name: &str, many: usize, byte: u8) -> Result<Call, NoMemory> {
     let name = text(alloc, name)?;
-    Ok(Call::PipeOpen { name, way })
-}
-
-fn put_call(alloc: Global, name: &str, many: &str, value: &str) -> Result<Call, NoMemory> {
-    let name = text(alloc, name)?;
-    let bytes = Blob::from_vec(vec![in alloc; byte(value); number(many) as usize]?);
+    let bytes = bytes(alloc, many, byte)?;
     Ok(Call::PipePut { name, bytes })
 }
 
-fn load_call(alloc: Global, file: &str) -> Result<Call, NoMemory> {
-    let file = text(alloc, file)?;
-    Ok(Call::Load { file })
-}
-
-fn read_call(alloc: Global, name: &str) -> Result<Call, NoMemory> {
-    let name = text(alloc, name)?;
-    Ok(Call::Read { name })
-}
-
-fn take_call(alloc: Global, name: &str) -> Result<Call, NoMemory> {
-    let name = text(alloc, name)?;
-    Ok(Call::PipeTake { name })
-}
-
-fn close_call(alloc: Global, name: &str) -> Result<Call, NoMemory> {
-    let name = text(alloc, name)?;
-    Ok(Call::PipeClose { name })
-}
-
-/// Calls of pipes, and those that no word says: they are a lane's quit.
-fn pipe_call(alloc: Global, words: &[&str]) -> Result<Call, NoMemory> {
-    match *words {
-        ["pipe_read", name] => open_call(alloc, name, Way::Reads),
-        ["pipe_write", name] => open_call(alloc, name, Way::Writes),
-        ["put", name, many, value] => put_call(alloc, name, many, value),
-        ["take", name] => take_call(alloc, name),
-        ["close", name] => close_call(alloc, name),
-        _ => Ok(Call::Quit),
+/// A call of a name alone; a word that says none is a lane's quit.
+fn name_call(word: &str, name: Text) -> Call {
+    match word {
+        "load" => Call::Load { file: name },
+        "read" => Call::Read { name },
+        "take" => Call::PipeTake { name },
+        "close" => Call::PipeClose { name },
+        "pipe_read" => open_call(name, Way::Reads),
+        "pipe_write" => open_call(name, Way::Writes),
+        _ => {
+            let_go(name);
+            Call::Quit
+        }
     }
 }
 
-/// Calls of files and blocks; `fill` writes a quarter of all that a journal may weigh.
-fn file_call(alloc: Global, words: &[&str]) -> Result<Call, NoMemory> {
-    match *words {
-        ["compile", src, dst] => compile_call(alloc, src, dst),
-        ["load", file] => load_call(alloc, file),
-        ["read", name] => read_call(alloc, name),
-        ["write", name, value] => write_call(alloc, name, 1, byte(value)),
-        ["fill", name] => write_call(alloc, name, 67_108_864, 0),
-        ["run", model] => run_call(alloc, model, ""),
-        ["run", model, params] => run_call(alloc, model, params),
-        _ => pipe_call(alloc, words),
+fn open_call(name: Text, way: Way) -> Call {
+    Call::PipeOpen { name, way }
+}
+
+/// Calls that name a file, a block or a pipe; `fill` writes a quarter of all that a journal may weigh.
+fn text_call(
+    alloc: Global,
+    word: &str,
+    first: &str,
+    second: &str,
+    third: &str,
+) -> Result<Call, NoMemory> {
+    match word {
+        "compile" => compile_call(alloc, first, second),
+        "run" => run_call(alloc, first, second),
+        "write" => write_call(alloc, first, 1, byte(second)),
+        "fill" => write_call(alloc, first, 67_108_864, 0),
+        "put" => put_call(alloc, first, number(second) as usize, byte(third)),
+        _ => Ok(name_call(word, text(alloc, first)?)),
     }
 }
 
-/// Calls that name a run or a model by its number alone.
-fn number_call(words: &[&str]) -> Option<Call> {
-    match *words {
-        ["status", model] => Some(Call::Status {
-            model: number(model),
+/// Calls that name a run or a model by its number alone, and those that name nothing.
+fn number_call(word: &str, first: &str, second: &str, third: &str) -> Option<Call> {
+    let model = number(first);
+    match word {
+        "status" => Some(Call::Status { model }),
+        "exit_code" => Some(Call::ExitCode { model }),
+        "stop" => Some(Call::Stop { model }),
+        "unload" => Some(Call::Unload { model }),
+        "send" => Some(Call::Send {
+            to: some_number(first),
+            class: signed(second),
+            value: signed(third),
         }),
-        ["exit_code", model] => Some(Call::ExitCode {
-            model: number(model),
-        }),
-        ["stop", model] => Some(Call::Stop {
-            model: number(model),
-        }),
-        ["unload", model] => Some(Call::Unload {
-            model: number(model),
-        }),
-        ["send", to, class, value] => Some(Call::Send {
-            to: some_number(to),
-            class: signed(class),
-            value: signed(value),
-        }),
-        ["finish", "code", code] => Some(end_call("code", signed(code))),
-        ["finish", end] => Some(end_call(end, 0)),
-        _ => None,
+        "finish" => Some(end_call(first, signed(second))),
+        _ => plain_call(word),
     }
 }
 
@@ -147,18 +125,17 @@ fn plain_call(word: &str) -> Option<Call> {
     }
 }
 
-/// The call that the words say, where it takes no memory.
-fn short_call(words: &[&str]) -> Option<Call> {
-    match *words {
-        [word] => plain_call(word),
-        _ => number_call(words),
-    }
+/// The word at a place; none are empty.
+fn word_at<'a>(words: &[&'a str], place: usize) -> &'a str {
+    words.get(place).copied().unwrap_or("")
 }
 
 /// The call that the words say.
 pub fn call_of(alloc: Global, words: &[&str]) -> Result<Call, NoMemory> {
-    match short_call(words) {
+    let (word, first) = (word_at(words, 0), word_at(words, 1));
+    let (second, third) = (word_at(words, 2), word_at(words, 3));
+    match number_call(word, first, second, third) {
         Some(call) => Ok(call),
-        None => file_call(alloc, words),
+        None => text_call(alloc, word, first, second, third),
     }
 }

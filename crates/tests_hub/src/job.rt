@@ -1,8 +1,8 @@
 //! A job: how it is opened, and what its hub answers.
 use crate::call_words::{byte, call_of, number, some_number, text};
-use hub_core::{Held, Hub, can_open};
+use hub_core::{Acted, Held, Hub, can_open};
 use job_calls::{Call, Listed};
-use mos_text::{Blob, NoMemory, SharedBlob, Text};
+use mos_text::{Blob, NoMemory, SharedBlob, Text, let_go};
 use sqlite_items::Items;
 use std::alloc::Global;
 
@@ -41,6 +41,23 @@ fn hub(
     Ok(Some(Hub::new(alloc, lanes, budget, text(alloc, "")?, files)?))
 }
 
+/// The word for a call that was handed back.
+fn word_of(held: &Held) -> &'static str {
+    match held {
+        Held::NotYet(_) => "not yet",
+        Held::Shut(_) => "shut",
+        Held::NoMemory(_) => "no memory",
+    }
+}
+
+/// The text for what the hub answered.
+fn answered(alloc: Global, answer: &Result<Acted, Held>) -> Result<String, NoMemory> {
+    match answer {
+        Ok(acted) => Ok(format!(in alloc; "{:?}", acted.reply)?),
+        Err(held) => words(alloc, word_of(held)),
+    }
+}
+
 /// What the hub answers to the call.
 fn ask(
     alloc: Global,
@@ -50,15 +67,13 @@ fn ask(
     call: Call,
 ) -> Result<String, NoMemory> {
     if !hub.fits(lane, run, &call) {
+        let_go(call);
         return words(alloc, "unfit");
     }
-    let word = match hub.act(lane, run, call) {
-        Ok(acted) => return Ok(format!(in alloc; "{:?}", acted.reply)?),
-        Err(Held::NotYet(_)) => "not yet",
-        Err(Held::Shut(_)) => "shut",
-        Err(Held::NoMemory(_)) => "no memory",
-    };
-    words(alloc, word)
+    let answer = hub.act(lane, run, call);
+    let said = answered(alloc, &answer);
+    let_go(answer);
+    said
 }
 
 /// Whether room could be made, and is then there.

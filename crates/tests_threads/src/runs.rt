@@ -96,32 +96,37 @@ fn follow<R: Wait>(rt: &R, keep: &Keep<Hub>, seat: &mut Seat<Hub>, run: u32) -> 
     Some(())
 }
 
-// The whole of lane 0; whether it was told at its end that the job is done.
-pub fn master<R: Wait>(rt: &R, alloc: Global, keep: &Keep<Hub>, seat: &mut Seat<Hub>) -> bool
-    requires lane { IsLane keep.now seat.old }
-    requires fresh { IsFresh seat.old }
-    ensures kept { IsKept keep.now seat.old seat.new }
+// What a lane's thread gives back: its seat, and whether it was told that the job is done.
+pub type LaneEnd = (Seat<Hub>, bool);
+
+// The whole of lane 0.
+pub fn master<R: Wait>(rt: &R, alloc: Global, keep: &Keep<Hub>, mut seat: Seat<Hub>) -> LaneEnd
+    requires lane { IsLane keep.now seat }
+    requires fresh { IsFresh seat }
+    ensures kept { IsKept keep.now seat result.0 }
 {
-    let Some(run) = claim(rt, keep, seat) else {
-        return false;
+    let Some(run) = claim(rt, keep, &mut seat) else {
+        return (seat, false);
     };
-    if lead(rt, alloc, keep, seat, run).is_none() {
-        return false;
+    if lead(rt, alloc, keep, &mut seat, run).is_none() {
+        return (seat, false);
     }
-    finish(rt, keep, seat, run) && done(rt, keep, seat)
+    let is_done = finish(rt, keep, &mut seat, run) && done(rt, keep, &mut seat);
+    (seat, is_done)
 }
 
-// The whole of another lane; whether it was told at its end that the job is done.
-pub fn child<R: Wait>(rt: &R, keep: &Keep<Hub>, seat: &mut Seat<Hub>) -> bool
-    requires lane { IsLane keep.now seat.old }
-    requires fresh { IsFresh seat.old }
-    ensures kept { IsKept keep.now seat.old seat.new }
+// The whole of another lane.
+pub fn child<R: Wait>(rt: &R, keep: &Keep<Hub>, mut seat: Seat<Hub>) -> LaneEnd
+    requires lane { IsLane keep.now seat }
+    requires fresh { IsFresh seat }
+    ensures kept { IsKept keep.now seat result.0 }
 {
-    let Some(run) = claim(rt, keep, seat) else {
-        return false;
+    let Some(run) = claim(rt, keep, &mut seat) else {
+        return (seat, false);
     };
-    if follow(rt, keep, seat, run).is_none() {
-        return false;
+    if follow(rt, keep, &mut seat, run).is_none() {
+        return (seat, false);
     }
-    finish(rt, keep, seat, run) && done(rt, keep, seat)
+    let is_done = finish(rt, keep, &mut seat, run) && done(rt, keep, &mut seat);
+    (seat, is_done)
 }

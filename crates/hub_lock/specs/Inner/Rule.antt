@@ -90,7 +90,7 @@ module _ {E : Type 0} where
     pub few : v.lane ≡ 0 → length v.joined < made
 
   -- of any seat: its ticket, and what it has seen where it is not spent
-  pub record Fits (lane_of : E → ℕ) (drawn served made : ℕ) (log : List E) (v : View E) : Type 0 where
+  pub record SeatKeeps (lane_of : E → ℕ) (drawn served made : ℕ) (log : List E) (v : View E) : Type 0 where
     pub tickets : Tickets drawn served log v.seen v.stage
     pub lives : is_alive v.stage ≡ true → Lives lane_of made log v
 
@@ -135,7 +135,7 @@ pub record LockRule {S E : Type 0} (list : S → List E) (lane_of : E → ℕ) (
   pub longest : IsLongest log s.views
   pub outs : served + sum_by tickets_out_of s.views ≡ drawn
   pub turns : HasTurns (served + sum_by turns_held_of s.views) (length log) s.views
-  pub fits : (j : ℕ) (v : View E) → get_elem? s.views j ≡ maybe.some v → Fits lane_of drawn served made log v
+  pub fits : (j : ℕ) (v : View E) → get_elem? s.views j ≡ maybe.some v → SeatKeeps lane_of drawn served made log v
   pub apart : (i j : ℕ) (v w : View E) → i ≢ j → get_elem? s.views i ≡ maybe.some v
       → get_elem? s.views j ≡ maybe.some w → Apart v w
   pub unmade : HasNoneFrom lane_of made log

@@ -1,5 +1,0 @@
-//! The tests of the counts of nodes and statements.
-#![tactic(auto)]
-
-#[cfg(test)]
-mod counts;
