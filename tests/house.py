@@ -294,10 +294,12 @@ def extending():
             yield f"docs/extending.md names {word} in {path}, which does not have it"
 
 
-# Each path and each link of a page leads to what is there, and each crate says in a page of its own what it is.
+# Each path and each link of a page leads to what is there, no page is half merged, and each crate says in a page of its own what it is.
 def pages():
     for page in [TOP / "README.md", *TOP.glob("docs/*.md"), *TOP.glob("*/README.md"), *CRATES.glob("*/README.md")]:
         text = page.read_text()
+        if re.search(r"^(<{7}|={7}$|>{7})", text, re.M):
+            yield f"{page.relative_to(TOP)} has the marks of a merge that was not finished"
         paths = re.findall(r"`((?:crates|docs|examples|tests|bench)/[\w./+-]+)`", text)
         links = [page.parent / link for link in re.findall(r"\]\(([^)#:]+)(?:#[^)]*)?\)", text)]
         for path in [*(TOP / path for path in paths if "/out/" not in path), *links]:

@@ -15,7 +15,7 @@ from pathlib import Path
 CRATE = Path(__file__).resolve().parent.parent / "crates" / "tests_calls"
 # a line, what it prints where memory is there, and what where memory is wanting: for the operator, and for its operands
 CASES = (
-    ("value add 1 2 3 4 | 5", "done, 5: 1 2 3 4 5", "no memory, 4: 1 2 3 4", "no operands"),
+    ("value add 1 2 3 4 5 6 7 8 | 9 10 11 12 13 14 15 16 17 18", "done, 18: 1 18", "no memory, 8: 1 2 3 4 5 6 7 8", "no operands"),
     ("value union 1 2 | 2 3", "3: 1 2 3", "no memory"),
     ("value join ab|cd", "4: abcd", "no memory"),
 )

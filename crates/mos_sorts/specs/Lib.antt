@@ -1,5 +1,6 @@
 pub mod Kinds
 pub mod Sorts
+pub mod Entries
 pub mod Scopes
 pub mod Meanings
 pub mod Trees

@@ -75,7 +75,7 @@ is_member _ = false
 
 -- the second can be looked for in a list of the first type
 abbrev pub can_be_found : Option Sort → Option Sort → Bool
-can_be_found None a = true
+can_be_found None a = may_be is_member a
 can_be_found (Some (s.List member)) a = may_fit (sort_of_member member) a
 can_be_found (Some s.EmptyList) a = may_be is_member a
 can_be_found (Some _) a = false

@@ -1,9 +1,9 @@
 -- The names that can be seen at a place, and what each stands for.
 
-use Rattle.std.specs.Prelude.{ℕ, ◌+◌, nat_lt, Bool, true, false, ◌&&◌, ◌||◌, List, [], ◌∷◌, ◌++◌, Option, Some, None, if◌then◌else◌, map, nat_eq}
+use Rattle.std.specs.Prelude.{ℕ, Bool, true, false, ◌&&◌, ◌||◌, List, [], ◌∷◌, ◌++◌, Option, Some, None, if◌then◌else◌, map, nat_eq}
 use Rattle.std.specs.List.{list_any}
 use Rattle.std.specs.Str.{bytes_eq}
-use Rattle.mos_names.specs.NameLists.{Name, has_name, place_of}
+use Rattle.mos_names.specs.NameLists.{Name, has_name, with_name}
 use Rattle.mos_text.specs.declared.kind.Kind.{Kind}
 use Rattle.mos_text.specs.declared.kind.Kind.TheVariants.{Twice}
 use Rattle.mos_sorts.specs.declared.sort.Sort.{Sort}
@@ -15,11 +15,7 @@ use Rattle.mos_sorts.specs.declared.typed.Where.{Where}
 use Rattle.mos_sorts.specs.declared.typed.Where.TheVariants as where_
 use Rattle.mos_sorts.specs.Kinds.{sooner}
 use Rattle.mos_sorts.specs.Sorts.{or_else}
-
--- the last entry of this name, or the one before these
-abbrev pub latest : Name → Option Entry → List Entry → Option Entry
-latest n found [] = found
-latest n found (e ∷ es) = latest n (if bytes_eq n e.name then Some e else found) es
+pub use Rattle.mos_sorts.specs.Entries.{latest}
 
 -- the type of the last index name that is this, or what was found before these
 abbrev pub bound_sort : Name → Option (Option Sort) → List Bound → Option (Option Sort)
@@ -73,16 +69,15 @@ abbrev pub twice_if : Bool → Name → Option Kind → Option Kind
 twice_if true n worst = sooner worst (Twice n)
 twice_if false n worst = worst
 
--- what counts of names, the last of which are these from this place on: a name that is declared already, or stands at a
--- place before, is declared twice
-abbrev pub declared_twice : Scope → List Bound → List Name → List Name → ℕ → Option Kind → Option Kind
-declared_twice scope bound names [] at worst = worst
-declared_twice scope bound names (n ∷ ns) at worst =
-    declared_twice scope bound names ns (at + 1) (twice_if (is_declared_here n scope bound || nat_lt (place_of n names) at) n worst)
+-- what counts of names behind those before: a name that is declared already, or is one of those before, is declared twice
+abbrev pub declared_twice : Scope → List Bound → List Name → List Name → Option Kind → Option Kind
+declared_twice scope bound before [] worst = worst
+declared_twice scope bound before (n ∷ ns) worst =
+    declared_twice scope bound (with_name before n) ns (twice_if (is_declared_here n scope bound || has_name n before) n worst)
 
 -- what counts of names that are declared now
 abbrev pub all_twice : Scope → List Bound → List Name → Option Kind → Option Kind
-all_twice scope bound names worst = declared_twice scope bound names names 0 worst
+all_twice scope bound names worst = declared_twice scope bound [] names worst
 
 -- a name that is declared now, where the place stands
 abbrev pub declare : Name → Role → Scope → Scope

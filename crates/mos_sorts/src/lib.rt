@@ -3,6 +3,7 @@
 #![tactic(auto)]
 
 pub mod bound;
+mod entries;
 pub mod fits;
 mod function;
 pub mod library;
@@ -17,6 +18,7 @@ mod value;
 pub mod vocabulary;
 pub mod worst;
 
+pub use entries::Entries;
 pub use function::{Callable, Function, Gives, Takes, Undeclared, Wanted};
 pub use scope::{Bound, Entry, Role, Scope, Signature};
 pub use sort::{ArraySort, RecordSort, Sort};

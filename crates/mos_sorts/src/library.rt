@@ -75,9 +75,8 @@ fn can_be_found(list: Option<Sort>, member: Option<Sort>) -> bool
     ensures { result ≡ spec.can_be_found list member }
 {
     match list {
-        None => true,
         Some(Sort::List(wanted)) => may_fit(sort_of_member(wanted), member),
-        Some(Sort::EmptyList) => is_member(member),
+        None | Some(Sort::EmptyList) => is_member(member),
         Some(_) => false,
     }
 }

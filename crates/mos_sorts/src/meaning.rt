@@ -49,9 +49,9 @@ pub fn declare(
     let name = name.copy(alloc)?;
     let entry = Entry { name, role };
     if scope.inside {
-        scope.own.push(entry)?;
+        scope.own.push(alloc, entry)?;
     } else {
-        scope.model.push(entry)?;
+        scope.model.push(alloc, entry)?;
     }
     Ok(())
 }

@@ -8,7 +8,8 @@ ghost use Rattle.mos_sorts.specs.Kinds.{sooner};
 ghost use Rattle.mos_sorts.specs.Scopes as spec;
 
 use crate::worst::note;
-use crate::{Bound, Entry, Role, Scope, Sort, Where};
+use crate::{Bound, Role, Scope, Sort, Where};
+use mos_names::Names;
 use mos_text::{Kind, NoMemory, SourceText};
 use std::alloc::Global;
 
@@ -17,19 +18,6 @@ pub fn same_name(a: &SourceText, b: &SourceText) -> bool
     ensures { result ≡ bytes_eq a.now b.now }
 {
     a.as_str() == b.as_str()
-}
-
-/// The last entry of this name.
-pub fn latest<'a>(entries: &'a [Entry], name: &SourceText) -> Option<&'a Entry>
-    ensures { option_copied result ≡ spec.latest name.now None entries.now }
-{
-    let mut found = None;
-    for entry in entries {
-        if same_name(name, &entry.name) {
-            found = Some(entry);
-        }
-    }
-    found
 }
 
 /// The type of the last index name that is this.
@@ -49,7 +37,7 @@ pub fn bound_sort(bound: &[Bound], name: &SourceText) -> Option<Option<Sort>>
 fn declared_in_model<'a>(scope: &'a Scope, name: &SourceText) -> Option<(Where, &'a Role)>
     ensures { option_map (λ p. (p.0, p.1.now)) result ≡ spec.declared_in_model name.now scope.now }
 {
-    match latest(scope.model.as_slice(), name) {
+    match scope.model.latest(name) {
         Some(entry) => Some((Where::Model, &entry.role)),
         None => None,
     }
@@ -59,16 +47,10 @@ fn declared_in_model<'a>(scope: &'a Scope, name: &SourceText) -> Option<(Where, 
 pub fn declared_as<'a>(scope: &'a Scope, name: &SourceText) -> Option<(Where, &'a Role)>
     ensures { option_map (λ p. (p.0, p.1.now)) result ≡ spec.declared_as name.now scope.now }
 {
-    match latest(scope.own.as_slice(), name) {
+    match scope.own.latest(name) {
         Some(entry) => Some((Where::Own, &entry.role)),
         None => declared_in_model(scope, name),
     }
-}
-
-fn has_entry(entries: &[Entry], name: &SourceText) -> bool
-    ensures { result ≡ list_any (λ e. bytes_eq name.now e.name) entries.now }
-{
-    entries.iter().any(|entry| same_name(name, &entry.name))
 }
 
 fn has_bound(bound: &[Bound], name: &SourceText) -> bool
@@ -84,14 +66,14 @@ pub fn is_among(names: &[SourceText], name: &SourceText) -> bool
     names.iter().any(|other| same_name(name, other))
 }
 
-/// The names that the routine or the model has declared so far.
-fn entries_here(scope: &Scope) -> &[Entry]
-    ensures { result.now ≡ spec.entries_here scope.now }
+/// Whether the routine or the model has declared a name so far.
+fn is_entered(scope: &Scope, name: &SourceText) -> bool
+    ensures { result ≡ list_any (λ e. bytes_eq name.now e.name) (spec.entries_here scope.now) }
 {
     if scope.inside {
-        scope.own.as_slice()
+        scope.own.has(name)
     } else {
-        scope.model.as_slice()
+        scope.model.has(name)
     }
 }
 
@@ -100,7 +82,7 @@ fn entries_here(scope: &Scope) -> &[Entry]
 pub fn is_declared_here(scope: &Scope, bound: &[Bound], name: &SourceText) -> bool
     ensures { result ≡ spec.is_declared_here name.now scope.now bound.now }
 {
-    has_entry(entries_here(scope), name) || has_bound(bound, name)
+    is_entered(scope, name) || has_bound(bound, name)
 }
 
 /// Notes that a name is declared twice.
@@ -132,7 +114,7 @@ pub fn place_of(names: &[SourceText], name: &SourceText) -> usize
 }
 
 /// Notes a name that clashes with another.
-fn note_clash(
+pub fn note_clash(
     alloc: Global,
     worst: &mut Option<Kind>,
     clashes: bool,
@@ -155,14 +137,13 @@ pub fn note_declared_twice(
     bound: &[Bound],
     names: &[SourceText],
 ) -> Result<(), NoMemory>
-    ensures { OnOk result
-        (worst.new ≡ spec.declared_twice scope.now bound.now names.now names.now 0 worst.old) }
+    ensures { OnOk result (worst.new ≡ spec.all_twice scope.now bound.now names.now worst.old) }
 {
-    let mut at = 0;
+    let mut before = Names::new(alloc);
     for name in names {
-        let clashes = is_declared_here(scope, bound, name) || place_of(names, name) < at;
+        let clashes = is_declared_here(scope, bound, name) || before.has(name.text());
         note_clash(alloc, worst, clashes, name)?;
-        at += 1;
+        before.note(name.text())?;
     }
     Ok(())
 }

@@ -1,5 +1,5 @@
 //! The names that can be seen at a place of a source.
-use crate::{ArraySort, RecordSort, Sort, Value};
+use crate::{ArraySort, Entries, RecordSort, Sort, Value};
 use mos_text::SourceText;
 use sqlite_items::Items;
 
@@ -54,9 +54,9 @@ pub struct Scope {
     /// The array types so far.
     pub arrays: Items<ArraySort>,
     /// The names of the model, in the order in which they were declared; of one name the last counts.
-    pub model: Items<Entry>,
+    pub model: Entries,
     /// Those of the routine.
-    pub own: Items<Entry>,
+    pub own: Entries,
     /// The index names of the loops that are open here.
     pub bound: Items<Bound>,
     /// Whether the place stands in a routine.

@@ -1,0 +1,4 @@
+pub mod Breaches
+pub mod CodeSteps
+pub mod Cells
+pub mod Starts

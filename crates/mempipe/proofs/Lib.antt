@@ -1,0 +1,9 @@
+pub mod Touches
+pub mod Changes
+pub mod Answered
+pub mod Fair
+pub mod Holders
+pub mod Places
+pub mod Sessions
+pub mod Flows
+pub mod Noted

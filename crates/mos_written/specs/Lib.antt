@@ -1,0 +1,4 @@
+pub mod Bases
+pub mod Tables
+pub mod Dimensions
+pub mod Fields
