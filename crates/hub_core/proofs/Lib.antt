@@ -1,3 +1,6 @@
 pub mod Pushed
 pub mod Wanting
 pub mod Distinct
+pub mod Keeping
+pub mod Starting
+pub mod Giving

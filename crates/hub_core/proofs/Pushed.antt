@@ -1,16 +1,14 @@
 -- A journal at whose end a call that fits was put with its answer is legal, and keeps the laws of legal journals.
-use Rattle.std.proofs.Common.{◌≡◌, ℕ, ◌∙◌, Bool, true, false, List, [], ◌∷◌, ◌++◌, ◌&&◌, ◌||◌, Option, Some, None, ◌⊎◌, refl, sym, ap, subst}
+use Rattle.std.proofs.Common.{◌≡◌, ℕ, ◌∙◌, Bool, true, false, List, [], ◌∷◌, ◌++◌, ◌&&◌, ◌||◌, Option, Some, None, refl, sym, ap, subst}
 use Rattle.std.specs.Prelude.{IsTrue, IfOk, Result, Ok, Err, if◌then◌else◌}
 use Rattle.job_calls.specs.declared.call.Call.{Call}
 use Rattle.job_calls.specs.declared.call.Call.TheVariants.{Open, Claim, Quit}
 use Rattle.job_calls.specs.declared.entry.Entry.{Entry}
 use Rattle.job_calls.specs.declared.reply.Answer.TheVariants.{Ready}
 use Rattle.job_calls.specs.declared.reply.Reply.{Reply}
-use Rattle.job_calls.specs.declared.reply.Reply.TheVariants.{Halt}
 use Rattle.job_calls.specs.Answers.{answer_of}
 use Rattle.job_calls.specs.Fitting.{fits, is_for_lane, lane_fits, may_claim, below_lanes}
 use Rattle.job_calls.specs.Legal.{IsLegal, Follows}
-use Rattle.job_calls.specs.Models.{is_asked}
 use Rattle.job_calls.specs.Replies.{InRange, CanAnswer}
 use Rattle.job_calls.specs.Runs.{Opening, opening}
 use Rattle.job_calls.specs.Entries.{own_entries, is_finish, is_quit, is_claim}
@@ -63,7 +61,7 @@ fits_none opened own lane call ours may =
     ap (λ b. b || (is_claim call && may_claim own)) none.0 ∙ ap (λ b. b && may_claim own) none.1 in
     true_is_not_false (sym (and_second (below_lanes lane opened) (lane_fits own call) may) ∙ fails)
 
-fits_run : AnswersFit → (before : List Entry) (lane : ℕ) (run : Option ℕ) (call : Call) (reply : Reply) → InRange reply
+pub fits_run : AnswersFit → (before : List Entry) (lane : ℕ) (run : Option ℕ) (call : Call) (reply : Reply) → InRange reply
     → answer_of before lane run call ≡ Ready reply → IsTrue (fits (opening before) (own_entries lane before) lane run call)
     → is_for_lane call ≡ false → is_finish call ≡ false → CanAnswer call reply
 fits_run fit before lane None call reply range answered may ours more =

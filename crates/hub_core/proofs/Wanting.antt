@@ -3,7 +3,7 @@ use Rattle.std.proofs.Common.{◌≡◌, ℕ, zero, suc, ◌≤◌, ◌∙◌, B
 use Rattle.std.specs.Prelude.{IsTrue, IsOk, IfErr, Result, Ok, Err, if◌then◌else◌}
 use Rattle.mos_text.specs.declared.fault_kind.FaultKind.TheVariants as kind
 use Rattle.job_calls.specs.declared.call.Call.{Call}
-use Rattle.job_calls.specs.declared.call.Call.TheVariants.{Quit, Finish, Wait, Peek, IsEmpty}
+use Rattle.job_calls.specs.declared.call.Call.TheVariants.{Claim, Quit, Finish, Wait, Peek, IsEmpty}
 use Rattle.job_calls.specs.declared.entry.Entry.{Entry}
 use Rattle.job_calls.specs.declared.reply.Answer.{Answer}
 use Rattle.job_calls.specs.declared.reply.Answer.TheVariants.{Ready}
@@ -14,11 +14,11 @@ use Rattle.job_calls.specs.Answers.{answer_of, answer_to_run, open_answer, fault
 use Rattle.job_calls.specs.Events.{Event, first_event, front}
 use Rattle.job_calls.specs.Models.{is_asked}
 use Rattle.job_calls.specs.Replies.{is_plain}
-use Rattle.job_calls.specs.Entries.{has_quit}
+use Rattle.job_calls.specs.Entries.{has_quit, is_claim, unclaimed_run}
 use Rattle.hub_core.specs.declared.held.Acted.{Acted}
 use Rattle.hub_core.specs.declared.held.Held.{Held}
 use Rattle.hub_core.specs.declared.held.Held.TheVariants.{NotYet, Shut, NoMemory}
-use Rattle.hub_core.specs.Hubs.{LacksMemory}
+use Rattle.hub_core.specs.Hubs.{journal_of, spare_of, LacksMemory, LacksDone}
 use Rattle.hub_core.specs.Room.{takes_no_memory, MayWant}
 
 -- an answer that holds neither texts nor bytes
@@ -53,21 +53,22 @@ true_is_not_false h = cc
 false_is_not_true : false ≡ true → ⊥
 false_is_not_true h = cc
 
-open_light : (journal : List Entry) (lane : ℕ) (run : Option ℕ) (call : Call) → takes_no_memory call ≡ true
+open_light : (journal : List Entry) (lane : ℕ) (run : Option ℕ) (call : Call) → takes_no_memory call ≡ true → is_claim call ≡ false
     → is_light (open_answer journal lane run call) ≡ true
-open_light journal lane run Quit few = refl
-open_light journal lane run (Finish end) few = refl
-open_light journal lane run Wait few = run_light journal run Wait (λ k. wait_light (first_event k journal))
-open_light journal lane run Peek few = run_light journal run Peek (λ k. peek_light (front k journal))
-open_light journal lane run IsEmpty few = run_light journal run IsEmpty (λ k. refl)
-open_light journal lane run call few = absurd (true_is_not_false (sym few))
+open_light journal lane run Claim few other = absurd (true_is_not_false other)
+open_light journal lane run Quit few other = refl
+open_light journal lane run (Finish end) few other = refl
+open_light journal lane run Wait few other = run_light journal run Wait (λ k. wait_light (first_event k journal))
+open_light journal lane run Peek few other = run_light journal run Peek (λ k. peek_light (front k journal))
+open_light journal lane run IsEmpty few other = run_light journal run IsEmpty (λ k. refl)
+open_light journal lane run call few other = absurd (true_is_not_false (sym few))
 
 -- the calls that are promised an answer without memory have such a reply
 pub plain_reply : (journal : List Entry) (lane : ℕ) (run : Option ℕ) (call : Call) (reply : Reply)
-    → answer_of journal lane run call ≡ Ready reply → takes_no_memory call ≡ true → is_plain reply ≡ true
-plain_reply journal lane run call reply answered few =
+    → answer_of journal lane run call ≡ Ready reply → takes_no_memory call ≡ true → is_claim call ≡ false → is_plain reply ≡ true
+plain_reply journal lane run call reply answered few other =
     sym (ap is_light answered)
-    ∙ either_light (has_quit journal) answer.Shut (open_answer journal lane run call) refl (open_light journal lane run call few)
+    ∙ either_light (has_quit journal) answer.Shut (open_answer journal lane run call) refl (open_light journal lane run call few other)
 
 -- a call that is answered without memory where there is room may lack some else
 may_want : (spare : ℕ) (call : Call) (few : Bool) → takes_no_memory call ≡ few → (1 ≤ spare → few ≡ true → ⊥) → MayWant spare call
@@ -88,3 +89,24 @@ pub wanted : {A B : Type 0} (spare : ℕ) (call : Call) (answer : Result A B) (e
     → (IsTrue (takes_no_memory call) → IsOk answer) → MayWant spare call
 wanted spare call answer error is room =
     may_want spare call (takes_no_memory call) refl (λ some few. false_is_not_true (subst IsOk is (room few)))
+
+none_spare : (spare : ℕ) → (1 ≤ spare → ⊥) → spare ≡ 0
+none_spare zero never = refl
+none_spare (suc spare) never = absurd (never (omega arith))
+
+-- a lane that is told that the job is done lacks memory only where there is no room
+pub lacks_done : (hub : List Entry × ℕ) (result : Result Acted Held) → unclaimed_run (journal_of hub) ≡ None
+    → (1 ≤ spare_of hub → IsOk result) → IfErr result (λ held. LacksDone hub held)
+lacks_done hub (Ok acted) none served = tt
+lacks_done hub (Err (NotYet same)) none served = tt
+lacks_done hub (Err (Shut same)) none served = tt
+lacks_done hub (Err (NoMemory same)) none served =
+    (none_spare (spare_of hub) (λ some. false_is_not_true (served some)), none)
+
+-- so it lacks room, as any call may
+pub lacks_room : (hub : List Entry × ℕ) (call : Call) (result : Result Acted Held) → IfErr result (λ held. LacksDone hub held)
+    → IfErr result (λ held. LacksMemory (spare_of hub) call held)
+lacks_room hub call (Ok acted) lacks = tt
+lacks_room hub call (Err (NotYet same)) lacks = tt
+lacks_room hub call (Err (Shut same)) lacks = tt
+lacks_room hub call (Err (NoMemory same)) lacks = inl lacks.0

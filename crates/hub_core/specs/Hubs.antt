@@ -13,7 +13,7 @@ use Rattle.job_calls.specs.Fitting.{fits, is_for_lane}
 use Rattle.job_calls.specs.Models.{is_asked}
 use Rattle.job_calls.specs.Replies.{CanAnswer}
 use Rattle.job_calls.specs.Runs.{Opening, opening}
-use Rattle.job_calls.specs.Entries.{own_entries, is_finish}
+use Rattle.job_calls.specs.Entries.{own_entries, is_finish, unclaimed_run}
 use Rattle.hub_core.specs.declared.held.Held.{Held}
 use Rattle.hub_core.specs.declared.held.Held.TheVariants.{NotYet, Shut, NoMemory}
 use Rattle.hub_core.specs.Room.{MayWant}
@@ -75,3 +75,9 @@ abbrev pub LacksMemory : ℕ → Call → Held → Type 0
 LacksMemory spare call (NotYet same) = Unit {0}
 LacksMemory spare call (Shut same) = Unit {0}
 LacksMemory spare call (NoMemory same) = MayWant spare call
+
+-- a claim wants memory only to be told that the job is done, and where there is room for no more entry
+abbrev pub LacksDone : List Entry × ℕ → Held → Type 0
+LacksDone hub (NotYet same) = Unit {0}
+LacksDone hub (Shut same) = Unit {0}
+LacksDone hub (NoMemory same) = (spare_of hub ≡ 0) × (unclaimed_run (journal_of hub) ≡ None)

@@ -7,7 +7,7 @@ use Rattle.job_calls.specs.declared.call.Call.TheVariants.{Open, Claim, Quit, Fi
 -- the calls that are promised an answer without memory
 abbrev pub takes_no_memory : Call → Bool
 takes_no_memory (Open lanes budget params files) = false
-takes_no_memory Claim = false
+takes_no_memory Claim = true
 takes_no_memory Quit = true
 takes_no_memory (Finish end) = true
 takes_no_memory (Compile src dst) = false

@@ -19,3 +19,11 @@ pub record Serves (before behind : List Entry × ℕ) (lane : ℕ) (run : Option
   pub legal : IsLegal (journal_of behind)
   pub spare : spare_of before ≤ spare_of behind + 1
   pub kept : OnErr result (spare_of before ≤ spare_of behind)
+
+-- the same of a call that is answered at once; the room for other entries stays
+pub record Given (before behind : List Entry × ℕ) (lane : ℕ) (run : Option ℕ) (call : Call) (acted : Acted) : Type 0 where
+  pub answered : IsAnswered (journal_of before) lane run call acted.reply
+  pub put : journal_of behind ≡ with_entry (journal_of before) lane run call acted.reply
+  pub place : acted.place.0 ≡ length (journal_of before)
+  pub legal : IsLegal (journal_of behind)
+  pub spare : spare_of behind ≡ spare_of before

@@ -1,6 +1,6 @@
 -- What a hub says of a lane's calls under the lock, for itself or for the run that it holds.
 
-use Rattle.std.specs.Prelude.{◌≡◌, ℕ, true, false, List, Option, Some, None, IsTrue, ◌⊎◌}
+use Rattle.std.specs.Prelude.{◌≡◌, ℕ, List, Option, Some, None, IsTrue}
 use Rattle.job_calls.specs.declared.entry.Entry.{Entry}
 use Rattle.job_calls.specs.Fitting.{fits}
 use Rattle.job_calls.specs.Runs.{Opening, opening_of}

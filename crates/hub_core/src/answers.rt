@@ -1,10 +1,11 @@
 //! The hub's answer to a call: one function for each row of the table, and the rules before it. What
 //! they ask of the journal they look up.
-ghost use Rattle.std.specs.Prelude.{◌≡◌, ℕ, ◌+◌, not, None, is_some, nat_lt, IfOk, IsOk, IsTrue};
+ghost use Rattle.std.specs.Prelude.{◌≡◌, ℕ, false, ◌+◌, not, None, is_some, nat_lt, IfOk, IsOk, IsTrue};
 ghost use Rattle.job_calls.specs.Answers as answers;
 ghost use Rattle.job_calls.specs.Models as models;
 ghost use Rattle.job_calls.specs.Events as events;
-ghost use Rattle.job_calls.specs.declared.call.Call.TheVariants.{PipeOpen};
+ghost use Rattle.job_calls.specs.Entries.{is_claim};
+ghost use Rattle.job_calls.specs.declared.call.Call.TheVariants.{Claim, PipeOpen};
 ghost use Rattle.job_calls.specs.declared.reply.Answer.TheVariants.{Ready};
 ghost use Rattle.job_calls.specs.declared.reply.Reply.TheVariants.{Flag, Found};
 ghost use Rattle.job_calls.specs.Files.{data_of};
@@ -13,6 +14,7 @@ ghost use Rattle.hub_words.specs.Small.{IsSmall};
 ghost use Rattle.hub_core.specs.Room.{takes_no_memory};
 ghost use Rattle.hub_core.specs.Rows.{answer_with_run, answer_to_read};
 
+use crate::turn::{Turn, turn_of};
 use hub_words::{Lookups, exit_code};
 use job_calls::{Answer, Call, End, Reply, Way};
 use mos_text::{Blob, FaultKind, NoMemory, Place, SharedBlob, Text};
@@ -47,30 +49,16 @@ fn give_run<J: Lookups>(alloc: Global, journal: &J, run_number: u32) -> Result<A
     }
 }
 
-/// The lane is given the run; without one it is told whether the job is done.
-fn next_run<J: Lookups>(alloc: Global, journal: &J, run: Option<u32>) -> Result<Answer, NoMemory>
-    ensures { IfOk result (λ answer. answer ≡ answers.next_run (J.list journal.now) run) }
-{
-    match run {
-        Some(run_number) => give_run(alloc, journal, run_number),
-        None => {
-            if journal.is_finished(0) {
-                Ok(Answer::Ready(Reply::Done))
-            } else {
-                Ok(Answer::NotYet)
-            }
-        }
-    }
-}
-
 fn claim_answer<J: Lookups>(alloc: Global, journal: &J, lane: u32) -> Result<Answer, NoMemory>
     requires { IsSmall (J.list journal.now) }
-    ensures { IfOk result (λ answer. answer ≡ answers.claim_answer (J.list journal.now) lane) }
+    ensures { IfOk result (λ answer. answer ≡ answers.answer_of (J.list journal.now) lane None Claim) }
 {
-    if !journal.is_claimed(0) && lane != 0 {
-        return Ok(Answer::NotYet);
+    match turn_of(journal, lane) {
+        Turn::Gives(run) => give_run(alloc, journal, run),
+        Turn::Done => Ok(Answer::Ready(Reply::Done)),
+        Turn::NotYet => Ok(Answer::NotYet),
+        Turn::Shut => Ok(Answer::Shut),
     }
-    next_run(alloc, journal, journal.unclaimed())
 }
 
 fn load_answer<J: Lookups>(journal: &J, file: &Text) -> Answer
@@ -423,8 +411,9 @@ fn answer_to_run<J: Lookups>(
     table_answer(alloc, journal, run, call)
 }
 
-/// The hub's answer to a call.
-pub(crate) fn answer_of<J: Lookups>(
+/// The answer to a call, by what is looked up in the journal. The hub asks its indexes; a journal as a plain
+/// list is gone through.
+pub fn answer_of<J: Lookups>(
     alloc: Global,
     journal: &J,
     lane: u32,
@@ -433,7 +422,7 @@ pub(crate) fn answer_of<J: Lookups>(
 ) -> Result<Answer, NoMemory>
     requires { IsSmall (J.list journal.now) }
     ensures answer { IfOk result (λ answer. answer ≡ answers.answer_of (J.list journal.now) lane run call.now) }
-    ensures room { IsTrue (takes_no_memory call.now) → IsOk result }
+    ensures room { is_claim call.now ≡ false → IsTrue (takes_no_memory call.now) → IsOk result }
 {
     if journal.has_quit() {
         return Ok(Answer::Shut);

@@ -2,50 +2,58 @@
 ghost use Rattle.std.specs.Prelude.{IfOk};
 ghost use Rattle.job_calls.specs.Replies.{InRange};
 
-use crate::answers::answer_of;
 use crate::held::{Acted, Held};
+use crate::kept::Kept;
+use hub_index::Journal;
 use hub_words::Lookups;
-use job_calls::{Answer, Call, Entry, Listed, Reply};
+use job_calls::{Call, Entry, Listed, Reply};
 use job_laws::laws;
-use mos_text::{NoMemory, Place, Text};
+use mos_text::{NoMemory, Text};
 use sqlite_items::Items;
 use std::alloc::Global;
 use std::marker::Model;
 
-/// One journal, from an `Open` on, and room for entries to come. Contracts see the list of its entries
-/// and the number of those that it has room for.
+/// One journal with its indexes, from an `Open` on, and room for entries to come. Contracts see the list of its
+/// entries and the number of those that it has room for.
+///
+/// Beside that room it keeps, for each run that goes on, room for the entries by which the run is given to a lane and
+/// ends, and the texts of the first.
 #[derive(Drop)]
 pub struct Hub {
-    entries: Vec<Entry>,
-    alloc: Global,
+    pub(crate) journal: Journal,
+    /// What is kept for each run, at its number.
+    pub(crate) kept: Vec<Kept>,
+    /// How many entries that is room for.
+    pub(crate) total: usize,
+    /// How many entries more there is room for.
+    pub(crate) spare: usize,
+    pub(crate) alloc: Global,
 }
 
 impl Model for Hub {
-    ghost use Rattle.std.specs.Prelude.{ℕ, ◌-◌, List, length, vec_capacity};
+    ghost use Rattle.std.specs.Prelude.{ℕ, List};
     ghost use Rattle.job_calls.specs.declared.entry.Entry.{Entry};
-    ghost use Rattle.job_calls.specs.Legal.{IsLegal};
+    ghost use Rattle.hub_core.specs.Keeping.{KeepsRoom};
 
     ghost Value = { List Entry × ℕ };
 
-    ghost view = { λ h. (h.entries.items, vec_capacity h.entries - length h.entries.items) };
+    ghost view = { λ h. (h.journal.0, h.spare) };
 
-    ghost invariant = { λ h. IsLegal h.entries.items };
+    ghost invariant = { λ h. KeepsRoom h.journal h.kept.items h.total h.spare };
 }
 
 impl Hub {
     ghost use Rattle.std.specs.Prelude.{◌≡◌, ℕ, ◌<◌, ◌≤◌, ◌+◌, length, IfOk, IfErr, IsOk, OnOk, OnErr, IsTrue};
     ghost use Rattle.job_calls.specs.Fitting.{fits};
-    ghost use Rattle.job_calls.specs.Replies.{is_plain};
     ghost use Rattle.job_calls.specs.Runs.{opening};
-    ghost use Rattle.job_calls.specs.Entries.{own_entries};
+    ghost use Rattle.job_calls.specs.Entries.{own_entries, has_quit};
     ghost use Rattle.job_calls.specs.Legal.{CanOpen, IsLegal};
     ghost use Rattle.job_laws.specs.Truth.{SaysTrue};
     ghost use Rattle.job_laws.specs.Laws.{KeepsLaws};
     ghost use Rattle.hub_core.specs.Hubs.{journal_of, spare_of, opened_with, first_journal, with_entry};
     ghost use Rattle.hub_core.specs.Hubs.{MayMake, IsAnswered, FitsRun, StopsRun, IsHeldBack, LacksMemory};
-    ghost use Rattle.hub_core.specs.Serving.{Serves};
 
-    /// A hub whose journal is the `Open` alone.
+    /// A hub whose journal is the `Open` alone, with room for the claim and the end of run 0.
     pub fn new(
         alloc: Global,
         lanes: u32,
@@ -57,48 +65,72 @@ impl Hub {
         ensures opened { IfOk result (λ hub. journal_of hub ≡ first_journal lanes budget params files) }
         ensures legal { IfOk result (λ hub. IsLegal (journal_of hub)) }
     {
+        let first = Kept::unclaimed(alloc, &params)?;
+        let mut kept = Vec::new(alloc);
+        kept.push(first)?;
         let call = Call::Open {
             lanes,
             budget,
             params,
             files,
         };
-        let mut entries = Vec::new(alloc);
-        entries.push(Entry {
+        let entry = Entry {
             lane: 0,
             run: None,
             call,
             reply: Reply::Opened,
-        })?;
-        Ok(Hub { entries, alloc })
+        };
+        let mut journal = Journal::new(alloc, entry)?;
+        journal.make_room(2)?;
+        Ok(Hub {
+            journal,
+            kept,
+            total: 2,
+            spare: 0,
+            alloc,
+        })
     }
 
     /// The entries, in order.
     pub fn journal(&self) -> &[Entry]
         ensures { result.now ≡ journal_of self.now }
     {
-        self.entries.as_slice()
+        self.journal.entries()
     }
 
     /// Gives the journal away; it takes no memory.
     pub fn into_journal(self) -> Items<Entry>
         ensures { result ≡ journal_of self }
     {
-        Items::from_vec(self.entries)
+        let Hub {
+            journal,
+            kept: _,
+            total: _,
+            spare: _,
+            alloc: _,
+        } = self;
+        journal.into_entries()
     }
 
     /// Whether the lane may make this call, for itself or for the run.
     pub fn fits(&self, lane: u32, run: Option<u32>, call: &Call) -> bool
         ensures { result ≡ fits (opening (journal_of self.now)) (own_entries lane (journal_of self.now)) lane run call.now }
     {
-        self.entries.fits(lane, run, call)
+        self.journal.fits(lane, run, call)
     }
 
-    /// How many entries there is room for.
+    /// Whether a lane has ended the job before its time; no call is answered any more.
+    pub fn has_quit(&self) -> bool
+        ensures { result ≡ has_quit (journal_of self.now) }
+    {
+        self.journal.has_quit()
+    }
+
+    /// How many entries there is room for, beside those that are kept for runs.
     pub fn spare_entries(&self) -> usize
         ensures { result ≡ spare_of self.now }
     {
-        self.entries.capacity() - self.entries.len()
+        self.spare
     }
 
     /// Makes room for so many entries more; without memory the journal and the room stay.
@@ -107,7 +139,24 @@ impl Hub {
         ensures room { OnOk result (count ≤ spare_of self.new) }
         ensures kept { spare_of self.old ≤ spare_of self.new }
     {
-        self.entries.reserve(count as usize)?;
+        self.reserve(count as usize)
+    }
+
+    /// The same of any number.
+    pub(crate) fn reserve(&mut self, count: usize) -> Result<(), NoMemory>
+        ensures journal { journal_of self.new ≡ journal_of self.old }
+        ensures room { OnOk result (count ≤ spare_of self.new) }
+        ensures kept { spare_of self.old ≤ spare_of self.new }
+        ensures sure { count ≤ spare_of self.old → IsOk result }
+    {
+        if count <= self.spare {
+            return Ok(());
+        }
+        let Some(wanted) = self.total.checked_add(count) else {
+            return Err(NoMemory);
+        };
+        self.journal.make_room(wanted)?;
+        self.spare = count;
         Ok(())
     }
 
@@ -117,7 +166,7 @@ impl Hub {
         ensures legal { IsLegal (journal_of self.now) }
     {
         laws::few_entries();
-        self.entries.len() as u32
+        self.journal.count() as u32
     }
 
     /// Answers the call by what the journal says, and puts both at its end; or hands the call back, and
@@ -146,55 +195,6 @@ impl Hub {
         let outcome = self.serve(lane, run, call);
         in_range(&outcome);
         outcome
-    }
-
-    /// Answers the call, and puts it with its reply at the end of the journal.
-    fn serve(&mut self, lane: u32, run: Option<u32>, call: Call) -> Result<Acted, Held>
-        requires { MayMake (journal_of self.old) lane run call }
-        ensures serves { Serves self.old self.new lane run call result }
-        ensures room { IfErr result (λ held. LacksMemory (spare_of self.old) call held) }
-    {
-        laws::few_entries();
-        laws::few_files();
-        match answer_of(self.alloc, &self.entries, lane, run, &call) {
-            Err(_) => Err(Held::NoMemory(call)),
-            Ok(Answer::NotYet) => Err(Held::NotYet(call)),
-            Ok(Answer::Shut) => Err(Held::Shut(call)),
-            Ok(Answer::Ready(reply)) => self.put(lane, run, call, reply),
-        }
-    }
-
-    /// Puts a call with its reply at the end of the journal.
-    fn put(&mut self, lane: u32, run: Option<u32>, call: Call, reply: Reply) -> Result<Acted, Held>
-        requires fit { MayMake (journal_of self.old) lane run call }
-        requires answer { IsAnswered (journal_of self.old) lane run call reply }
-        ensures serves { Serves self.old self.new lane run call result }
-        ensures room { 1 ≤ spare_of self.old → IsTrue (is_plain reply) → IsOk result }
-    {
-        laws::few_entries();
-        laws::grows();
-        let place = Place(self.entries.len() as u32);
-        let Ok(again) = reply.copy(self.alloc) else {
-            return Err(Held::NoMemory(call));
-        };
-        let entry = Entry {
-            lane,
-            run,
-            call,
-            reply: again,
-        };
-        match self.entries.push(entry) {
-            Ok(()) => Ok(Acted { place, reply }),
-            Err(refused) => {
-                let Entry {
-                    lane: _,
-                    run: _,
-                    call,
-                    reply: _,
-                } = refused.value;
-                Err(Held::NoMemory(call))
-            }
-        }
     }
 }
 

@@ -47,6 +47,23 @@ pub struct CheckedRoutine {
     pub steps: Items<Step>,
 }
 
+/// What a piece is that has no step.
+#[derive(Clone, Copy, Drop)]
+pub enum SilentForm {
+    Uses,
+    Options,
+    Parameters,
+    Declarations,
+    Forward,
+}
+
+/// A piece that has no step and is no routine: a head, parameters, declarations, or a heading with `forward`.
+#[derive(Clone, Copy, Drop)]
+pub struct SilentPiece {
+    pub line: u32,
+    pub form: SilentForm,
+}
+
 /// A source that breaks no rule of types.
 #[derive(Drop)]
 pub struct Checked {
@@ -65,6 +82,8 @@ pub struct Checked {
     pub steps: Items<Step>,
     /// The size count of the source, or the greatest number of 64 bits where that is above.
     pub size: u64,
+    /// The pieces that have no step and are no routine, in the order in which they stand.
+    pub silent: Items<SilentPiece>,
 }
 
 impl Checked {

@@ -8,6 +8,8 @@ mod checked;
 mod look_up;
 mod step;
 
-pub use checked::{Checked, CheckedRoutine, Constant, Parameter, Variable};
+pub use checked::{
+    Checked, CheckedRoutine, Constant, Parameter, SilentForm, SilentPiece, Variable,
+};
 pub use look_up::{constant_named, default_named, passed_by_place, routine_named, sort_named};
 pub use step::{DataLabel, DataLabels, Step, StepAlternative, StepArm, line_of};

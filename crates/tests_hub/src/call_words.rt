@@ -1,5 +1,5 @@
 //! Calls by their words.
-use crate::ends::end_call;
+use crate::ends::end_of;
 use job_calls::{Call, Way};
 use mos_text::{Blob, NoMemory, SharedBlob, Text, let_go};
 use std::alloc::Global;
@@ -14,7 +14,7 @@ pub fn byte(word: &str) -> u8 {
     word.parse().unwrap_or(0)
 }
 
-fn signed(word: &str) -> i32 {
+pub fn signed(word: &str) -> i32 {
     word.parse().unwrap_or(0)
 }
 
@@ -76,7 +76,7 @@ fn open_call(name: Text, way: Way) -> Call {
     Call::PipeOpen { name, way }
 }
 
-/// Calls that name a file, a block or a pipe; `fill` writes a quarter of all that a journal may weigh.
+/// Calls that name a file, a block or a pipe; `fill` writes so many bytes of 0.
 fn text_call(
     alloc: Global,
     word: &str,
@@ -88,7 +88,7 @@ fn text_call(
         "compile" => compile_call(alloc, first, second),
         "run" => run_call(alloc, first, second),
         "write" => write_call(alloc, first, 1, byte(second)),
-        "fill" => write_call(alloc, first, 67_108_864, 0),
+        "fill" => write_call(alloc, first, number(second) as usize, 0),
         "put" => put_call(alloc, first, number(second) as usize, byte(third)),
         _ => Ok(name_call(word, text(alloc, first)?)),
     }
@@ -107,7 +107,7 @@ fn number_call(word: &str, first: &str, second: &str, third: &str) -> Option<Cal
             class: signed(second),
             value: signed(third),
         }),
-        "finish" => Some(end_call(first, signed(second))),
+        "finish" => Some(Call::Finish(end_of(first, signed(second)))),
         _ => plain_call(word),
     }
 }

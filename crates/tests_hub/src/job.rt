@@ -1,12 +1,18 @@
 //! A job: how it is opened, and what its hub answers.
-use crate::call_words::{byte, call_of, number, some_number, text};
+use crate::alike::{Drawn, alike};
+use crate::call_words::{byte, call_of, number, signed, some_number, text};
+use crate::ends::end_of;
+use crate::many::{runs, times};
+use crate::ways::{end, give, insist};
 use hub_core::{Acted, Held, Hub, can_open};
 use job_calls::{Call, Listed};
 use mos_text::{Blob, NoMemory, SharedBlob, Text, let_go};
 use sqlite_items::Items;
 use std::alloc::Global;
+use std::mem::replace;
 
-fn words(alloc: Global, words: &str) -> Result<String, NoMemory> {
+/// A text of its own for the words.
+pub fn words(alloc: Global, words: &str) -> Result<String, NoMemory> {
     Ok(String::from_str(alloc, words)?)
 }
 
@@ -51,7 +57,7 @@ fn word_of(held: &Held) -> &'static str {
 }
 
 /// The text for what the hub answered.
-fn answered(alloc: Global, answer: &Result<Acted, Held>) -> Result<String, NoMemory> {
+pub fn answered(alloc: Global, answer: &Result<Acted, Held>) -> Result<String, NoMemory> {
     match answer {
         Ok(acted) => Ok(format!(in alloc; "{:?}", acted.reply)?),
         Err(held) => words(alloc, word_of(held)),
@@ -59,7 +65,7 @@ fn answered(alloc: Global, answer: &Result<Acted, Held>) -> Result<String, NoMem
 }
 
 /// What the hub answers to the call.
-fn ask(
+pub fn ask(
     alloc: Global,
     hub: &mut Hub,
     lane: u32,
@@ -74,6 +80,22 @@ fn ask(
     let said = answered(alloc, &answer);
     let_go(answer);
     said
+}
+
+/// The same of the call that the words say.
+pub fn ask_words(
+    alloc: Global,
+    hub: &mut Hub,
+    lane: u32,
+    run: Option<u32>,
+    call: &[&str],
+) -> Result<String, NoMemory> {
+    let call = call_of(alloc, call)?;
+    ask(alloc, hub, lane, run, call)
+}
+
+fn entries(alloc: Global, hub: &Hub) -> Result<String, NoMemory> {
+    Ok(format!(in alloc; "{}", hub.journal().len())?)
 }
 
 /// Whether room could be made, and is then there.
@@ -91,12 +113,33 @@ fn room(hub: &mut Hub, many: u32) -> &'static str {
 /// What is answered of the hub itself, or to the call of a lane.
 fn of_hub(alloc: Global, hub: &mut Hub, line: &[&str]) -> Result<String, NoMemory> {
     match line {
-        ["entries"] => Ok(format!(in alloc; "{}", hub.journal().len())?),
+        ["entries"] => entries(alloc, hub),
         ["room", many] => words(alloc, room(hub, number(many))),
-        [lane, run, call @ ..] => {
-            let call = call_of(alloc, call)?;
-            ask(alloc, hub, number(lane), some_number(run), call)
-        }
+        ["times", many, lane, run, call @ ..] => times(
+            alloc,
+            hub,
+            number(many),
+            number(lane),
+            some_number(run),
+            call,
+        ),
+        ["runs", first, last] => runs(alloc, hub, number(first), number(last)),
+        ["give", lane] => give(alloc, hub, number(lane)),
+        ["end", lane, run, word, code] => end(
+            alloc,
+            hub,
+            number(lane),
+            number(run),
+            end_of(word, signed(code)),
+        ),
+        ["insist", lane, run, call @ ..] => insist(
+            alloc,
+            hub,
+            number(lane),
+            some_number(run),
+            call,
+        ),
+        [lane, run, call @ ..] => ask_words(alloc, hub, number(lane), some_number(run), call),
         _ => words(alloc, "no call"),
     }
 }
@@ -110,6 +153,28 @@ pub fn answer(alloc: Global, hub: &mut Option<Hub>, line: &[&str]) -> Result<Str
             number(lanes),
             number(budget),
             files,
+        ),
+        ["alike", lanes, seed, many, entries] => compare(
+            alloc,
+            None,
+            Drawn {
+                lanes: number(lanes),
+                seed: number(seed),
+                many: number(many),
+                entries: number(entries),
+                limits: 0,
+            },
+        ),
+        ["go_on", lanes, seed, many, limits] => compare(
+            alloc,
+            hub.take(),
+            Drawn {
+                lanes: number(lanes),
+                seed: number(seed),
+                many: number(many),
+                entries: 0,
+                limits: number(limits),
+            },
         ),
         _ => match hub {
             None => words(alloc, "no job"),
@@ -125,6 +190,34 @@ fn open(
     budget: u32,
     names: &[&str],
 ) -> Result<String, NoMemory> {
-    *job = hub(alloc, lanes, budget, files(alloc, names)?)?;
-    words(alloc, if job.is_some() { "opened" } else { "refused" })
+    let new = hub(alloc, lanes, budget, files(alloc, names)?)?;
+    let said = if new.is_some() { "opened" } else { "refused" };
+    let_go(replace(job, new));
+    words(alloc, said)
+}
+
+/// A new job of so many lanes, for random calls.
+fn new_job(alloc: Global, lanes: u32) -> Result<Option<Hub>, NoMemory> {
+    hub(
+        alloc,
+        lanes,
+        100,
+        files(alloc, &["m.mos:0", "c.mos:0", "d.dat:0"])?,
+    )
+}
+
+/// What comes of random calls in this job.
+fn drawn_in(alloc: Global, hub: Hub, drawn: Drawn) -> Result<String, NoMemory> {
+    words(alloc, alike(alloc, hub, drawn)?)
+}
+
+/// The same, or in a new one.
+fn compare(alloc: Global, job: Option<Hub>, drawn: Drawn) -> Result<String, NoMemory> {
+    match job {
+        Some(hub) => drawn_in(alloc, hub, drawn),
+        None => match new_job(alloc, drawn.lanes)? {
+            Some(hub) => drawn_in(alloc, hub, drawn),
+            None => words(alloc, "refused"),
+        },
+    }
 }

@@ -3,35 +3,50 @@
 //! are.
 #![tactic(auto)]
 
+mod alike;
 mod call_words;
 mod ends;
 mod job;
+mod many;
+mod random;
+mod ways;
 
 use hub_core::Hub;
-use mos_text::NoMemory;
+use mos_text::{NoMemory, let_go};
 use std::alloc::Global;
-use std::io;
-use std::io::{BufRead, BufReader, ErrorKind};
+use std::io::{self, BufRead, BufReader, ErrorKind, Input, Print};
 
-/// What is answered to the line, if it asks anything.
-fn answer(alloc: Global, hub: &mut Option<Hub>, line: &str) -> Result<Option<String>, NoMemory> {
+/// The line with what is answered to it, if it asks anything.
+fn answer(alloc: Global, hub: &mut Option<Hub>, line: &str) -> Result<String, NoMemory> {
     let words: Vec<&str> = line.split_whitespace().collect(alloc)?;
     if words.is_empty() || line.starts_with("#") {
-        return Ok(None);
+        return Ok(String::from_str(alloc, line)?);
     }
-    Ok(Some(job::answer(alloc, hub, &words)?))
+    let answer = job::answer(alloc, hub, &words)?;
+    Ok(format!(in alloc; "{line} -> {}", answer.as_str())?)
+}
+
+/// The same for a program's end.
+fn said(alloc: Global, hub: &mut Option<Hub>, line: &str) -> io::Result<String> {
+    match answer(alloc, hub, line) {
+        Ok(said) => Ok(said),
+        Err(NoMemory) => Err(ErrorKind::OutOfMemory.into()),
+    }
+}
+
+/// Prints each line so.
+fn answer_all(rt: &(impl Print + Input), alloc: Global, hub: &mut Option<Hub>) -> io::Result<()> {
+    for line in BufReader::new(alloc, rt.reader())?.lines(alloc) {
+        let said = said(alloc, hub, line?.as_str())?;
+        println!(rt; "{}", said.as_str())?;
+    }
+    Ok(())
 }
 
 fn main(rt: HostRuntime) -> io::Result<()> {
     let alloc = rt.alloc();
     let mut hub = None;
-    for line in BufReader::new(alloc, rt.reader())?.lines(alloc) {
-        let line = line?;
-        match answer(alloc, &mut hub, line.as_str()) {
-            Ok(None) => println!(rt; "{line}")?,
-            Ok(Some(answer)) => println!(rt; "{line} -> {answer}")?,
-            Err(_) => return Err(ErrorKind::OutOfMemory.into()),
-        }
-    }
-    Ok(())
+    let ended = answer_all(&rt, alloc, &mut hub);
+    let_go(hub);
+    ended
 }

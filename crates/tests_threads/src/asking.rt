@@ -6,9 +6,10 @@ ghost use Rattle.hub_core.specs.Stories.{opened_by};
 ghost use Rattle.hub_lock.specs.Seats.{first_entry};
 ghost use Rattle.tests_threads.specs.Holding.{own, IsLane, IsKept, IsFresh, IsHolding, IsPlainCall};
 
-use hub_core::{Hub, HubCall};
+use hub_core::{Acted, Hub, HubCall};
 use hub_lock::{Keep, Seat};
 use job_calls::{Call, End, Reply};
+use mos_text::let_go;
 use std::sync::Wait;
 
 // The reply, or none where the job was ended before its time or memory was wanting.
@@ -26,8 +27,11 @@ fn ask<R: Wait>(
         (λ reply. own seat.new ≡ own seat.old ++ entry_of seat.old.lane run call reply ∷ []) }
 {
     match keep.act_when_ready(rt, seat, HubCall { run, call }) {
-        Ok(acted) => Some(acted.reply),
-        Err(_) => None,
+        Ok(Acted { place: _, reply }) => Some(reply),
+        Err(held) => {
+            let_go(held);
+            None
+        }
     }
 }
 
@@ -65,6 +69,25 @@ pub fn call<R: Wait>(
         Some(Reply::Done) => None,
         Some(reply) => Some(reply),
     }
+}
+
+// The same, where the reply does not matter.
+pub fn made<R: Wait>(
+    rt: &R,
+    keep: &Keep<Hub>,
+    seat: &mut Seat<Hub>,
+    run: u32,
+    next: Call,
+) -> Option<()>
+    requires lane { IsLane keep.now seat.old }
+    requires held { IsHolding run seat.old }
+    requires plain { IsPlainCall next }
+    ensures kept { IsKept keep.now seat.old seat.new }
+    ensures held { IfSome result (λ _. IsHolding run seat.new) }
+{
+    let reply = call(rt, keep, seat, run, next)?;
+    let_go(reply);
+    Some(())
 }
 
 // The end of the run, by code 0; whether the hub took it.

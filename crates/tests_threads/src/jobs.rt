@@ -4,12 +4,12 @@ ghost use denote.Param.Send.{IsSync};
 ghost use Rattle.hub_core.specs.Hubs.{journal_of};
 ghost use Rattle.tests_threads.specs.Holding.{IsLane, IsKept, IsFresh, OpensThree};
 
-use crate::ending::end;
+use crate::ending::{end, pair};
 use crate::runs::{LaneEnd, child, master};
 use hub_core::{Acted, Hub, HubCall, HubHeld, can_open};
 use hub_lock::{Ended, Keep, Seat};
 use job_calls::Listed;
-use mos_text::{Blob, NoMemory, SharedBlob, Text};
+use mos_text::{Blob, NoMemory, SharedBlob, Text, let_go};
 use sqlite_items::Items;
 use std::alloc::Global;
 use std::sync::Wait;
@@ -108,16 +108,32 @@ pub fn job<R: Threads + Wait + Sync>(rt: &R, alloc: Global) -> Result<String, No
     }
 }
 
+// How many entries there are, and which lanes were told that the job is done.
+fn told(alloc: Global, ended: &Ended<Hub>, done: (bool, bool, bool)) -> Result<String, NoMemory> {
+    let (entries, many) = (ended.entries, ended.story.journal().len());
+    let (a, b, c) = done;
+    Ok(format!(in alloc; "{entries} entries, {many} in the journal, done {a} {b} {c}")?)
+}
+
 fn run<R: Threads + Wait + Sync>(rt: &R, alloc: Global, hub: Hub) -> Result<String, NoMemory>
     requires { OpensThree (journal_of hub) }
 {
     let (keep, mut first) = Keep::begin(alloc, hub, 3)?;
-    let second = keep.split(&mut first)?;
-    let third = keep.split(&mut first)?;
+    let Ok(second) = keep.split(&mut first) else {
+        unreachable!()
+    };
+    let Ok(third) = keep.split(&mut first) else {
+        unreachable!()
+    };
     let (first, (second, third)) = three_threads(rt, alloc, &keep, first, second, third);
-    let (a, b, c) = (first.1, second.1, third.1);
-    let others = vec![in alloc; second.0, third.0]?;
-    let Ended { story, entries } = end(keep, first.0, others);
-    let many = story.journal().len();
-    Ok(format!(in alloc; "{entries} entries, {many} in the journal, done {a} {b} {c}")?)
+    let done = (first.1, second.1, third.1);
+    let Ok(others) = pair(alloc, second.0, third.0) else {
+        let_go(first);
+        let_go(keep);
+        return Err(NoMemory);
+    };
+    let ended = end(keep, first.0, others);
+    let said = told(alloc, &ended, done);
+    let_go(ended);
+    said
 }

@@ -3,9 +3,10 @@ ghost use Rattle.std.specs.Prelude.{◌≡◌, ◌+◌, ◌^◌, ◌<◌, length
 ghost use Rattle.hub_lock.specs.Seats.{lane, seats_made, first_entry, IsSeatOf};
 ghost use Rattle.tests_threads.specs.Relays.{IsReady};
 
+use crate::ending::one;
 use crate::relay::Relay;
 use hub_lock::{Ended, Held, Keep, Seat};
-use mos_text::NoMemory;
+use mos_text::{NoMemory, let_go};
 use std::alloc::Global;
 use std::sync::Wait;
 use std::thread::{Threads, join};
@@ -63,21 +64,41 @@ fn both<R: Threads + Wait + Sync>(
     )
 }
 
+// What was refused and when, how many calls of each lane were answered, and whether the entries alternate.
+fn told(
+    alloc: Global,
+    early: &Held<Relay>,
+    ended: &Ended<Relay>,
+    answered: (u32, u32),
+) -> Result<String, NoMemory> {
+    let Held { seen, held } = early;
+    let (entries, alternates) = (ended.entries, ended.story.alternates());
+    let (ones, twos) = answered;
+    Ok(format!(in alloc;
+        "{held:?} after {seen}, {ones} and {twos} answered, {entries} entries, alternates {alternates}"
+    )?)
+}
+
 /// Lane 0 comes too early, then two lanes come by turns.
 pub fn relay<R: Threads + Wait + Sync>(rt: &R, alloc: Global) -> Result<String, NoMemory> {
     let (keep, mut first) = Keep::begin(alloc, Relay::new(alloc)?, 2)?;
-    let second = keep.split(&mut first)?;
-    let Err(Held { seen, held }) = keep.act(rt, &mut first, 1) else {
+    let Ok(second) = keep.split(&mut first) else {
+        unreachable!()
+    };
+    let Err(early) = keep.act(rt, &mut first, 1) else {
+        let_go(second);
+        let_go(first);
+        let_go(keep);
         return Ok(String::from_str(alloc, "lane 0 came twice")?);
     };
     let ((first, ones), (second, twos)) = both(rt, &keep, first, second);
-    let others = vec![in alloc; second]?;
-    let Ended { story, entries } = keep.close(first, others);
-    let (early, alternates) = (
-        format!(in alloc; "{held:?} after {seen}")?,
-        story.alternates(),
-    );
-    Ok(format!(in alloc;
-        "{early}, {ones} and {twos} answered, {entries} entries, alternates {alternates}"
-    )?)
+    let Ok(others) = one(alloc, second) else {
+        let_go(first);
+        let_go(keep);
+        return Err(NoMemory);
+    };
+    let ended = keep.close(first, others);
+    let said = told(alloc, &early, &ended, (ones, twos));
+    let_go(ended);
+    said
 }

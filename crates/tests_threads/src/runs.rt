@@ -1,17 +1,25 @@
 //! What the lanes of the test do: a master that starts two children, and a child.
-ghost use Rattle.std.specs.Prelude.{◌≡◌, IfSome};
+ghost use Rattle.std.specs.Prelude.{◌≡◌, IfOk, IfSome};
 ghost use Rattle.tests_threads.specs.Holding.{IsLane, IsKept, IsFresh, IsHolding, IsPlainCall};
 
-use crate::asking::{call, claim, done, finish};
+use crate::asking::{call, claim, done, finish, made};
 use hub_core::Hub;
 use hub_lock::{Keep, Seat};
 use job_calls::{Call, Reply};
-use mos_text::{NoMemory, Text};
+use mos_text::{NoMemory, Text, let_go};
 use std::alloc::Global;
 use std::sync::Wait;
 
 fn text(alloc: Global, text: &str) -> Result<Text, NoMemory> {
     Ok(Text::from_string(String::from_str(alloc, text)?))
+}
+
+fn compile(alloc: Global) -> Result<Call, NoMemory>
+    ensures { IfOk result (λ next. IsPlainCall next) }
+{
+    let src = text(alloc, "c.mos")?;
+    let dst = text(alloc, "c.bim")?;
+    Ok(Call::Compile { src, dst })
 }
 
 // Compiles the child's source, loads it and starts a run of it; whether all was done.
@@ -27,27 +35,29 @@ fn start<R: Wait>(
     ensures kept { IsKept keep.now seat.old seat.new }
     ensures held { IfSome result (λ _. IsHolding run seat.new) }
 {
-    let (src, dst) = (text(alloc, "c.mos").ok()?, text(alloc, "c.bim").ok()?);
-    let (file, params) = (text(alloc, "c.bim").ok()?, text(alloc, "").ok()?);
-    call(rt, keep, seat, run, Call::Compile { src, dst })?;
+    made(rt, keep, seat, run, compile(alloc).ok()?)?;
+    let file = text(alloc, "c.bim").ok()?;
     match call(rt, keep, seat, run, Call::Load { file })? {
         Reply::Loaded { model, .. } => {
-            call(rt, keep, seat, run, Call::Run { model, params })?;
-            Some(())
+            let params = Text::from_string(String::new(alloc));
+            made(rt, keep, seat, run, Call::Run { model, params })
         }
-        _ => None,
+        other => {
+            let_go(other);
+            None
+        }
     }
 }
 
 // Waits for an event and takes it.
-fn take<R: Wait>(rt: &R, keep: &Keep<Hub>, seat: &mut Seat<Hub>, run: u32) -> Option<Reply>
+fn take<R: Wait>(rt: &R, keep: &Keep<Hub>, seat: &mut Seat<Hub>, run: u32) -> Option<()>
     requires lane { IsLane keep.now seat.old }
     requires held { IsHolding run seat.old }
     ensures kept { IsKept keep.now seat.old seat.new }
     ensures held { IfSome result (λ _. IsHolding run seat.new) }
 {
-    call(rt, keep, seat, run, Call::Wait)?;
-    call(rt, keep, seat, run, Call::Next)
+    made(rt, keep, seat, run, Call::Wait)?;
+    made(rt, keep, seat, run, Call::Next)
 }
 
 fn event(to: Option<u32>) -> Call
@@ -77,11 +87,10 @@ fn lead<R: Wait>(
     start(rt, alloc, keep, seat, run)?;
     take(rt, keep, seat, run)?;
     take(rt, keep, seat, run)?;
-    call(rt, keep, seat, run, event(Some(1)))?;
-    call(rt, keep, seat, run, event(Some(2)))?;
+    made(rt, keep, seat, run, event(Some(1)))?;
+    made(rt, keep, seat, run, event(Some(2)))?;
     take(rt, keep, seat, run)?;
-    take(rt, keep, seat, run)?;
-    Some(())
+    take(rt, keep, seat, run)
 }
 
 // Says that it is there, and waits for an event.
@@ -91,9 +100,8 @@ fn follow<R: Wait>(rt: &R, keep: &Keep<Hub>, seat: &mut Seat<Hub>, run: u32) -> 
     ensures kept { IsKept keep.now seat.old seat.new }
     ensures held { IfSome result (λ _. IsHolding run seat.new) }
 {
-    call(rt, keep, seat, run, event(None))?;
-    take(rt, keep, seat, run)?;
-    Some(())
+    made(rt, keep, seat, run, event(None))?;
+    take(rt, keep, seat, run)
 }
 
 // What a lane's thread gives back: its seat, and whether it was told that the job is done.

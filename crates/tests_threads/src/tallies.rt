@@ -4,8 +4,9 @@ ghost use denote.Param.Send.{IsSync};
 ghost use Rattle.hub_lock.specs.Seats.{lane, seats_made, most_lanes, IsSeatOf};
 ghost use Rattle.hub_lock.specs.Calls.{InOrder};
 
+use crate::ending::pair;
 use hub_lock::{Ended, Held, Keep, Refusal, Seat, Story, Tally};
-use mos_text::NoMemory;
+use mos_text::{NoMemory, let_go};
 use std::alloc::Global;
 use std::sync::Wait;
 use std::thread::{Threads, join};
@@ -102,12 +103,33 @@ fn told(alloc: Global, ended: &Ended<Tally>) -> Result<String, NoMemory> {
 /// Three lanes, each on a thread of its own, make 1000 calls each.
 pub fn three_lanes<R: Threads + Wait + Sync>(rt: &R, alloc: Global) -> Result<String, NoMemory> {
     let (keep, mut first) = Keep::begin(alloc, Tally::new(alloc)?, 3)?;
-    let second = keep.split(&mut first)?;
-    let third = keep.split(&mut first)?;
+    let Ok(second) = keep.split(&mut first) else {
+        unreachable!()
+    };
+    let Ok(third) = keep.split(&mut first) else {
+        unreachable!()
+    };
     let (first, (second, third)) = three_threads(rt, &keep, first, second, third);
-    let (a, b, c) = (first.lane(), second.lane(), third.lane());
-    let others = vec![in alloc; second, third]?;
-    let ended = told(alloc, &keep.close(first, others))?;
+    let lanes = (first.lane(), second.lane(), third.lane());
+    let Ok(others) = pair(alloc, second, third) else {
+        let_go(first);
+        let_go(keep);
+        return Err(NoMemory);
+    };
+    let ended = keep.close(first, others);
+    let said = told_of(alloc, lanes, &ended);
+    let_go(ended);
+    said
+}
+
+// The numbers of three lanes, and the rest.
+fn told_of(
+    alloc: Global,
+    lanes: (u32, u32, u32),
+    ended: &Ended<Tally>,
+) -> Result<String, NoMemory> {
+    let (a, b, c) = lanes;
+    let ended = told(alloc, ended)?;
     Ok(format!(in alloc; "lanes {a} {b} {c}, {ended}")?)
 }
 
@@ -139,10 +161,25 @@ fn split_all<R: Wait>(
 /// As many lanes as a lock may have, all on one thread.
 pub fn sixty_four_lanes<R: Wait>(rt: &R, alloc: Global) -> Result<String, NoMemory> {
     let (keep, mut first) = Keep::begin(alloc, Tally::new(alloc)?, 64)?;
-    let others = split_all(rt, alloc, &keep, &mut first, 64)?;
+    let Ok(others) = split_all(rt, alloc, &keep, &mut first, 64) else {
+        let_go(first);
+        let_go(keep);
+        return Err(NoMemory);
+    };
     let last = keep.act(rt, &mut first, 1);
     let ended = keep.close(first, others);
-    with_comma(alloc, answered(alloc, &last)?, told(alloc, &ended)?)
+    let said = answered_and_told(alloc, &last, &ended);
+    let_go(ended);
+    said
+}
+
+// What a call was answered, and how the tally ended.
+fn answered_and_told(
+    alloc: Global,
+    answer: &Result<u64, Held<Tally>>,
+    ended: &Ended<Tally>,
+) -> Result<String, NoMemory> {
+    with_comma(alloc, answered(alloc, answer)?, told(alloc, ended)?)
 }
 
 // Two texts, with a comma between them.

@@ -1,0 +1,7 @@
+mod Codecs
+mod FieldCodecs
+mod EntryCodecs
+mod CodeCodecs
+mod Storing
+mod ImageCodecs
+mod Fronts

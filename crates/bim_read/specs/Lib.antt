@@ -1,0 +1,5 @@
+pub mod Reading
+pub mod Fields
+pub mod Entries
+pub mod Code
+pub mod Images

@@ -1,0 +1,11 @@
+pub mod First
+pub mod CodeSteps
+pub mod SameLists
+pub mod Reversed
+pub mod Numbers
+pub mod Tests
+pub mod KeptTypes
+pub mod KeptTables
+pub mod KeptCode
+pub mod Kept
+pub mod Unbroken

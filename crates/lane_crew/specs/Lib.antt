@@ -1,0 +1,3 @@
+pub mod Crews
+pub mod Starts
+pub mod Refusing

@@ -1,0 +1,5 @@
+pub mod RowLemmas
+mod PlaceLemmas
+mod Outcomes
+mod WritingLaws
+mod PlaceLaws

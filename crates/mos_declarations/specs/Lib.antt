@@ -1,0 +1,5 @@
+pub mod Taken
+pub mod WrittenTypes
+pub mod Items
+pub mod Parameters
+pub mod Headings

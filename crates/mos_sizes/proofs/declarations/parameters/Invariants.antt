@@ -1,0 +1,7 @@
+-- what is added of the rest comes to what all come to; the count stays within 64 bits
+use Rattle.std.proofs.Common.{◌≤◌, ◌^◌, ◌-◌, ◌≡◌, ◌+◌, drop, sum, map}
+use Rattle.mos_sizes.specs.SizeCounts.{capped, parameter_size}
+use Rattle.mos_sizes.proofs.declarations.parameters.Given as goal
+
+abbrev pub invariant-loop-x : goal.invariant-loop-x
+invariant-loop-x l = (l.size ≤ 2 ^ 64 - 1) × (capped (l.size + sum (map parameter_size (drop l.x-index l.all))) ≡ capped (sum (map parameter_size l.all)))

@@ -1,0 +1,10 @@
+pub mod Integers
+pub mod Sequences
+pub mod Characters
+pub mod Numerals
+pub mod Printed
+pub mod Library
+pub mod Operations
+pub mod Growing
+pub mod Laws
+pub mod Examples
